@@ -1,9 +1,9 @@
 -- A client that was told that the data connection of a Peek broke, after ABOR, does each deed as one does that was told that it ended, whether it dials or has
 -- ports of its own.
 use Rattle.std.proofs.Common.{[], ◌∷◌, ap}
-use Rattle.ftp_control.specs.Asking.{Came, Connected, Ended as EndedBy, Reset, Shut}
+use Rattle.ftp_control.specs.Asking.{Came, Connected, Ended as EndedBy, NotConnected, Reset, Shut}
 use Rattle.ftp_control.specs.Deeds.{Deed, Done, Heard, Other, Read, Said as Says, Stand}
-use Rattle.ftp_control.specs.Machine.{Aside, Break, Closed, End, Failed, Gave, Got, Left, LetGo, Listening, Opened, Received, Waited, Wrote}
+use Rattle.ftp_control.specs.Machine.{Aside, Break, Closed, End, Failed, Gave, Got, Left, LetGo, Listening, Opened, Received, Refused, Waited, Wrote}
 use Rattle.ftp_client_drive.specs.Side.{Reporting, Starting, client_side}
 use Rattle.ftp_client_model.specs.View.{View as Near}
 use Rattle.ftp_pair_drives.specs.Between.{Between, CanTurn, Client}
@@ -11,20 +11,20 @@ use Rattle.ftp_pair_deeds.proofs.Holding.{both}
 use Rattle.ftp_pair_transfers.proofs.Broke as dialling
 use Rattle.ftp_pair_transfers.proofs.Broke.{IsBroke, IsShown, with_view}
 use Rattle.ftp_pair_transfers.proofs.EitherEnd.{Common, common, is_wishing}
-use Rattle.ftp_pair_active.specs.Deeds.{ClientTransfers}
+use Rattle.ftp_pair_active.specs.Refusals.{ClientTries}
 
 -- a deed that the other does, too
 pub record DoneSo (deed : Deed client_side) (next : Between) (new shown : Stand client_side) : Type 0 where
   pub after : Stand client_side
   pub did : Done deed shown after
-  pub is : ClientTransfers deed shown.owner after.owner
+  pub is : ClientTries deed shown.owner after.owner
   pub shows : IsShown next new after
 
 module _ (p q : Between) (old new : Stand client_side) (other : Near) (broke : IsBroke p old other) where
   both_are : Common old.owner.end.view other
   both_are = common old.owner.end.view other broke.apart
 
-  pub broke_does : (deed : Deed client_side) → ClientTransfers deed old.owner new.owner → Done deed old new → CanTurn (Client deed) p q
+  pub broke_does : (deed : Deed client_side) → ClientTries deed old.owner new.owner → Done deed old new → CanTurn (Client deed) p q
       → DoneSo deed q new (with_view other old)
   broke_does (Other (Aside (Starting op))) is did can = absurd (both both_are.busy did.0.0.0)
   broke_does (Other (Listening port)) is did can = absurd (both (ap is_wishing did.0.2.0) both_are.wishes)
@@ -44,6 +44,10 @@ module _ (p q : Between) (old new : Stand client_side) (other : Near) (broke : I
   broke_does (Other (Opened host (Connected endpoint left written ∷ []) at_first so_far rest)) is did can =
       let so = dialling.broke_does p q old new other broke (Other (Opened host (Connected endpoint left written ∷ []) at_first so_far rest)) is did can in
       record { after = so.after; did = so.did; is = so.is; shows = so.shows }
+  broke_does (Other (Refused (NotConnected endpoint ∷ []))) is did can =
+      let so = dialling.broke_does p q old new other broke (Other (Refused (NotConnected endpoint ∷ []))) is did can in
+      record { after = so.after; did = so.did; is = so.is; shows = so.shows }
+  broke_does (Other (Refused asked)) is did can = absurd is.0
   broke_does (Other (Gave count octets rest)) is did can =
       let so = dialling.broke_does p q old new other broke (Other (Gave count octets rest)) is did can in
       record { after = so.after; did = so.did; is = so.is; shows = so.shows }

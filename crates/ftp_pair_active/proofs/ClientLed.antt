@@ -45,11 +45,12 @@ use Rattle.ftp_pair_transfers.proofs.Running.{world_known}
 use Rattle.ftp_pair_transfers.proofs.Simulating.{orders_after}
 use Rattle.ftp_pair_active.specs.Deeds.{ClientTransfers}
 use Rattle.ftp_pair_active.specs.Lead.{Even, Joined, Lead, Told}
+use Rattle.ftp_pair_active.proofs.Bare.{StaysBare, left_bare, none_bare, none_unsent, none_untold, same_bare}
 use Rattle.ftp_pair_active.proofs.Beginning.{begins_tells}
 use Rattle.ftp_pair_active.proofs.JoinedDeeds.{is_patient, joined_accepts, joined_busy, joined_heard, joined_never, joined_said, joined_stays, joined_taken}
 use Rattle.ftp_pair_active.proofs.Leading.{led_between, led_client, led_told}
 use Rattle.ftp_pair_active.proofs.Leads.{LedSo, near_uncalled}
-use Rattle.ftp_pair_active.proofs.LedDeeds.{GoesLed, StaysBare, is_asking_port, left_bare, none_bare, none_comes, none_unsent, none_untold, same_bare, told_busy, told_listens, told_never, told_ported, told_said, told_stays, told_taken, told_wants}
+use Rattle.ftp_pair_active.proofs.LedDeeds.{GoesLed, is_asking_port, none_comes, told_busy, told_listens, told_never, told_ported, told_said, told_stays, told_taken, told_wants}
 use Rattle.ftp_pair_active.proofs.Portless.{dialled_portless, ended_portless, gives_portless, listens_wants, receives_portless}
 use Rattle.ftp_pair_active.proofs.Ports.{accepting_of, is_ported, world_awaits}
 use Rattle.ftp_pair_active.proofs.Telling.{Tells, heard_tells}
@@ -65,15 +66,15 @@ IsNext (Other (Listening port)) told = port ≡ port_at told
 IsNext deed told = Unit {0}
 
 -- none of these octets
-take_none : (count : ℕ) (octets : List ℕ) → octets ≡ [] → take count octets ≡ []
+pub take_none : (count : ℕ) (octets : List ℕ) → octets ≡ [] → take count octets ≡ []
 take_none zero octets none = refl
 take_none (suc count) octets none = ap (take (suc count)) none
 
-drop_none : (count : ℕ) (octets : List ℕ) → octets ≡ [] → drop count octets ≡ octets
+pub drop_none : (count : ℕ) (octets : List ℕ) → octets ≡ [] → drop count octets ≡ octets
 drop_none count octets none = ap (drop count) none ∙ drop-nil count ∙ sym none
 
 -- where it said none the same lies between
-sent_none : (between : Between) (octets : List ℕ) → octets ≡ [] → record between { control = sent TheClient octets between.control } ≡ between
+pub sent_none : (between : Between) (octets : List ℕ) → octets ≡ [] → record between { control = sent TheClient octets between.control } ≡ between
 sent_none between octets none =
     ap (λ o. record between { control = sent TheClient o between.control }) none
     ∙ ap (λ q. record between { control = record between.control { to_server = q } }) (append-nil between.control.to_server)
@@ -305,14 +306,14 @@ module _ (read : Reading) (reads : IsReading read) (from : State) (moments : ℕ
 
     -- what is so of its data connection then
     abbrev Bare : Type 0
-    Bare = StaysBare read begun server old new reports w port more p q told so last ahead t gone known_told
+    Bare = StaysBare old.owner.lane new.owner.lane
 
     same : (lane : Lane) → new.owner.lane ≡ lane → lane.stands ≡ old.owner.lane.stands → lane.fate ≡ old.owner.lane.fate
         → lane.untold ≡ old.owner.lane.untold → lane.unwritten ≡ old.owner.lane.unwritten → Bare
-    same = same_bare read begun server old new reports w port more p q told so last ahead t gone known_told
+    same = same_bare read begun server (led_client (Told port) old) reports w p (next_listen told) last ahead t gone known_told new.owner.lane
 
     gone_bare : new.owner.lane.stands ≡ false → new.owner.lane.untold ≡ [] → new.owner.lane.unwritten ≡ [] → Bare
-    gone_bare = left_bare read begun server old new reports w port more p q told so last ahead t gone known_told
+    gone_bare = left_bare old.owner.lane new.owner.lane
 
     -- nothing of it happens in a world
     stays_told : data_closed u ≡ data_closed v → new.unheard ≡ [] → q.control.to_client ≡ [] → q.control.to_server ≡ p.control.to_server
@@ -325,7 +326,7 @@ module _ (read : Reading) (reads : IsReading read) (from : State) (moments : ℕ
     comes = none_comes read begun server old new reports w port more p q told so last ahead t gone known_told
 
     unsent : old.owner.lane.unwritten ≡ []
-    unsent = none_unsent read begun server old new reports w port more p q told so last ahead t gone known_told
+    unsent = none_unsent read begun server (led_client (Told port) old) reports w p (next_listen told) last ahead t gone known_told
 
     -- it wants nothing of the kind
     no : {A : Type 0} → (want : Wants) → near.wants v ≡ want → is_asking_port want ≡ false → A
@@ -395,9 +396,9 @@ module _ (read : Reading) (reads : IsReading read) (from : State) (moments : ℕ
         (record {
           taking = λ e. ap is_taking (sym did.0.1.1) ∙ e;
           untold = λ e. (both_empty octets new.owner.lane.untold (sym did.0.1.0
-              ∙ none_untold read begun server old new reports w port more p q told so last ahead t gone known_told e)).1;
+              ∙ none_untold read begun server (led_client (Told port) old) reports w p (next_listen told) last ahead t gone known_told e)).1;
           bare = λ e. (both_empty octets new.owner.lane.untold (sym did.0.1.0
-              ∙ none_bare read begun server old new reports w port more p q told so last ahead t gone known_told
+              ∙ none_bare read begun server (led_client (Told port) old) reports w p (next_listen told) last ahead t gone known_told
               (ap (λ (l : Lane). l.stands) (sym did.0.1.1) ∙ e))).1;
           unwritten = ap (λ (l : Lane). l.unwritten) did.0.1.1 ∙ unsent;
         })
@@ -416,8 +417,9 @@ module _ (read : Reading) (reads : IsReading read) (from : State) (moments : ℕ
         (record {
           taking = λ e. open_takes old.owner.lane did.0.1.1;
           untold = λ e. ap (λ (l : Lane). l.untold) did.0.1.0
-              ∙ none_untold read begun server old new reports w port more p q told so last ahead t gone known_told e;
-          bare = λ e. ap (λ (l : Lane). l.untold) did.0.1.0 ∙ none_bare read begun server old new reports w port more p q told so last ahead t gone known_told
+              ∙ none_untold read begun server (led_client (Told port) old) reports w p (next_listen told) last ahead t gone known_told e;
+          bare = λ e. ap (λ (l : Lane). l.untold) did.0.1.0
+              ∙ none_bare read begun server (led_client (Told port) old) reports w p (next_listen told) last ahead t gone known_told
               (ap (λ (l : Lane). l.stands) (sym did.0.1.0) ∙ e);
           unwritten = ap (λ (l : Lane). l.unwritten) did.0.1.0 ∙ unsent;
         })

@@ -65,7 +65,7 @@ pub record Dials (v : Far) : Type 0 where
   pub link : v.session.connection ≡ Data.Opening transfer (Ways.Connect to)
 
 -- one that wants this of its data connection
-dials_of : (endpoint : Endpoint) (v : Far) → wants_of v.session.connection ≡ Want.Connect endpoint → Dials v
+pub dials_of : (endpoint : Endpoint) (v : Far) → wants_of v.session.connection ≡ Want.Connect endpoint → Dials v
 dials_of endpoint v e = by v.session.connection refl e
   where
     no : {q : Wants} → is_connecting q ≡ false → q ≡ Want.Connect endpoint → ⊥
@@ -120,24 +120,24 @@ may_at op flow port n is owed = ap near.may_hear is ∙ ap (λ o. near.may_hear 
 -- ---- the client at its port, in a world
 
 -- it heard all of the 150, and nothing else is another
-record HeardIt (op : Op (List ℕ)) (flow : Flow) (port : ℕ) (read : Reading) (w : World) : Type 0 where
-  new : World
-  leads : LeadsOn read [] w new
-  near : new.near ≡ near.hears w.near w.control_to_client
-  form : new.near ≡ awaiting op Replies.Begun flow port new.near
-  far : new.far ≡ w.far
-  to_client : new.control_to_client ≡ []
-  to_server : new.control_to_server ≡ w.control_to_server
-  rising : new.data_to_server ≡ w.data_to_server
-  falling : new.data_to_client ≡ w.data_to_client
-  control : new.control ≡ w.control
-  marks : new.marks ≡ w.marks
-  cutoff : new.cutoff ≡ w.cutoff
-  listens : new.listens ≡ w.listens
-  reports : new.reports ≡ w.reports
-  link : new.link ≡ w.link
+pub record HeardIt (op : Op (List ℕ)) (flow : Flow) (port : ℕ) (read : Reading) (w : World) : Type 0 where
+  pub new : World
+  pub leads : LeadsOn read [] w new
+  pub near : new.near ≡ near.hears w.near w.control_to_client
+  pub form : new.near ≡ awaiting op Replies.Begun flow port new.near
+  pub far : new.far ≡ w.far
+  pub to_client : new.control_to_client ≡ []
+  pub to_server : new.control_to_server ≡ w.control_to_server
+  pub rising : new.data_to_server ≡ w.data_to_server
+  pub falling : new.data_to_client ≡ w.data_to_client
+  pub control : new.control ≡ w.control
+  pub marks : new.marks ≡ w.marks
+  pub cutoff : new.cutoff ≡ w.cutoff
+  pub listens : new.listens ≡ w.listens
+  pub reports : new.reports ≡ w.reports
+  pub link : new.link ≡ w.link
 
-hears_it : (op : Op (List ℕ)) (flow : Flow) (port : ℕ) (read : Reading) (w : World) → Rested w → w.link ≡ Gone
+pub hears_it : (op : Op (List ℕ)) (flow : Flow) (port : ℕ) (read : Reading) (w : World) → Rested w → w.link ≡ Gone
     → Waits op flow port w.near w.control_to_client → HeardIt op flow port read w
 unfolding near.wants
 hears_it op flow port read w r gone (Came empty is) = record {

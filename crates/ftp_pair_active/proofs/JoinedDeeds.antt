@@ -67,7 +67,7 @@ unfolding near.wants
 listening_wants op flow port n true = (refl, refl)
 listening_wants op flow port n false = (refl, refl)
 
-awaiting_wants : (op : Op (List ℕ)) (replied : Replied) (flow : Flow) (port : ℕ) (n : Near) (closing : Bool)
+pub awaiting_wants : (op : Op (List ℕ)) (replied : Replied) (flow : Flow) (port : ℕ) (n : Near) (closing : Bool)
     → is_patient (near.wants (record (awaiting op replied flow port n) { closing = closing })) ≡ true
 unfolding near.wants
 awaiting_wants op replied flow port n true = refl

@@ -49,7 +49,7 @@ use Rattle.ftp_pair_active.proofs.Unsent.{fresh_kept, fresh_unaborted}
 -- ---- one that is to hear more of the 150
 
 -- its first octet is heard
-opens_on : (op : Op (List ℕ)) (flow : Flow) (port : ℕ) (d : Near) (octet : ℕ) (more : List ℕ) → Opens op flow port d (octet ∷ more)
+pub opens_on : (op : Op (List ℕ)) (flow : Flow) (port : ℕ) (d : Near) (octet : ℕ) (more : List ℕ) → Opens op flow port d (octet ∷ more)
     → Opens op flow port (hears_octet d octet) more
 opens_on op flow port d octet more o = record {
   fronts = λ front back next is. o.fronts (octet ∷ front) back next (ap (λ l. octet ∷ l) is);
@@ -85,14 +85,14 @@ comes_on op flow few port d octet (next ∷ more) o =
     }
 
 -- the first octet, and those after it
-head_same : (one other : ℕ) {rest more : List ℕ} → one ∷ rest ≡ other ∷ more → one ≡ other
+pub head_same : (one other : ℕ) {rest more : List ℕ} → one ∷ rest ≡ other ∷ more → one ≡ other
 head_same one other e = ap (first_of one) e
   where
     first_of : ℕ → List ℕ → ℕ
     first_of n [] = n
     first_of n (octet ∷ octets) = octet
 
-abbrev tail : List ℕ → List ℕ
+abbrev pub tail : List ℕ → List ℕ
 tail [] = []
 tail (octet ∷ octets) = octets
 

@@ -1,5 +1,5 @@
 -- Deeds of a client that a world's is ahead of: for most of them nothing happens in a world.
-use Rattle.std.proofs.Common.{◌≡◌, ℕ, Bool, true, false, true≢false, ◌&&◌, List, [], ◌++◌, Some, None, option_to_list, refl, sym, ap, ap₂, ◌∙◌}
+use Rattle.std.proofs.Common.{◌≡◌, ℕ, Bool, true, false, true≢false, List, [], ◌++◌, Some, None, option_to_list, refl, sym, ap, ap₂, ◌∙◌}
 use Rattle.ftp_control.specs.Deeds.{Calls, Stand}
 use Rattle.ftp_control.specs.Lane.{Lane}
 use Rattle.ftp_control.specs.Machine.{Listening}
@@ -18,8 +18,6 @@ use Rattle.ftp_operation.specs.declared.op.Op.{Op}
 use Rattle.ftp_server_drive.specs.Side.{server_side}
 use Rattle.ftp_server_model.specs.Machine.{Reading}
 use Rattle.ftp_pair_world.specs.Agreement.{Order}
-use Rattle.ftp_server_model.specs.Calls.{is_upload}
-use Rattle.ftp_pair_world.specs.Events.{is_closed_by_near}
 use Rattle.ftp_pair_world.specs.World.{Gone, World, next_listen, port_at}
 use Rattle.ftp_pair_dialogues.specs.Fetches.{busy}
 use Rattle.ftp_pair_agreement.proofs.Chunks.{both_empty}
@@ -28,12 +26,13 @@ use Rattle.ftp_pair_drives.specs.Between.{Between, Can, Has, Hold, IsOver, Near 
 use Rattle.ftp_pair_drives.specs.Touches.{Listens as ListensAt}
 use Rattle.ftp_pair_drives.proofs.Taken.{taken}
 use Rattle.ftp_pair_drives.proofs.Worlds.{leads_none}
-use Rattle.ftp_pair_deeds.proofs.Holding.{both, is_called, is_false, is_had, is_sound, unclosed}
+use Rattle.ftp_pair_deeds.proofs.Holding.{both, is_called, is_false, is_had, unclosed}
 use Rattle.ftp_pair_transfers.specs.Ahead.{Ahead}
 use Rattle.ftp_pair_transfers.proofs.Beside.{Goes, Together, is_taking}
 use Rattle.ftp_pair_transfers.proofs.Known.{Known, is_near_held}
 use Rattle.ftp_pair_active.specs.Lead.{Even, Lead, Told, led_by}
 use Rattle.ftp_pair_active.proofs.Alike.{together_of}
+use Rattle.ftp_pair_active.proofs.Bare.{StaysBare, none_unsent, none_untold}
 use Rattle.ftp_pair_active.proofs.Leading.{led_between, led_client, led_told}
 use Rattle.ftp_pair_active.proofs.Leads.{LedSo, told_fetches}
 use Rattle.ftp_pair_active.proofs.Ports.{is_ported}
@@ -150,55 +149,9 @@ module _ (read : Reading) (begun : List Order) (server : Stand server_side) (old
       none_unwritten : new.owner.lane.unwritten ≡ []
       none_unwritten = ap (λ (l : Lane). l.unwritten) did.0.1.1 ∙ t.gives.spare none_had
 
-  -- nothing is on its way over a data connection
-  untaken : is_upload w.far.session.connection ≡ false
-  untaken =
-      is_false (is_upload w.far.session.connection)
-      (λ e. true≢false (sym (ap is_closed_by_near (known.takes e (ap is_near_held gone))) ∙ ap is_closed_by_near gone))
-
-  pub none_untold : is_taking old.owner.lane ≡ true → old.owner.lane.untold ≡ []
-  none_untold e =
-      (both_empty old.owner.lane.untold (between.data_ways.to_client ++ server.owner.lane.unwritten)
-      (sym (t.beside.falling e) ∙ known.ended (ap is_near_held gone))).0
-
-  -- nor came any over one that does not stand
-  pub none_bare : old.owner.lane.stands ≡ false → old.owner.lane.untold ≡ []
-  none_bare e = t.takes.bare e
-
-  pub none_unsent : old.owner.lane.unwritten ≡ []
-  none_unsent =
-      (both_empty between.data_ways.to_server old.owner.lane.unwritten
-      (both_empty server.owner.lane.untold (between.data_ways.to_server ++ old.owner.lane.unwritten) (sym t.beside.rising ∙ known.still untaken)).1).1
-
-  -- what is so of its data connection then
-  pub record StaysBare : Type 0 where
-    pub taking : is_taking new.owner.lane ≡ true → is_taking old.owner.lane ≡ true
-    pub untold : is_taking old.owner.lane ≡ true → new.owner.lane.untold ≡ []
-    pub bare : new.owner.lane.stands ≡ false → new.owner.lane.untold ≡ []
-    pub unwritten : new.owner.lane.unwritten ≡ []
-
-  -- it is so of one that is the same
-  pub same_bare : (lane : Lane) → new.owner.lane ≡ lane → lane.stands ≡ old.owner.lane.stands → lane.fate ≡ old.owner.lane.fate
-      → lane.untold ≡ old.owner.lane.untold → lane.unwritten ≡ old.owner.lane.unwritten → StaysBare
-  same_bare lane is stands fate untold unwritten = record {
-    taking = λ e. ap₂ (λ s f. s && is_sound f) (sym stands) (sym fate) ∙ ap is_taking (sym is) ∙ e;
-    untold = λ e. ap (λ (l : Lane). l.untold) is ∙ untold ∙ none_untold e;
-    bare = λ e. ap (λ (l : Lane). l.untold) is ∙ untold ∙ none_bare (sym stands ∙ ap (λ (l : Lane). l.stands) (sym is) ∙ e);
-    unwritten = ap (λ (l : Lane). l.unwritten) is ∙ unwritten ∙ none_unsent;
-  }
-
-  -- and of one that was left
-  pub left_bare : new.owner.lane.stands ≡ false → new.owner.lane.untold ≡ [] → new.owner.lane.unwritten ≡ [] → StaysBare
-  left_bare stands untold unwritten = record {
-    taking = λ e. absurd (true≢false (sym e ∙ ap (λ s. s && is_sound new.owner.lane.fate) stands));
-    untold = λ e. untold;
-    bare = λ e. untold;
-    unwritten = unwritten;
-  }
-
   -- it is to be told it still
   pub told_stays : data_closed u ≡ data_closed v → new.unheard ≡ [] → next.control.to_client ≡ [] → next.control.to_server ≡ between.control.to_server
-      → next.data_ways ≡ between.data_ways → next.far ≡ between.far → is_called next.near ≡ false → StaysBare
+      → next.data_ways ≡ between.data_ways → next.far ≡ between.far → is_called next.near ≡ false → StaysBare old.owner.lane new.owner.lane
       → GoesLed read [] begun next told server new reports w
   told_stays is unheard empty other ways far called bare = record {
     lead = Told port;
@@ -228,8 +181,8 @@ module _ (read : Reading) (begun : List Order) (server : Stand server_side) (old
             to_server = other;
             ways = ways;
             far = far;
-            untold = λ e. (bare.taking e, bare.untold (bare.taking e) ∙ sym (none_untold (bare.taking e)));
-            unwritten = bare.unwritten ∙ sym none_unsent;
+            untold = λ e. (bare.taking e, bare.untold (bare.taking e) ∙ sym (untold_before (bare.taking e)));
+            unwritten = bare.unwritten ∙ sym unsent_before;
           })
           (record { bare = bare.bare }) (record { spare = λ e. bare.unwritten; bare = λ e. bare.unwritten })
           (record {
@@ -239,6 +192,12 @@ module _ (read : Reading) (begun : List Order) (server : Stand server_side) (old
           });
     };
   }
+    where
+      untold_before : is_taking old.owner.lane ≡ true → old.owner.lane.untold ≡ []
+      untold_before = none_untold read begun server (led_client (Told port) old) reports w between (next_listen told) moment ahead t gone known
+
+      unsent_before : old.owner.lane.unwritten ≡ []
+      unsent_before = none_unsent read begun server (led_client (Told port) old) reports w between (next_listen told) moment ahead t gone known
 
   pub told_wants : is_asking_port (near.wants v) ≡ true
   told_wants = asks_port so.0.op v so.0.view

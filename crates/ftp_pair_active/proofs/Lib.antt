@@ -10,6 +10,7 @@ pub mod Dialling
 pub mod Telling
 pub mod Beginning
 pub mod Alike
+pub mod Bare
 pub mod Joining
 pub mod Lifting
 pub mod Portless
@@ -19,6 +20,12 @@ pub mod JoinedDeeds
 pub mod ServerGoes
 pub mod ServerLed
 pub mod ClientLed
+pub mod Gaining
+pub mod Refusing
+pub mod Hearing
+pub mod ServerTries
+pub mod ClientTries
+pub mod Trying
 pub mod Simulating
 pub mod Broke
 pub mod Reaching

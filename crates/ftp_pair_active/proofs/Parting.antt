@@ -14,12 +14,13 @@ use Rattle.ftp_pair_dialogues.specs.Fetches.{busy}
 use Rattle.ftp_pair_drives.specs.Between.{Between}
 use Rattle.ftp_server_drive.specs.Side.{server_side}
 use Rattle.ftp_pair_deeds.proofs.Parting.{cut_report}
-use Rattle.ftp_pair_active.specs.Lead.{Even, Joined, Lead, Told, led_by}
+use Rattle.ftp_pair_active.specs.Lead.{Even, Joined, Told}
+use Rattle.ftp_pair_active.specs.Refusals.{Gain, Heard, Led, gained_by}
 use Rattle.ftp_pair_active.proofs.Accepting.{awaiting, joining, joins}
 use Rattle.ftp_pair_active.proofs.Calls as calls
 use Rattle.ftp_pair_active.proofs.Joining.{joins_form}
 use Rattle.ftp_pair_active.proofs.Leading.{Comes, Stays, Waits}
-use Rattle.ftp_pair_active.proofs.Leads.{LedSo}
+use Rattle.ftp_pair_active.proofs.Gaining.{GainSo}
 
 told_cut : (port : ℕ) (op : Op (List ℕ)) (n : Near)
     → near.report_of (near.control_end (listening port (busy (Doing op Steps.Listen) Data.ListenWanted n)))
@@ -49,12 +50,23 @@ joined_cut v octets (Waits is a) =
     ∙ waits_cut a.op a.replied a.replied a.flow a.port (data_closed v) (data_closed v)
     ∙ sym (ap (λ n. near.report_of (near.control_end n)) a.is) ∙ cut_report false v
 
-pub led_cut : (lead : Lead) (more : List ℕ) (between : Between) (told : ℕ) (server : Stand server_side) (c : Stand client_side)
-    → LedSo lead more between told server c
-    → near.report_of (near.control_end (led_by lead c.owner.end.view)) ≡ near.report_of (near.control_end c.owner.end.view)
-led_cut Even more between told server c so = refl
-led_cut (Told port) more between told server c so =
+hearing_cut : (op : Op (List ℕ)) (flow : Flow) (port : ℕ) (n m : Near)
+    → near.report_of (near.control_end (awaiting op Replies.Begun flow port n)) ≡ near.report_of (near.control_end (calls.listening op flow port m))
+unfolding near.control_end
+hearing_cut op flow port n m = refl
+
+pub gained_cut : (gain : Gain) (more : List ℕ) (between : Between) (told : ℕ) (server : Stand server_side) (c : Stand client_side)
+    → GainSo gain more between told server c
+    → near.report_of (near.control_end (gained_by gain c.owner.end.view)) ≡ near.report_of (near.control_end c.owner.end.view)
+gained_cut (Led Even) more between told server c so = refl
+gained_cut (Led (Told port)) more between told server c so =
     let v : Near = c.owner.end.view in
     ap (λ n. near.report_of (near.control_end (listening port n))) so.0.view ∙ told_cut port so.0.op v
     ∙ sym (ap (λ n. near.report_of (near.control_end n)) so.0.view) ∙ cut_report false v
-led_cut (Joined octets) more between told server c so = joined_cut c.owner.end.view octets so.0.stays.0
+gained_cut (Led (Joined octets)) more between told server c so = joined_cut c.owner.end.view octets so.0.stays.0
+gained_cut (Heard octets) more between told server c so =
+    let v : Near = c.owner.end.view in
+    let h = so.0 in
+    ap (λ n. near.report_of (near.control_end n)) h.opens.whole
+    ∙ hearing_cut h.op h.flow h.port (near.hears (data_closed v) octets) (data_closed v)
+    ∙ sym (ap (λ n. near.report_of (near.control_end n)) (h.opens.fronts [] h.others h.octet (sym h.some)).0) ∙ cut_report false v

@@ -1,10 +1,10 @@
 -- Two drives that put, fetch and peek over data connections that either dials, as a list of a world's events: one deed after another; a world sees what lies
 -- between, what a reset dropped, and a client that was told of a break as one that was told of an end.
 use Rattle.std.proofs.Common.{◌≡◌, ◌⊎◌, inl, inr, ℕ, true, false, true≢false, List, [], ◌∷◌, ◌++◌, option_to_list, refl, sym, ap, subst, ◌∙◌, append-nil}
-use Rattle.ftp_control.specs.Asking.{Connected, Reset}
-use Rattle.ftp_control.specs.Deeds.{Deed, Done, Led, Other, Stand}
+use Rattle.ftp_control.specs.Asking.{Connected, NotConnected, Reset}
+use Rattle.ftp_control.specs.Deeds.{Deed, Done, Led as HaveLed, Other, Stand}
 use Rattle.ftp_control.specs.Lane.{Lane}
-use Rattle.ftp_control.specs.Machine.{Break, Held, Left, Opened}
+use Rattle.ftp_control.specs.Machine.{Break, Held, Left, Opened, Refused}
 use Rattle.ftp_ends.specs.declared.link.Wants.TheVariants as Want
 use Rattle.ftp_client_drive.specs.Side.{client_side}
 use Rattle.ftp_client_model.specs.Calls as near
@@ -28,7 +28,7 @@ use Rattle.ftp_pair_transfers.specs.Claims.{IsNear}
 use Rattle.ftp_pair_transfers.specs.Deeds as passive
 use Rattle.ftp_pair_transfers.specs.Deeds.{AreMoments, AreResets, AreToldAt, IsToldAt, begun_at, last_of, number_in}
 use Rattle.ftp_pair_transfers.proofs.Beside.{Together}
-use Rattle.ftp_pair_transfers.proofs.Broke.{IsShown, with_view}
+use Rattle.ftp_pair_transfers.proofs.Broke.{IsBroke, IsShown, with_view}
 use Rattle.ftp_pair_transfers.proofs.Called.{BreaksNone}
 use Rattle.ftp_pair_transfers.proofs.ClientBroken.{Breaks, client_breaks, with_none}
 use Rattle.ftp_pair_transfers.proofs.EitherEnd.{AreAlike}
@@ -36,48 +36,61 @@ use Rattle.ftp_pair_transfers.proofs.Known.{AreCarried}
 use Rattle.ftp_pair_transfers.proofs.Lost.{IsSeen, far_done, is_lost, near_done, resets_losing, seen_itself, with_lost}
 use Rattle.ftp_pair_transfers.proofs.Reaching.{IsResetFor, reset_falls, reset_for, resets_before, serving_near, shown_near, shown_said, shown_still}
 use Rattle.ftp_pair_active.specs.Claims.{EitherAreOfWorlds}
-use Rattle.ftp_pair_active.specs.Deeds.{ArePorts, AsksAlong, ClientTransfers, ServerTransfers, ServesAlong, listened_in}
-use Rattle.ftp_pair_active.specs.Lead.{Even, Joined, Lead, Told, led_by}
+use Rattle.ftp_pair_active.specs.Deeds.{ArePorts, listened_in}
+use Rattle.ftp_pair_active.specs.Lead.{Even, Joined, Told}
+use Rattle.ftp_pair_active.specs.Refusals.{AsksAlong, ClientTries, Gain, Heard, Led, ServerTries, ServesAlong, TriesAreOfWorlds, gained_by, has_failed}
 use Rattle.ftp_pair_active.proofs.Broke.{broke_does}
 use Rattle.ftp_pair_active.proofs.ClientLed as by_client
 use Rattle.ftp_pair_active.proofs.JoinedDeeds.{joined_never}
 use Rattle.ftp_pair_active.proofs.Keeping.{ended_kept, whatever_kept}
-use Rattle.ftp_pair_active.proofs.Leading.{Comes, Stays, Waits, led_between, led_client, led_told}
-use Rattle.ftp_pair_active.proofs.Leads.{LedSo}
+use Rattle.ftp_pair_active.proofs.Gaining.{GainSo, IsHearing, gained_between, gained_client, gained_told}
+use Rattle.ftp_pair_active.proofs.Hearing.{listening_never}
+use Rattle.ftp_pair_active.proofs.Leading.{Comes, Stays, Waits}
 use Rattle.ftp_pair_active.proofs.LedDeeds.{asks_port, is_asking_port}
 use Rattle.ftp_pair_active.proofs.Portless.{ended_portless}
 use Rattle.ftp_pair_active.proofs.Ports.{is_ported}
 use Rattle.ftp_pair_active.proofs.ServerGoes as by_server
-use Rattle.ftp_pair_active.proofs.Simulating.{Reached, asks, client_ports, client_reaches, in_carried, known, led_said, reset_reaches, runs, server_ports, server_reaches, starts_so, view_is}
+use Rattle.ftp_pair_active.proofs.Simulating.{Reached, asks, client_ports, client_reaches, gained_said, in_carried, known, reset_reaches, runs, server_ports, server_reaches, starts_so, view_is}
+use Rattle.ftp_pair_active.proofs.Trying.{did_try, lead_of, none_failed, none_heard, none_marked}
 
 -- ---- the client that a world sees
 
+-- one to which the 150 is to come was told of no break
+hearing_unbroken : (octets more : List ℕ) (seen : Between) (shown : Stand client_side) → IsHearing octets more seen shown → (client : Stand client_side)
+    (between : Between) → (other : Near) × (shown ≡ with_view other client) × IsBroke between client other → ⊥
+hearing_unbroken octets more seen shown h client between broke =
+    true≢false (sym (ap (λ (n : Near). is_ported n.connection) (h.opens.fronts [] h.others h.octet (sym h.some)).0)
+    ∙ ap (λ (c : Stand client_side). is_ported c.owner.end.view.connection) broke.1 ∙ ap (λ (n : Near). is_ported n.connection) broke.2.apart.other_is)
+
 -- one that was told of a break, or of an end in its place, is not ahead
-broke_even : (lead : Lead) (more : List ℕ) (between seen : Between) (told : ℕ) (server : Stand server_side) (client shown : Stand client_side)
-    → LedSo lead more seen told server shown → IsSeen between seen → (shows : IsShown between client shown) → (shown ≡ client) ⊎ (lead ≡ Even)
-broke_even lead more between seen told server client shown so is_seen (inl same) = inl same
-broke_even Even more between seen told server client shown so is_seen (inr broke) = inr refl
-broke_even (Told port) more between seen told server client shown so is_seen (inr broke) =
+broke_even : (gain : Gain) (more : List ℕ) (between seen : Between) (told : ℕ) (server : Stand server_side) (client shown : Stand client_side)
+    → GainSo gain more seen told server shown → IsSeen between seen → (shows : IsShown between client shown) → (shown ≡ client) ⊎ (gain ≡ Led Even)
+broke_even gain more between seen told server client shown so is_seen (inl same) = inl same
+broke_even (Led Even) more between seen told server client shown so is_seen (inr broke) = inr refl
+broke_even (Led (Told port)) more between seen told server client shown so is_seen (inr broke) =
     let other : Near = broke.0 in
     let is : near.data_closed other ≡ near.data_closed shown.owner.end.view = ap (λ (c : Stand client_side). near.data_closed c.owner.end.view) (sym broke.1) in
     absurd (true≢false (sym (ap (λ (n : Near). is_doing n.job) (is ∙ so.0.view)) ∙ ap (λ (n : Near). is_doing n.job) broke.2.apart.other_is))
-broke_even (Joined octets) more between seen told server client shown so is_seen (inr broke) =
+broke_even (Led (Joined octets)) more between seen told server client shown so is_seen (inr broke) =
     absurd (true≢false (sym broke.2.near ∙ ap is_lost (sym is_seen.near) ∙ ap is_lost so.0.called))
+broke_even (Heard octets) more between seen told server client shown so is_seen (inr broke) =
+    absurd (hearing_unbroken octets more seen shown so.0 client between broke)
 
 -- as a world holds it, it is the client that is ahead, or was told of an end where that was told of a break
-led_near : (lead : Lead) (more : List ℕ) (between seen : Between) (told : ℕ) (server : Stand server_side) (client shown : Stand client_side)
-    → LedSo lead more seen told server shown → IsSeen between seen → IsShown between client shown → (there : Near)
-    → there ≡ near.data_closed (taken (led_by lead shown.owner.end.view)) → IsNear there (near.data_closed (near.reports (led_by lead client.owner.end.view)))
-led_near lead more between seen told server client shown so is_seen shows there is =
-    by (broke_even lead more between seen told server client shown so is_seen shows)
+gained_near : (gain : Gain) (more : List ℕ) (between seen : Between) (told : ℕ) (server : Stand server_side) (client shown : Stand client_side)
+    → GainSo gain more seen told server shown → IsSeen between seen → IsShown between client shown → (there : Near)
+    → there ≡ near.data_closed (taken (gained_by gain shown.owner.end.view))
+    → IsNear there (near.data_closed (near.reports (gained_by gain client.owner.end.view)))
+gained_near gain more between seen told server client shown so is_seen shows there is =
+    by (broke_even gain more between seen told server client shown so is_seen shows)
   where
-    by : (shown ≡ client) ⊎ (lead ≡ Even) → IsNear there (near.data_closed (near.reports (led_by lead client.owner.end.view)))
+    by : (shown ≡ client) ⊎ (gain ≡ Led Even) → IsNear there (near.data_closed (near.reports (gained_by gain client.owner.end.view)))
     by (inl same) =
-        inl (is ∙ ap (λ (c : Stand client_side). near.data_closed (taken (led_by lead c.owner.end.view))) same
-        ∙ ap near.data_closed (sym (reports_is (led_by lead client.owner.end.view))))
+        inl (is ∙ ap (λ (c : Stand client_side). near.data_closed (taken (gained_by gain c.owner.end.view))) same
+        ∙ ap near.data_closed (sym (reports_is (gained_by gain client.owner.end.view))))
     by (inr even) =
-        subst (λ l. IsNear there (near.data_closed (near.reports (led_by l client.owner.end.view)))) (sym even)
-        (shown_near between client shown shows there (is ∙ ap (λ l. near.data_closed (taken (led_by l shown.owner.end.view))) even))
+        subst (λ l. IsNear there (near.data_closed (near.reports (gained_by l client.owner.end.view)))) (sym even)
+        (shown_near between client shown shows there (is ∙ ap (λ l. near.data_closed (taken (gained_by l shown.owner.end.view))) even))
 
 -- the client that it sees is the same after a deed of the server but a dial
 serving_keeps : (deed : Deed server_side) (at : Held Timed) → passive.IsServing deed at → (p q : Between) (client shown : Stand client_side)
@@ -90,40 +103,41 @@ stays_ported v octets (Comes op flow few port octet more is o) = ap (λ (n : Nea
 stays_ported v octets (Waits is a) = ap (λ (n : Near). is_ported n.connection) a.is
 
 -- so one that a server dials was told of no break
-dialled_shows : (lead : Lead) (more : List ℕ) (p q seen : Between) (told : ℕ) (server : Stand server_side) (client shown : Stand client_side)
-    → LedSo lead more seen told server shown → is_called seen.near ≡ true → IsShown p client shown → IsShown q client shown
-dialled_shows lead more p q seen told server client shown so called (inl same) = inl same
-dialled_shows Even more p q seen told server client shown so called (inr broke) = absurd (both called so.0)
-dialled_shows (Told port) more p q seen told server client shown so called (inr broke) = absurd (both called so.0.called)
-dialled_shows (Joined octets) more p q seen told server client shown so called (inr broke) =
+dialled_shows : (gain : Gain) (more : List ℕ) (p q seen : Between) (told : ℕ) (server : Stand server_side) (client shown : Stand client_side)
+    → GainSo gain more seen told server shown → is_called seen.near ≡ true → IsShown p client shown → IsShown q client shown
+dialled_shows gain more p q seen told server client shown so called (inl same) = inl same
+dialled_shows (Led Even) more p q seen told server client shown so called (inr broke) = absurd (both called so.0)
+dialled_shows (Led (Told port)) more p q seen told server client shown so called (inr broke) = absurd (both called so.0.called)
+dialled_shows (Heard octets) more p q seen told server client shown so called (inr broke) = absurd (both called so.0.called)
+dialled_shows (Led (Joined octets)) more p q seen told server client shown so called (inr broke) =
     absurd (true≢false (sym (stays_ported (near.data_closed shown.owner.end.view) octets so.0.stays.0)
     ∙ ap (λ (c : Stand client_side). is_ported c.owner.end.view.connection) broke.1 ∙ ap (λ (n : Near). is_ported n.connection) broke.2.apart.other_is))
 
 module _ (read : Reading) (reads : IsReading read) (moments : ℕ → ℕ) (timed : AreMoments moments) (b : Beginning) (fair : IsFair b) where
-  abbrev At : List Order → Between → ℕ → Stand server_side → Stand client_side → List Said → Type 0
-  At begun between told server client reports = Reached read reads moments timed b fair begun between told server client reports
+  abbrev At : List Order → Between → List Turn → Stand server_side → Stand client_side → List Said → Type 0
+  At begun between turns server client reports = Reached read reads moments timed b fair begun between turns server client reports
 
-  -- after deeds, a world is beside both drives, as it sees what lies between and the client
-  pub record Seen (begun : List Order) (between : Between) (told : ℕ) (server : Stand server_side) (client : Stand client_side)
+  -- after an order of deeds, a world is beside both drives, as it sees what lies between and the client
+  pub record Seen (begun : List Order) (between : Between) (turns : List Turn) (server : Stand server_side) (client : Stand client_side)
       (reports : List Said) : Type 0 where
     pub seen : Between
     pub is_seen : IsSeen between seen
     pub shown : Stand client_side
     pub shows : IsShown between client shown
-    pub reached : At begun seen told server shown reports
+    pub reached : At begun seen turns server shown reports
 
   -- ---- a deed of the server
 
   server_sees : (deed : Deed server_side) (old new : Stand server_side) (deeds : List (Deed client_side)) (before : List Turn) (p q : Between)
-      (client : Stand client_side) (reports : List Said) → AreCarried (begun_at moments deeds) → ServerTransfers deed old.owner new.owner
+      (client : Stand client_side) (reports : List Said) → AreCarried (begun_at moments deeds) → ServerTries deed old.owner new.owner
       → by_server.IsNext deed (listened_in before) → CanTurn (Server deed) p q → (did : Done deed old new)
-      → IsToldAt deed old new did (last_of moments (number_in deeds)) → Seen (begun_at moments deeds) p (listened_in before) old client reports
-      → Seen (begun_at moments deeds) q (listened_in (Server deed ∷ before)) new client reports
+      → IsToldAt deed old new did (last_of moments (number_in deeds)) → Seen (begun_at moments deeds) p before old client reports
+      → Seen (begun_at moments deeds) q (Server deed ∷ before) new client reports
   server_sees (Other (Left (Reset left written))) old new deeds before p q client reports puts is next can did told at =
       record {
         seen = with_lost old.owner.lane.unwritten (with_hold TheServer Has_lost at.seen);
         is_seen = resets_losing p q at.seen at.is_seen old.owner.lane.unwritten
-            (λ e. at.reached.together.serves.spare (still_had at.reached.lead at.reached.more ∙ ap is_had at.is_seen.far ∙ e)) can;
+            (λ e. at.reached.together.serves.spare (still_had at.reached.gain at.reached.more ∙ ap is_had at.is_seen.far ∙ e)) can;
         shown = at.shown;
         shows = shown_still p q client at.shown (ap (λ (m : Between). m.near) can.1) at.shows;
         reached = reset_reaches read reads moments timed b fair left written old new deeds before at.seen at.shown reports puts is.1
@@ -131,23 +145,37 @@ module _ (read : Reading) (reads : IsReading read) (moments : ℕ → ℕ) (time
       }
     where
       -- how the server stands to it is the same, whether the client is ahead or not
-      still_had : (lead : Lead) (more : List ℕ) → is_had (led_between lead more at.seen).far ≡ is_had at.seen.far
-      still_had Even more = refl
-      still_had (Told port) more = refl
-      still_had (Joined octets) more = refl
+      still_had : (gain : Gain) (more : List ℕ) → is_had (gained_between gain more at.seen).far ≡ is_had at.seen.far
+      still_had (Led Even) more = refl
+      still_had (Led (Told port)) more = refl
+      still_had (Led (Joined octets)) more = refl
+      still_had (Heard octets) more = refl
   server_sees (Other (Opened host (Connected endpoint left written ∷ []) at_first so_far rest)) old new deeds before p q client reports puts is next can did
       told at =
       let dial : Deed server_side = Other (Opened host (Connected endpoint left written ∷ []) at_first so_far rest) in
       let there = far_done p q at.seen at.is_seen (touch_in dial) can in
-      let went = server_reaches read reads moments timed b fair dial tt old new deeds before at.seen there.after at.shown reports puts is next there.can did told at.reached in
+      let went = server_reaches read reads moments timed b fair dial tt old new deeds before at.seen there.after at.shown reports puts is next
+      there.can did told at.reached in
       record {
         seen = there.after;
         is_seen = there.is_seen;
         shown = at.shown;
-        shows = dialled_shows went.lead went.more p q there.after (listened_in before) new client at.shown went.so
+        shows = dialled_shows went.gain went.more p q there.after (listened_in before) new client at.shown went.so
             (ap (λ (m : Between). is_called m.near) there.can.2) at.shows;
         reached = went;
       }
+  server_sees (Other (Refused (NotConnected endpoint ∷ []))) old new deeds before p q client reports puts is next can did told at =
+      let denial : Deed server_side = Other (Refused (NotConnected endpoint ∷ [])) in
+      let there = far_done p q at.seen at.is_seen (touch_in denial) can in
+      record {
+        seen = there.after;
+        is_seen = there.is_seen;
+        shown = at.shown;
+        shows = shown_still p q client at.shown (ap (λ (m : Between). m.near) can) at.shows;
+        reached = server_reaches read reads moments timed b fair denial tt old new deeds before at.seen there.after at.shown reports puts is next there.can did
+            told at.reached;
+      }
+  server_sees (Other (Refused asked)) old new deeds before p q client reports puts is next can did told at = absurd is.0
   server_sees deed old new deeds before p q client reports puts is next can did told at =
       let there = far_done p q at.seen at.is_seen (touch_in deed) can in
       record {
@@ -163,13 +191,13 @@ module _ (read : Reading) (reads : IsReading read) (moments : ℕ → ℕ) (time
 
   -- but that it is told of a break
   client_sees_on : (deed : Deed client_side) → BreaksNone deed → (old new : Stand client_side) (deeds : List (Deed client_side)) (before : List Turn)
-      (p q : Between) (server : Stand server_side) (reports : List Said) → AreCarried (begun_at moments deeds) → ClientTransfers deed old.owner new.owner
+      (p q : Between) (server : Stand server_side) (reports : List Said) → AreCarried (begun_at moments deeds) → ClientTries deed old.owner new.owner
       → by_client.IsNext deed (listened_in before) → CanTurn (Client deed) p q → Done deed old new
-      → Seen (begun_at moments deeds) p (listened_in before) server old reports
-      → Seen (begun_at moments (deed ∷ deeds)) q (listened_in (Client deed ∷ before)) server new (reports ++ reported_by deed)
+      → Seen (begun_at moments deeds) p before server old reports
+      → Seen (begun_at moments (deed ∷ deeds)) q (Client deed ∷ before) server new (reports ++ reported_by deed)
   client_sees_on deed unbroken old new deeds before p q server reports puts is next can did at = by at.shows
     where
-      by : IsShown p old at.shown → Seen (begun_at moments (deed ∷ deeds)) q (listened_in (Client deed ∷ before)) server new (reports ++ reported_by deed)
+      by : IsShown p old at.shown → Seen (begun_at moments (deed ∷ deeds)) q (Client deed ∷ before) server new (reports ++ reported_by deed)
       by (inl same) =
           let there = near_done p q at.seen at.is_seen (touch_in deed) can in
           record {
@@ -178,7 +206,7 @@ module _ (read : Reading) (reads : IsReading read) (moments : ℕ → ℕ) (time
             shown = new;
             shows = inl refl;
             reached = client_reaches read reads moments timed b fair deed unbroken old new deeds before at.seen there.after server reports puts is next
-                there.can did (subst (λ c. At (begun_at moments deeds) at.seen (listened_in before) server c reports) same at.reached);
+                there.can did (subst (λ c. At (begun_at moments deeds) at.seen before server c reports) same at.reached);
           }
       by (inr broke) =
           let there = near_done p q at.seen at.is_seen (touch_in deed) can in
@@ -190,51 +218,61 @@ module _ (read : Reading) (reads : IsReading read) (moments : ℕ → ℕ) (time
             shows = so.shows;
             reached = client_reaches read reads moments timed b fair deed unbroken (with_view broke.0 old) so.after deeds before at.seen there.after server
                 reports puts so.is next there.can so.did
-                (subst (λ c. At (begun_at moments deeds) at.seen (listened_in before) server c reports) broke.1 at.reached);
+                (subst (λ c. At (begun_at moments deeds) at.seen before server c reports) broke.1 at.reached);
           }
 
   -- it is told of a break: in a world it is told of the end
-  module _ (old new : Stand client_side) (deeds : List (Deed client_side)) (told : ℕ) (s : Between) (server : Stand server_side) (reports : List Said)
-      (puts : AreCarried (begun_at moments deeds)) (is : ClientTransfers (Other Break) old.owner new.owner) (did : Done (Other Break) old new)
-      (lost : s.far ≡ Has_lost) (o : At (begun_at moments deeds) s told server old reports) where
+  module _ (old new : Stand client_side) (deeds : List (Deed client_side)) (before : List Turn) (s : Between) (server : Stand server_side)
+      (reports : List Said) (puts : AreCarried (begun_at moments deeds)) (is : ClientTries (Other Break) old.owner new.owner) (did : Done (Other Break) old new)
+      (lost : s.far ≡ Has_lost) (o : At (begun_at moments deeds) s before server old reports) where
     abbrev begun : List Order
     begun = begun_at moments deeds
+
+    abbrev told : ℕ
+    told = listened_in before
 
     abbrev v : Near
     v = old.owner.end.view
 
     -- one that takes octets is not ahead
-    taking_even : (lead : Lead) (more : List ℕ) → LedSo lead more s told server old
-        → Together read begun o.last o.ahead (led_between lead more s) (led_told lead told) server (led_client lead old) reports o.world → lead ≡ Even
-    taking_even Even more so t = refl
-    taking_even (Told port) more so t = absurd (true≢false (sym (asks_port so.0.op v so.0.view) ∙ ap is_asking_port is.0.1))
-    taking_even (Joined octets) more so t =
+    taking_even : (gain : Gain) (more : List ℕ) → GainSo gain more s told server old
+        → Together read begun o.last o.ahead (gained_between gain more s) (gained_told gain told) server (gained_client gain old) reports o.world
+        → gain ≡ Led Even
+    taking_even (Led Even) more so t = refl
+    taking_even (Led (Told port)) more so t = absurd (true≢false (sym (asks_port so.0.op v so.0.view) ∙ ap is_asking_port is.0.1))
+    taking_even (Led (Joined octets)) more so t =
         absurd (joined_never read begun server old old reports o.world octets more s s told so o.last o.ahead t Want.Receive is.0.1 refl)
+    taking_even (Heard octets) more so t =
+        let h = so.0 in
+        absurd (listening_never h.op h.flow h.port v (h.opens.fronts [] h.others h.octet (sym h.some)).0 Want.Receive is.0.1 refl)
 
-    even : o.lead ≡ Even
-    even = taking_even o.lead o.more o.so o.together
+    even : o.gain ≡ Led Even
+    even = taking_even o.gain o.more o.so o.together
 
     t : Together read begun o.last o.ahead s told server old reports o.world
-    t = subst (λ l. Together read begun o.last o.ahead (led_between l o.more s) (led_told l told) server (led_client l old) reports o.world) even o.together
+    t = subst (λ l. Together read begun o.last o.ahead (gained_between l o.more s) (gained_told l told) server (gained_client l old) reports o.world) even
+        o.together
 
     rests : ClientRests old.owner
-    rests = subst (λ l. ClientRests (led_client l old).owner) even (asks read reads moments timed b fair begun s told server old reports o)
+    rests = subst (λ l. ClientRests (gained_client l old).owner) even (asks read reads moments timed b fair begun s before server old reports o)
 
     portless : wants_port (near.data_end v).connection ≡ false
     portless = ended_portless v o.keeping.run rests.dials
 
     breaks : Breaks read reads (state_of b) begun puts server old new reports o.world is.1 o.serves rests portless
-        (known read reads moments timed b fair deeds puts s told server old reports o) (runs read reads moments timed b fair begun s told server old reports o)
+        (known read reads moments timed b fair deeds puts s before server old reports o)
+        (runs read reads moments timed b fair begun s before server old reports o)
         s told
     breaks =
         client_breaks read reads (state_of b) begun puts server old new reports o.world is.1 o.serves rests portless
-        (known read reads moments timed b fair deeds puts s told server old reports o) (runs read reads moments timed b fair begun s told server old reports o)
+        (known read reads moments timed b fair deeds puts s before server old reports o)
+        (runs read reads moments timed b fair begun s before server old reports o)
         o.last o.ahead s told t did is.0.0 is.0.1 is.0.2 (ap is_had lost) (ap is_called lost)
 
     abbrev shown : Stand client_side
     shown = with_view (near.data_end v) new
 
-    break_reaches : At (begun_at moments (Other Break ∷ deeds)) (with_none s) told server shown (reports ++ [])
+    break_reaches : At (begun_at moments (Other Break ∷ deeds)) (with_none s) (Client (Other Break) ∷ before) server shown (reports ++ [])
     break_reaches =
         let k = breaks in
         record {
@@ -242,7 +280,7 @@ module _ (read : Reading) (reads : IsReading read) (moments : ℕ → ℕ) (time
           leads = leads_then read begun [] (world_of b) o.world k.goes.world o.leads k.goes.leads;
           last = k.goes.moment;
           ahead = k.goes.ahead;
-          lead = Even;
+          gain = Led Even;
           more = [];
           so = (refl, record { sound = k.sound; dials = portless });
           together = subst (λ l. Together read l k.goes.moment k.goes.ahead (with_none s) told server shown (reports ++ []) k.goes.world)
@@ -250,7 +288,8 @@ module _ (read : Reading) (reads : IsReading read) (moments : ℕ → ℕ) (time
           serves = o.serves;
           keeping = ended_kept Whatever whatever_kept v o.keeping;
           fresh = λ e. absurd (both e (ap is_called lost));
-          unmarked = subst AreUnmarked (sym k.goes.marked) o.unmarked;
+          marked = k.goes.marked ∙ o.marked;
+          heard = λ e. absurd (true≢false (sym e));
         }
 
     break_shows : (q : Between) → is_lost q.near ≡ true → IsShown q new shown
@@ -265,25 +304,24 @@ module _ (read : Reading) (reads : IsReading read) (moments : ℕ → ℕ) (time
         )
 
   client_sees : (deed : Deed client_side) (old new : Stand client_side) (deeds : List (Deed client_side)) (before : List Turn)
-      (p q : Between) (server : Stand server_side) (reports : List Said) → AreCarried (begun_at moments deeds) → ClientTransfers deed old.owner new.owner
+      (p q : Between) (server : Stand server_side) (reports : List Said) → AreCarried (begun_at moments deeds) → ClientTries deed old.owner new.owner
       → by_client.IsNext deed (listened_in before) → CanTurn (Client deed) p q → IsResetFor deed p → Done deed old new
-      → Seen (begun_at moments deeds) p (listened_in before) server old reports
-      → Seen (begun_at moments (deed ∷ deeds)) q (listened_in (Client deed ∷ before)) server new (reports ++ reported_by deed)
+      → Seen (begun_at moments deeds) p before server old reports
+      → Seen (begun_at moments (deed ∷ deeds)) q (Client deed ∷ before) server new (reports ++ reported_by deed)
   client_sees (Other Break) old new deeds before p q server reports puts is next can reset did at = by at.shows
     where
-      by : IsShown p old at.shown → Seen (begun_at moments (Other Break ∷ deeds)) q (listened_in before) server new (reports ++ [])
+      by : IsShown p old at.shown → Seen (begun_at moments (Other Break ∷ deeds)) q (Client (Other Break) ∷ before) server new (reports ++ [])
       by (inr broke) = absurd (both broke.2.near (ap is_lost can.0))
       by (inl same) =
-          let told : ℕ = listened_in before in
           let lost : at.seen.far ≡ Has_lost = at.is_seen.far ∙ reset in
-          let o : At (begun_at moments deeds) at.seen told server old reports =
-          subst (λ c. At (begun_at moments deeds) at.seen told server c reports) same at.reached in
+          let o : At (begun_at moments deeds) at.seen before server old reports =
+          subst (λ c. At (begun_at moments deeds) at.seen before server c reports) same at.reached in
           record {
             seen = with_none at.seen;
             is_seen = subst (λ m. IsSeen m (with_none at.seen)) (sym can.1) (reset_falls p at.seen at.is_seen reset);
             shown = with_view (near.data_end old.owner.end.view) new;
-            shows = break_shows old new deeds told at.seen server reports puts is did lost o q (ap (λ (m : Between). is_lost m.near) can.1);
-            reached = break_reaches old new deeds told at.seen server reports puts is did lost o;
+            shows = break_shows old new deeds before at.seen server reports puts is did lost o q (ap (λ (m : Between). is_lost m.near) can.1);
+            reached = break_reaches old new deeds before at.seen server reports puts is did lost o;
           }
   client_sees deed old new deeds before p q server reports puts is next can reset did at =
       client_sees_on deed tt old new deeds before p q server reports puts is next can did at
@@ -294,15 +332,15 @@ module _ (read : Reading) (reads : IsReading read) (moments : ℕ → ℕ) (time
       → (server_start server : Stand server_side) (client_start client : Stand client_side) → Begins b server_start client_start
       → server_start.owner.lane.untold ≡ [] → client_start.owner.lane.unwritten ≡ []
       → server_start.owner.lane.unwritten ≡ [] → client_start.owner.lane.untold ≡ []
-      → (server_led : Led (server_deeds turns) server_start server) (client_led : Led (client_deeds turns) client_start client)
+      → (server_led : HaveLed (server_deeds turns) server_start server) (client_led : HaveLed (client_deeds turns) client_start client)
       → ServesAlong (server_deeds turns) server_start server server_led → AsksAlong (client_deeds turns) client_start client client_led
       → ArePorts turns → AreToldAt moments turns server_start server server_led
-      → Seen (begun_at moments (client_deeds turns)) between (listened_in turns) server client (reports_in (client_deeds turns))
+      → Seen (begun_at moments (client_deeds turns)) between turns server client (reports_in (client_deeds turns))
   reaches [] between happened resets server_start server client_start client begins untold unwritten far_unwritten near_untold server_led client_led serves asks
       ports told =
-      subst (λ (m : Between). Seen [] m 0 server client []) (sym happened)
-      (subst (λ (s : Stand server_side). Seen [] nothing_yet 0 s client []) (sym server_led)
-      (subst (λ (c : Stand client_side). Seen [] nothing_yet 0 server_start c []) (sym client_led) (record {
+      subst (λ (m : Between). Seen [] m [] server client []) (sym happened)
+      (subst (λ (s : Stand server_side). Seen [] nothing_yet [] s client []) (sym server_led)
+      (subst (λ (c : Stand client_side). Seen [] nothing_yet [] server_start c []) (sym client_led) (record {
         seen = nothing_yet;
         is_seen = seen_itself nothing_yet;
         shown = client_start;
@@ -326,8 +364,8 @@ module _ (read : Reading) (reads : IsReading read) (moments : ℕ → ℕ) (time
       unwritten far_unwritten near_untold server_led client_led.1 serves asks.0 port.0 told)
 
 -- events of a world lead to what both drives hold
-pub either_are_of_worlds : EitherAreOfWorlds
-either_are_of_worlds read reads b fair moments timed turns between server client did =
+pub tries_are_of_worlds : TriesAreOfWorlds
+tries_are_of_worlds read reads b fair moments timed turns between server client did =
     let at = reaches read reads moments timed b fair turns between did.happened did.resets did.server_start server did.client_start client did.begins did.untold
     did.unwritten did.server_unwritten did.client_untold did.server_led did.client_led did.serves did.asks did.ports did.told in
     let o = at.reached in
@@ -340,15 +378,44 @@ either_are_of_worlds read reads b fair moments timed turns between server client
       both = record {
         moment = o.last;
         ahead = o.ahead;
-        lead = o.lead;
+        gain = o.gain;
         fits = s.fits;
-        near = led_near o.lead o.more between at.seen (listened_in turns) server client at.shown o.so at.is_seen at.shows o.world.near
-            (s.near ∙ ap (λ n. near.data_closed (taken n)) (view_is o.lead at.shown));
+        near = gained_near o.gain o.more between at.seen (listened_in turns) server client at.shown o.so at.is_seen at.shows o.world.near
+            (s.near ∙ ap (λ n. near.data_closed (taken n)) (view_is o.gain at.shown));
         far = s.far;
-        reported = s.reported ∙ ap (λ r. reports_in (client_deeds turns) ++ r) (led_said o.lead o.more at.seen (listened_in turns) server at.shown o.so
+        reported = s.reported
+            ∙ ap (λ r. reports_in (client_deeds turns) ++ r) (gained_said o.gain o.more at.seen (listened_in turns) server at.shown o.so
             ∙ ap (λ r. option_to_list r) (shown_said between client at.shown at.shows));
         control = s.control;
-        marks = o.unmarked;
+        marked = o.marked;
+        cutoff = s.cutoff;
+      };
+      heard = o.heard;
+    }
+
+-- so they do where no dial fails, of which none is marked, and its client is ahead as there
+pub either_are_of_worlds : EitherAreOfWorlds
+either_are_of_worlds read reads b fair moments timed turns between server client did =
+    let o = tries_are_of_worlds read reads b fair moments timed turns between server client (did_try b moments turns between server client did) in
+    let s = o.both in
+    let whole = none_heard s.gain (has_failed turns) o.heard (none_failed turns did.server_start server did.server_led did.serves) in
+    let lead = lead_of s.gain whole in
+    record {
+      events = o.events;
+      timed = o.timed;
+      world = o.world;
+      leads = o.leads;
+      both = record {
+        moment = s.moment;
+        ahead = s.ahead;
+        lead = lead.0;
+        fits = s.fits;
+        near = subst (λ g. IsNear o.world.near (near.data_closed (near.reports (gained_by g client.owner.end.view)))) lead.1 s.near;
+        far = s.far;
+        reported = s.reported;
+        control = s.control;
+        marks = subst AreUnmarked (sym s.marked) (none_marked turns did.server_start server did.server_led did.serves did.client_start client did.client_led
+            did.asks);
         cutoff = s.cutoff;
       };
     }

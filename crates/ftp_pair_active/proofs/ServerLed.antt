@@ -117,7 +117,7 @@ abbrev owing : List ℕ → Far → Far
 owing octets v = record v { owed = octets }
 
 -- a client that was told a port is at no transfer
-told_job : (port : ℕ) (op : Op (List ℕ)) (n : Near) → is_transfer (listening port (busy (Doing op Steps.Listen) NearData.ListenWanted n)).job ≡ false
+pub told_job : (port : ℕ) (op : Op (List ℕ)) (n : Near) → is_transfer (listening port (busy (Doing op Steps.Listen) NearData.ListenWanted n)).job ≡ false
 unfolding listening
 told_job port op n = refl
 

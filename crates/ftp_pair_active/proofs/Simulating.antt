@@ -1,14 +1,14 @@
 -- Two drives that put and fetch files over data connections that either dials, as a list of a world's events: deed by deed.
-use Rattle.std.proofs.Common.{◌≡◌, ℕ, true, true≢false, List, [], ◌∷◌, ◌++◌, Option, option_to_list, refl, sym, ap, ap₂, subst, ◌∙◌, append-nil}
+use Rattle.std.proofs.Common.{◌≡◌, ℕ, Bool, true, true≢false, List, [], ◌∷◌, ◌++◌, Option, option_to_list, refl, sym, ap, ap₂, subst, ◌∙◌, append-nil}
 use Rattle.ftp_control.specs.Asking.{Reset}
-use Rattle.ftp_control.specs.Deeds.{Deed, Done, Led, Other, Stand}
+use Rattle.ftp_control.specs.Deeds.{Deed, Done, Led as HaveLed, Other, Stand}
 use Rattle.ftp_control.specs.Machine.{Aside, Left, Listening}
 use Rattle.ftp_client_drive.specs.Side.{Starting, client_side}
 use Rattle.ftp_endpoint.specs.declared.endpoint.Endpoint.{Endpoint}
 use Rattle.ftp_ends.specs.declared.link.Wants.TheVariants as Want
 use Rattle.ftp_client_model.specs.Calls as near
 use Rattle.ftp_client_model.specs.Calls.{accepted, data_closed, is_sound, listening}
-use Rattle.ftp_client_model.specs.View.{Doing, Idle, Job, Told as HasTold, Transferring, View as Near, Waiting}
+use Rattle.ftp_client_model.specs.View.{Doing, Flow, Idle, Job, Told as HasTold, Transferring, View as Near, Waiting}
 use Rattle.ftp_client_model.specs.declared.client.ClientLink.TheVariants as Data
 use Rattle.ftp_client_model.specs.declared.client.Replied.TheVariants as Replies
 use Rattle.ftp_client_model.specs.declared.client.Step.TheVariants as Steps
@@ -19,7 +19,7 @@ use Rattle.ftp_server_drive.specs.Side.{server_side}
 use Rattle.ftp_server_model.specs.Calls as far
 use Rattle.ftp_server_model.specs.Machine.{IsReading, Reading}
 use Rattle.ftp_pair_world.specs.Agreement.{Order}
-use Rattle.ftp_pair_world.specs.Claims.{AreUnmarked, Beginning, IsFair, state_of, world_of}
+use Rattle.ftp_pair_world.specs.Claims.{Beginning, IsFair, state_of, world_of}
 use Rattle.ftp_pair_world.specs.World.{Mark, World}
 use Rattle.ftp_pair_agreement.specs.Over.{OverRuns}
 use Rattle.ftp_pair_drives.specs.Alone.{ServerIsCalm, begun_by, reported_by}
@@ -38,49 +38,45 @@ use Rattle.ftp_pair_deeds.proofs.Plain.{Whatever}
 use Rattle.ftp_pair_deeds.proofs.Stands.{ClientFetches as ClientRests, ServerServes, wants_port}
 use Rattle.ftp_pair_transfers.specs.Ahead.{Ahead, Level, far_ahead}
 use Rattle.ftp_pair_transfers.specs.Deeds.{AreMoments, IsToldAt, begun_at, last_of, number_in}
-use Rattle.ftp_pair_transfers.proofs.Beside.{Together, marks_with}
+use Rattle.ftp_pair_transfers.proofs.Beside.{Together}
 use Rattle.ftp_pair_transfers.proofs.Known.{AreCarried, Known, both_carried}
 use Rattle.ftp_pair_transfers.proofs.Called.{BreaksNone}
 use Rattle.ftp_pair_transfers.proofs.Lost.{with_lost}
 use Rattle.ftp_pair_transfers.proofs.Running.{world_known}
-use Rattle.ftp_pair_transfers.proofs.Simulating.{ResetsNone, doing_same, orders_are}
-use Rattle.ftp_pair_transfers.proofs.Trying.{more_unmarked}
-use Rattle.ftp_pair_active.specs.Deeds.{ArePorts, AsksAlong, ClientTransfers, ServerTransfers, listened_in}
-use Rattle.ftp_pair_active.specs.Lead.{Even, Joined, Lead, Told, led_by}
+use Rattle.ftp_pair_transfers.proofs.Simulating.{ResetsNone, doing_same, orders_after, orders_are}
+use Rattle.ftp_pair_active.specs.Deeds.{ArePorts, listened_in}
+use Rattle.ftp_pair_active.specs.Lead.{Even, Joined, Told}
+use Rattle.ftp_pair_active.specs.Refusals.{AsksAlong, ClientTries, Gain, Heard, Led, ServerTries, gained_by, has_failed, is_heard, marked_by, marks_in}
 use Rattle.ftp_pair_active.proofs.Accepting.{joins}
 use Rattle.ftp_pair_active.proofs.Joining.{joins_form}
 use Rattle.ftp_pair_active.proofs.ClientLed as by_client
-use Rattle.ftp_pair_active.proofs.ClientLed.{client_led}
-use Rattle.ftp_pair_active.proofs.Leading.{Comes, Stays, Waits, led_between, led_client, led_told}
-use Rattle.ftp_pair_active.proofs.Leads.{LedSo, led_fetches}
+use Rattle.ftp_pair_active.proofs.ClientTries.{client_tries}
+use Rattle.ftp_pair_active.proofs.Calls.{Opens}
+use Rattle.ftp_pair_active.proofs.Gaining.{GainSo, GainsTo, gained_between, gained_client, gained_told}
+use Rattle.ftp_pair_active.proofs.Hearing.{listening_never}
+use Rattle.ftp_pair_active.proofs.Leading.{Comes, Stays, Waits}
+use Rattle.ftp_pair_active.proofs.Leads.{led_fetches}
 use Rattle.ftp_pair_active.proofs.ServerGoes as by_server
-use Rattle.ftp_pair_active.proofs.ServerLed.{resets_led, server_led}
+use Rattle.ftp_pair_active.proofs.ServerTries.{resets_tried, server_tries}
+use Rattle.ftp_pair_active.proofs.Trying.{tries_carrying, tries_fresh}
 use Rattle.ftp_pair_active.proofs.JoinedDeeds.{joined_never}
 use Rattle.ftp_pair_active.proofs.Keeping.{IsCarrying, IsKeeping, IsKeepingJob}
-use Rattle.ftp_pair_active.proofs.LedDeeds.{GoesLed}
-use Rattle.ftp_pair_active.proofs.Unsent.{StaysFresh, called_unaborted, deed_carrying, far_fresh, near_fresh}
+use Rattle.ftp_pair_active.proofs.Unsent.{StaysFresh, called_unaborted, far_fresh}
 
 -- ---- what was begun
 
 -- a deed begins such an operation, or nothing
-by_carried : (moment : ℕ) (deed : Deed client_side) (old new : client_side.End) → ClientTransfers deed old new → AreCarried (begun_by moment deed)
+by_carried : (moment : ℕ) (deed : Deed client_side) (old new : client_side.End) → ClientTries deed old new → AreCarried (begun_by moment deed)
 by_carried moment (Other (Aside (Starting op))) old new is = (is.0.0, tt)
 by_carried moment deed old new is = tt
 
 -- so all deeds do
-pub in_carried : (moments : ℕ → ℕ) (deeds : List (Deed client_side)) (start now : Stand client_side) (led : Led deeds start now) → AsksAlong deeds start now led
-    → AreCarried (begun_at moments deeds)
+pub in_carried : (moments : ℕ → ℕ) (deeds : List (Deed client_side)) (start now : Stand client_side) (led : HaveLed deeds start now)
+    → AsksAlong deeds start now led → AreCarried (begun_at moments deeds)
 in_carried moments [] start now led asks = tt
 in_carried moments (deed ∷ before) start now led asks =
     both_carried (begun_at moments before) (begun_by (moments (number_in before)) deed) (in_carried moments before start led.0 led.1 asks.0)
     (by_carried (moments (number_in before)) deed led.0.owner now.owner asks.1)
-
--- ---- marks
-
--- an operation that is begun has none
-all_unmarked : (more : List Order) (marks : List (List Mark)) → AreUnmarked marks → AreUnmarked (marks_with more marks)
-all_unmarked [] marks unmarked = unmarked
-all_unmarked (order ∷ more) marks unmarked = all_unmarked more (marks ++ [] ∷ []) (more_unmarked marks unmarked)
 
 -- ---- ports
 
@@ -105,10 +101,11 @@ client_listened deed before = refl
 
 -- ---- what a client that is ahead holds
 
-pub view_is : (lead : Lead) (c : Stand client_side) → (led_client lead c).owner.end.view ≡ led_by lead c.owner.end.view
-view_is Even c = refl
-view_is (Told port) c = refl
-view_is (Joined octets) c = refl
+pub view_is : (gain : Gain) (c : Stand client_side) → (gained_client gain c).owner.end.view ≡ gained_by gain c.owner.end.view
+view_is (Led Even) c = refl
+view_is (Led (Told port)) c = refl
+view_is (Led (Joined octets)) c = refl
+view_is (Heard octets) c = refl
 
 told_none : (port : ℕ) (op : Op (List ℕ)) (n : Near)
     → option_to_list (near.report_of (listening port (busy (Doing op Steps.Listen) Data.ListenWanted n))) ≡ []
@@ -124,52 +121,70 @@ joined_none d octets (Waits is a) =
     ap (λ n. option_to_list (near.report_of n)) (ap (λ l. accepted true (near.hears d l)) is ∙ joins_form d a)
     ∙ sym (ap (λ n. option_to_list (near.report_of n)) a.is)
 
+hearing_none : (d : Near) (octets : List ℕ) (op : Op (List ℕ)) (flow : Flow) (port octet : ℕ) (others : List ℕ) → octets ≡ octet ∷ others
+    → Opens op flow port d octets → option_to_list (near.report_of (near.hears d octets)) ≡ option_to_list (near.report_of d)
+hearing_none d octets op flow port octet others some o =
+    ap (λ n. option_to_list (near.report_of n)) o.whole ∙ sym (ap (λ n. option_to_list (near.report_of n)) (o.fronts [] others octet (sym some)).0)
+
 -- its report is the drive's
-pub led_said : (lead : Lead) (more : List ℕ) (between : Between) (told : ℕ) (server : Stand server_side) (c : Stand client_side)
-    → LedSo lead more between told server c
-    → option_to_list (near.report_of (led_client lead c).owner.end.view) ≡ option_to_list (near.report_of c.owner.end.view)
-led_said Even more between told server c so = refl
-led_said (Told port) more between told server c so =
+pub gained_said : (gain : Gain) (more : List ℕ) (between : Between) (told : ℕ) (server : Stand server_side) (c : Stand client_side)
+    → GainSo gain more between told server c
+    → option_to_list (near.report_of (gained_client gain c).owner.end.view) ≡ option_to_list (near.report_of c.owner.end.view)
+gained_said (Led Even) more between told server c so = refl
+gained_said (Led (Told port)) more between told server c so =
     ap (λ n. option_to_list (near.report_of (listening port n))) so.0.view ∙ told_none port so.0.op c.owner.end.view
     ∙ sym (ap (λ n. option_to_list (near.report_of n)) so.0.view)
-led_said (Joined octets) more between told server c so =
+gained_said (Led (Joined octets)) more between told server c so =
     joined_none (data_closed c.owner.end.view) octets so.0.stays.0
+gained_said (Heard octets) more between told server c so =
+    let h = so.0 in hearing_none (data_closed c.owner.end.view) octets h.op h.flow h.port h.octet h.others h.some h.opens
+
+-- how it stands
+pub gained_fetches : (gain : Gain) (more : List ℕ) (between : Between) (told : ℕ) (server : Stand server_side) (c : Stand client_side)
+    → GainSo gain more between told server c → ClientRests (gained_client gain c).owner
+gained_fetches (Led lead) more between told server c so = led_fetches lead more between told server c so
+gained_fetches (Heard octets) more between told server c so = record {
+  sound = ap (λ (n : Near). is_sound n.standing) so.0.opens.whole;
+  dials = ap (λ (n : Near). wants_port n.connection) so.0.opens.whole;
+}
 
 module _ (read : Reading) (reads : IsReading read) (moments : ℕ → ℕ) (timed : AreMoments moments) (b : Beginning) (fair : IsFair b) where
-  -- after deeds, a world is beside both drives, its client ahead so
-  pub record Reached (begun : List Order) (between : Between) (told : ℕ) (server : Stand server_side) (client : Stand client_side)
+  -- after an order of deeds, a world is beside both drives, its client ahead so, and its marks are those of dials that failed
+  pub record Reached (begun : List Order) (between : Between) (turns : List Turn) (server : Stand server_side) (client : Stand client_side)
       (reports : List Said) : Type 0 where
     pub world : World
     pub leads : LeadsOn read begun (world_of b) world
     pub last : ℕ
     pub ahead : Ahead
-    pub lead : Lead
+    pub gain : Gain
     pub more : List ℕ
-    pub so : LedSo lead more between told server client
-    pub together : Together read begun last ahead (led_between lead more between) (led_told lead told) server (led_client lead client) reports world
+    pub so : GainSo gain more between (listened_in turns) server client
+    pub together : Together read begun last ahead (gained_between gain more between) (gained_told gain (listened_in turns)) server (gained_client gain client)
+        reports world
     pub serves : ServerServes server.owner
     pub keeping : IsCarrying client.owner.end.view
     pub fresh : StaysFresh between client
-    pub unmarked : AreUnmarked world.marks
+    pub marked : world.marks ≡ marks_in turns
+    pub heard : is_heard gain ≡ true → has_failed turns ≡ true
 
   -- how a client that is ahead stands
-  pub asks : (begun : List Order) (between : Between) (told : ℕ) (server : Stand server_side) (client : Stand client_side) (reports : List Said)
-      → (o : Reached begun between told server client reports) → ClientRests (led_client o.lead client).owner
-  asks begun between told server client reports o = led_fetches o.lead o.more between told server client o.so
+  pub asks : (begun : List Order) (between : Between) (turns : List Turn) (server : Stand server_side) (client : Stand client_side) (reports : List Said)
+      → (o : Reached begun between turns server client reports) → ClientRests (gained_client o.gain client).owner
+  asks begun between turns server client reports o = gained_fetches o.gain o.more between (listened_in turns) server client o.so
 
-  pub runs : (begun : List Order) (between : Between) (told : ℕ) (server : Stand server_side) (client : Stand client_side) (reports : List Said)
-      → (o : Reached begun between told server client reports) → OverRuns read (state_of b) begun o.world
-  runs begun between told server client reports o = all_runs read reads b fair o.leads.events begun o.world o.leads.timed o.leads.leads
+  pub runs : (begun : List Order) (between : Between) (turns : List Turn) (server : Stand server_side) (client : Stand client_side) (reports : List Said)
+      → (o : Reached begun between turns server client reports) → OverRuns read (state_of b) begun o.world
+  runs begun between turns server client reports o = all_runs read reads b fair o.leads.events begun o.world o.leads.timed o.leads.leads
 
   -- as a session begins
   pub starts_so : (server : Stand server_side) (client : Stand client_side) → Begins b server client → server.owner.lane.untold ≡ []
-      → client.owner.lane.unwritten ≡ [] → server.owner.lane.unwritten ≡ [] → client.owner.lane.untold ≡ [] → Reached [] nothing_yet 0 server client []
+      → client.owner.lane.unwritten ≡ [] → server.owner.lane.unwritten ≡ [] → client.owner.lane.untold ≡ [] → Reached [] nothing_yet [] server client []
   starts_so server client begins untold unwritten far_unwritten near_untold = record {
     world = world_of b;
     leads = leads_none read (world_of b);
     last = 0;
     ahead = Level;
-    lead = Even;
+    gain = Led Even;
     more = [];
     so = (
       refl,
@@ -218,13 +233,14 @@ module _ (read : Reading) (reads : IsReading read) (moments : ℕ → ℕ) (time
     serves = record { running = ap (λ f. f.session.life) begins.server_view; none_waits = ap (λ f. f.waiting) begins.server_view };
     keeping = subst IsCarrying (sym begins.client_view) (record { job = tt; run = refl });
     fresh = λ e. absurd (true≢false (sym e));
-    unmarked = tt;
+    marked = refl;
+    heard = λ e. absurd (true≢false (sym e));
   }
 
   -- ---- what is known of it
 
-  module _ (deeds : List (Deed client_side)) (puts : AreCarried (begun_at moments deeds)) (p : Between) (told : ℕ) (server : Stand server_side)
-      (client : Stand client_side) (reports : List Said) (o : Reached (begun_at moments deeds) p told server client reports) where
+  module _ (deeds : List (Deed client_side)) (puts : AreCarried (begun_at moments deeds)) (p : Between) (turns : List Turn) (server : Stand server_side)
+      (client : Stand client_side) (reports : List Said) (o : Reached (begun_at moments deeds) p turns server client reports) where
     abbrev begun : List Order
     begun = begun_at moments deeds
 
@@ -233,7 +249,7 @@ module _ (read : Reading) (reads : IsReading read) (moments : ℕ → ℕ) (time
 
     pub known : Known o.world
     known =
-        world_known read reads (state_of b) begun puts o.world (runs begun p told server client reports o) o.together.beside.control o.together.beside.unready
+        world_known read reads (state_of b) begun puts o.world (runs begun p turns server client reports o) o.together.beside.control o.together.beside.unready
 
     -- one at a step of its operation took no octets
     step_keeps : is_doing v.job ≡ true → IsKeeping Fresh v
@@ -248,99 +264,111 @@ module _ (read : Reading) (reads : IsReading read) (moments : ℕ → ℕ) (time
 
     -- as one that dials is
     pub dials_keep : (endpoint : Endpoint) → near.wants v ≡ Want.Connect endpoint → IsKeeping Fresh v
-    dials_keep endpoint wants = by o.lead o.more o.so o.together
+    dials_keep endpoint wants = by o.gain o.more o.so o.together
       where
-        by : (lead : Lead) (more : List ℕ) → LedSo lead more p told server client
-            → Together read begun o.last o.ahead (led_between lead more p) (led_told lead told) server (led_client lead client) reports o.world
-            → IsKeeping Fresh v
-        by Even more so t =
+        by : (gain : Gain) (more : List ℕ) → GainSo gain more p (listened_in turns) server client
+            → Together read begun o.last o.ahead (gained_between gain more p) (gained_told gain (listened_in turns)) server (gained_client gain client) reports
+            o.world → IsKeeping Fresh v
+        by (Led Even) more so t =
             let near_is : o.world.near ≡ taken v = t.beside.near ∙ unclosed (taken v) (no_close v (Want.Connect endpoint) wants refl) in
             step_keeps (sym (doing_same v.job) ∙ ap (λ (n : Near). is_doing n.job) (sym near_is)
             ∙ (known.dials endpoint (ap near.wants near_is ∙ taken_wants v ∙ wants)).doing)
-        by (Told port) more so t = step_keeps (ap (λ (n : Near). is_doing n.job) so.0.view)
-        by (Joined octets) more so t =
-            absurd (joined_never read begun server client client reports o.world octets more p p told so o.last o.ahead t (Want.Connect endpoint) wants refl)
+        by (Led (Told port)) more so t = step_keeps (ap (λ (n : Near). is_doing n.job) so.0.view)
+        by (Led (Joined octets)) more so t =
+            absurd (joined_never read begun server client client reports o.world octets more p p (listened_in turns) so o.last o.ahead t (Want.Connect endpoint)
+            wants refl)
+        by (Heard octets) more so t = listening_never so.0.op so.0.flow so.0.port v (so.0.opens.fronts [] so.0.others so.0.octet (sym so.0.some)).0
+            (Want.Connect endpoint) wants refl
 
   -- ---- a deed
 
   -- where a world goes on with the server
-  far_reached : (deeds : List (Deed client_side)) (p q : Between) (told then : ℕ) (old new : Stand server_side) (client : Stand client_side)
-      (reports : List Said) → (o : Reached (begun_at moments deeds) p told old client reports)
-      → GoesLed read [] (begun_at moments deeds) q then new client reports o.world × ServerServes new.owner → StaysFresh q client
-      → Reached (begun_at moments deeds) q then new client reports
-  far_reached deeds p q told then old new client reports o went fresh =
+  far_reached : (deeds : List (Deed client_side)) (p q : Between) (told : ℕ) (before turns : List Turn) (old new : Stand server_side)
+      (client : Stand client_side) (reports : List Said) (marks : List (List Mark)) (failed : Bool)
+      → (o : Reached (begun_at moments deeds) p before old client reports)
+      → GainsTo read [] (begun_at moments deeds) q told new client reports marks failed o.world × ServerServes new.owner → told ≡ listened_in turns
+      → marks ≡ marks_in turns → failed ≡ has_failed turns → StaysFresh q client → Reached (begun_at moments deeds) q turns new client reports
+  far_reached deeds p q told before turns old new client reports marks failed o went told_is marks_are failed_is fresh =
       let begun : List Order = begun_at moments deeds in
-      let g = went.0 in
+      let g = subst (λ n. GainsTo read [] begun q n new client reports marks failed o.world) told_is went.0 in
       record {
         world = g.goes.world;
         leads = subst (λ l. LeadsOn read l (world_of b) g.goes.world) (append-nil begun)
             (leads_then read begun [] (world_of b) o.world g.goes.world o.leads g.goes.leads);
         last = g.goes.moment;
         ahead = g.goes.ahead;
-        lead = g.lead;
+        gain = g.gain;
         more = g.left;
         so = g.so;
         together = g.goes.together;
         serves = went.1;
         keeping = o.keeping;
         fresh = fresh;
-        unmarked = subst AreUnmarked (sym g.goes.marked) o.unmarked;
+        marked = g.goes.marked ∙ marks_are;
+        heard = λ e. sym failed_is ∙ g.heard e;
       }
 
   -- of the server, but a reset
   pub server_reaches : (deed : Deed server_side) → ResetsNone deed → (old new : Stand server_side) (deeds : List (Deed client_side)) (before : List Turn)
-      (p q : Between) (client : Stand client_side) (reports : List Said) → AreCarried (begun_at moments deeds) → ServerTransfers deed old.owner new.owner
+      (p q : Between) (client : Stand client_side) (reports : List Said) → AreCarried (begun_at moments deeds) → ServerTries deed old.owner new.owner
       → by_server.IsNext deed (listened_in before) → CanTurn (Server deed) p q → (did : Done deed old new)
-      → IsToldAt deed old new did (last_of moments (number_in deeds)) → Reached (begun_at moments deeds) p (listened_in before) old client reports
-      → Reached (begun_at moments deeds) q (listened_in (Server deed ∷ before)) new client reports
+      → IsToldAt deed old new did (last_of moments (number_in deeds)) → Reached (begun_at moments deeds) p before old client reports
+      → Reached (begun_at moments deeds) q (Server deed ∷ before) new client reports
   server_reaches deed kept old new deeds before p q client reports puts is next can did at o =
       let begun : List Order = begun_at moments deeds in
       let told : ℕ = listened_in before in
-      let went = server_led read reads (state_of b) moments deeds puts old new client reports o.world o.serves
-      (runs begun p told old client reports o) o.last o.ahead p q told (called_unaborted p client o.fresh) deed kept is next can did at o.lead o.more o.so
-      o.together (asks begun p told old client reports o) in
-      subst (λ n. Reached begun q n new client reports) (server_listened deed before)
-      (far_reached deeds p q told (by_server.told_by deed told) old new client reports o went (far_fresh p q client o.fresh (touch_in deed) can))
+      let went = server_tries read reads (state_of b) moments deeds puts old new client reports o.world o.serves
+      (runs begun p before old client reports o) o.last o.ahead p q told before (called_unaborted p client o.fresh) deed kept is next can did at o.gain o.more
+      o.so o.together (asks begun p before old client reports o) o.heard in
+      far_reached deeds p q (by_server.told_by deed told) before (Server deed ∷ before) old new client reports (marked_by (Server deed) o.world.marks)
+      (has_failed (Server deed ∷ before)) o went (server_listened deed before) (ap (marked_by (Server deed)) o.marked) refl
+      (far_fresh p q client o.fresh (touch_in deed) can)
 
   -- a reset: what was not written is on its way still there
   pub reset_reaches : (left written : Option (List ℕ)) (old new : Stand server_side) (deeds : List (Deed client_side)) (before : List Turn)
       (p : Between) (client : Stand client_side) (reports : List Said) → AreCarried (begun_at moments deeds) → ServerIsCalm old.owner new.owner
-      → IsStanding p.far → Done (Other (Left (Reset left written))) old new → Reached (begun_at moments deeds) p (listened_in before) old client reports
-      → Reached (begun_at moments deeds) (with_lost old.owner.lane.unwritten (with_hold TheServer Has_lost p)) (listened_in before) new client reports
+      → IsStanding p.far → Done (Other (Left (Reset left written))) old new → Reached (begun_at moments deeds) p before old client reports
+      → Reached (begun_at moments deeds) (with_lost old.owner.lane.unwritten (with_hold TheServer Has_lost p))
+      (Server (Other (Left (Reset left written))) ∷ before) new client reports
   reset_reaches left written old new deeds before p client reports puts calm stands did o =
       let begun : List Order = begun_at moments deeds in
       let told : ℕ = listened_in before in
-      let went = resets_led read reads (state_of b) moments deeds puts old new client reports o.world o.serves
-      (runs begun p told old client reports o) o.last o.ahead p p told (called_unaborted p client o.fresh) left written calm did stands o.lead o.more o.so
-      o.together (asks begun p told old client reports o) in
-      far_reached deeds p (with_lost old.owner.lane.unwritten (with_hold TheServer Has_lost p)) told told old new client reports o went
+      let went = resets_tried read reads (state_of b) moments deeds puts old new client reports o.world o.serves
+      (runs begun p before old client reports o) o.last o.ahead p p told before (called_unaborted p client o.fresh) left written calm did stands o.gain o.more
+      o.so o.together (asks begun p before old client reports o) o.heard in
+      far_reached deeds p (with_lost old.owner.lane.unwritten (with_hold TheServer Has_lost p)) told before
+      (Server (Other (Left (Reset left written))) ∷ before) old new client reports o.world.marks (has_failed before) o went refl o.marked refl
       (λ e. absurd (true≢false (sym e)))
 
   -- of the client, but that it is told of a break
   pub client_reaches : (deed : Deed client_side) → BreaksNone deed → (old new : Stand client_side) (deeds : List (Deed client_side)) (before : List Turn)
-      (p q : Between) (server : Stand server_side) (reports : List Said) → AreCarried (begun_at moments deeds) → ClientTransfers deed old.owner new.owner
+      (p q : Between) (server : Stand server_side) (reports : List Said) → AreCarried (begun_at moments deeds) → ClientTries deed old.owner new.owner
       → by_client.IsNext deed (listened_in before) → CanTurn (Client deed) p q → Done deed old new
-      → Reached (begun_at moments deeds) p (listened_in before) server old reports
-      → Reached (begun_at moments deeds ++ begun_by (moments (number_in deeds)) deed) q (listened_in (Client deed ∷ before)) server new
-      (reports ++ reported_by deed)
+      → Reached (begun_at moments deeds) p before server old reports
+      → Reached (begun_at moments deeds ++ begun_by (moments (number_in deeds)) deed) q (Client deed ∷ before) server new (reports ++ reported_by deed)
   client_reaches deed unbroken old new deeds before p q server reports puts is next can did o =
       let begun : List Order = begun_at moments deeds in
       let told : ℕ = listened_in before in
-      let g = client_led read reads (state_of b) moments timed deeds puts server old new reports o.world o.serves (runs begun p told server old reports o)
-      o.keeping.run o.last o.ahead p q told deed unbroken is next can did o.lead o.more o.so o.together (asks begun p told server old reports o) in
-      subst (λ n. Reached (begun ++ begun_by (moments (number_in deeds)) deed) q n server new (reports ++ reported_by deed)) (client_listened deed before)
-      (record {
+      let more : List Order = begun_by (moments (number_in deeds)) deed in
+      let g = subst (λ n. GainsTo read more (orders_after (moments (number_in deeds)) deed begun) q n server new (reports ++ reported_by deed)
+      (marked_by (Client deed) o.world.marks) (has_failed before) o.world) (client_listened deed before)
+      (client_tries read reads (state_of b) moments timed deeds puts server old new reports o.world o.serves (runs begun p before server old reports o)
+      o.keeping.run o.last o.ahead p q told (has_failed before) deed unbroken is next can did o.gain o.more o.so o.together
+      (asks begun p before server old reports o) o.heard) in
+      record {
         world = g.goes.world;
-        leads = leads_then read begun (begun_by (moments (number_in deeds)) deed) (world_of b) o.world g.goes.world o.leads g.goes.leads;
+        leads = leads_then read begun more (world_of b) o.world g.goes.world o.leads g.goes.leads;
         last = g.goes.moment;
         ahead = g.goes.ahead;
-        lead = g.lead;
+        gain = g.gain;
         more = g.left;
         so = g.so;
-        together = subst (λ l. Together read l g.goes.moment g.goes.ahead (led_between g.lead g.left q) (led_told g.lead (by_client.told_by deed told)) server
-            (led_client g.lead new) (reports ++ reported_by deed) g.goes.world) (orders_are (moments (number_in deeds)) deed begun) g.goes.together;
+        together = subst (λ l. Together read l g.goes.moment g.goes.ahead (gained_between g.gain g.left q)
+            (gained_told g.gain (listened_in (Client deed ∷ before))) server (gained_client g.gain new) (reports ++ reported_by deed) g.goes.world)
+            (orders_are (moments (number_in deeds)) deed begun) g.goes.together;
         serves = o.serves;
-        keeping = deed_carrying deed unbroken old new is did o.keeping;
-        fresh = near_fresh p q old new o.fresh deed unbroken is (dials_keep deeds puts p told server old reports o) did can;
-        unmarked = subst AreUnmarked (sym g.goes.marked) (all_unmarked (begun_by (moments (number_in deeds)) deed) o.world.marks o.unmarked);
-      })
+        keeping = tries_carrying deed unbroken old new is did o.keeping;
+        fresh = tries_fresh deed unbroken p q old new is o.keeping o.fresh (dials_keep deeds puts p before server old reports o) did can;
+        marked = g.goes.marked ∙ ap (marked_by (Client deed)) o.marked;
+        heard = g.heard;
+      }

@@ -3,3 +3,4 @@ pub mod Deeds
 pub mod Claims
 pub mod Over
 pub mod Quitting
+pub mod Refusals

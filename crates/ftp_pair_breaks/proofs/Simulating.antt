@@ -133,7 +133,7 @@ module _ (read : Reading) (reads : IsReading read) (moments : ℕ → ℕ) (time
         near_unsent old new deed unbroken is o.unsent
         (λ some octets rest gave. gave_by read (begun_at moments deeds) server old new (reports_in deeds) w is.1 o.at.serves old_asks old_known some octets rest
         o.at.last o.at.ahead p count gave o.at.together Unsent (λ op transfer unsent none all. unsent) o.unsent)
-        (λ endpoint refused. refused_plain read (begun_at moments deeds) server old new (reports_in deeds) w is.1 o.at.serves old_asks o.at.plain old_known
+        (λ endpoint refused. refused_plain read (begun_at moments deeds) server old new (reports_in deeds) w is.1 o.at.serves old_asks o.at.plain.run old_known
         endpoint o.at.last o.at.ahead p count refused Unsent) did
 
     -- it resets what it has

@@ -32,7 +32,7 @@ use Rattle.ftp_pair_data.proofs.Moves.{Rested}
 use Rattle.ftp_pair_data.proofs.Served.{after_settles, far_wants, rests, settled}
 use Rattle.ftp_pair_deeds.proofs.Holding.{unclosed}
 use Rattle.ftp_pair_deeds.proofs.NearForms.{Dialling, busy_same, dialling_of, wants_rest}
-use Rattle.ftp_pair_deeds.proofs.Plain.{IsPlainBy, IsPlainly}
+use Rattle.ftp_pair_deeds.proofs.Plain.{IsPlainBy}
 use Rattle.ftp_pair_deeds.proofs.Stands.{ClientFetches, ServerServes}
 use Rattle.ftp_pair_transfers.specs.Ahead.{Ahead, Listened}
 use Rattle.ftp_pair_transfers.proofs.Beside.{GoesTo, Takes, Together, Writes, is_taking, rested}
@@ -54,7 +54,7 @@ none_next (Doing op step) = refl
 none_next (Transferring op transfer) = refl
 none_next (Told said) = refl
 
-refused_is : (endpoint : Endpoint) (n : Near) → Dialling endpoint n → n.run ≡ None → data_refused n ≡ unopened n
+pub refused_is : (endpoint : Endpoint) (n : Near) → Dialling endpoint n → n.run ≡ None → data_refused n ≡ unopened n
 unfolding data_refused
 refused_is endpoint n d alone =
     let m : Near = record n { run = None; connection = NearData.Connecting endpoint; closing = false } in
@@ -62,7 +62,7 @@ refused_is endpoint n d alone =
     ap data_refused is ∙ ap (λ (next : Option (Op (List ℕ))). finishes_by next Unopened m) (none_next n.job)
 
 module _ (read : Reading) (orders : List Order) (server : Stand server_side) (old new : Stand client_side) (reports : List Said) (w : World)
-    (calm : ClientIsCalm old.owner new.owner) (serves : ServerServes server.owner) (before : ClientFetches old.owner) (plain : IsPlainly old.owner.end.view)
+    (calm : ClientIsCalm old.owner new.owner) (serves : ServerServes server.owner) (before : ClientFetches old.owner) (run : old.owner.end.view.run ≡ None)
     (known : Known w) where
   abbrev v : Near
   v = old.owner.end.view
@@ -80,18 +80,19 @@ module _ (read : Reading) (orders : List Order) (server : Stand server_side) (ol
     dialling : Dialling endpoint v
     dialling = dialling_of endpoint v wants
 
-    is : u ≡ unopened v
-    is = did.0.0.0.0 calm ∙ refused_is endpoint v dialling plain.run
+    -- so it holds that its operation was not opened
+    pub refused_view : u ≡ unopened v
+    refused_view = did.0.0.0.0 calm ∙ refused_is endpoint v dialling run
 
     lane : new.owner.lane ≡ with_asked new.owner.lane.asked old.owner.lane
     lane = did.0.1.1
 
     -- it has not failed, and stays plain, whatever is kept of its transfers
     pub refused_sound : is_sound_at u.standing ≡ true
-    refused_sound = ap (λ (n : Near). is_sound_at n.standing) is ∙ before.sound
+    refused_sound = ap (λ (n : Near). is_sound_at n.standing) refused_view ∙ before.sound
 
     pub refused_plain : (Kept : Op (List ℕ) → Transfer → Type 0) → IsPlainBy Kept u
-    refused_plain Kept = subst (IsPlainBy Kept) (sym is) (record { job = tt; port = refl; run = refl })
+    refused_plain Kept = subst (IsPlainBy Kept) (sym refused_view) (record { job = tt; port = refl; run = refl })
 
     pub client_refused : Together read orders moment ahead between told server old reports w
         → GoesTo read [] orders between told server new (reports ++ []) (marked_last WasRefused w.marks) w
@@ -152,7 +153,7 @@ module _ (read : Reading) (orders : List Order) (server : Stand server_side) (ol
         then_is = ap data_refused near_is ∙ sym (did.0.0.0.0 calm)
 
         open_now : now.near.closing ≡ false
-        open_now = ap (λ (n : Near). n.closing) (then_is ∙ is)
+        open_now = ap (λ (n : Near). n.closing) (then_is ∙ refused_view)
 
         wanted : near.wants w.near ≡ Want.Connect endpoint
         wanted = ap near.wants near_is ∙ wants
@@ -166,7 +167,7 @@ module _ (read : Reading) (orders : List Order) (server : Stand server_side) (ol
             ∙ ap (λ q. is_wanted (Want.Connect endpoint) q) (far_wants w.far r.runs.running r.far_open ∙ ap far.wants_of there.far)
 
         rest_then : rests (near.wants (data_closed now.near)) ≡ true
-        rest_then = ap (λ n. rests (near.wants (data_closed n))) (then_is ∙ is) ∙ wants_rest (unopened v) before.sound refl refl
+        rest_then = ap (λ n. rests (near.wants (data_closed n))) (then_is ∙ refused_view) ∙ wants_rest (unopened v) before.sound refl refl
 
         leads : LeadsOn read [] w (settled now)
         leads = one_leads read Refuse w (settled now) tt (asked, sym (ap after_event refuses ∙ after_settles now rest_then r.runs))

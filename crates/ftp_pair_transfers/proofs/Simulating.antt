@@ -324,9 +324,9 @@ module _ (read : Reading) (reads : IsReading read) (moments : ℕ → ℕ) (time
       )
   client_goes (Other (Refused (NotConnected endpoint ∷ []))) unbroken old new is deeds puts p q can told server reports o plain did = (
     subst (λ (m : Between). GoesTo read [] (begun_at moments deeds) m told server new (reports ++ []) (marked_last WasRefused o.world.marks) o.world) (sym can)
-        (client_refused read (begun_at moments deeds) server old new reports o.world is.1 o.serves (asks deeds p told server old reports o puts) o.plain
+        (client_refused read (begun_at moments deeds) server old new reports o.world is.1 o.serves (asks deeds p told server old reports o puts) o.plain.run
         (known deeds p told server old reports o puts) endpoint o.last o.ahead p told did o.together),
-    refused_sound read (begun_at moments deeds) server old new reports o.world is.1 o.serves (asks deeds p told server old reports o puts) o.plain
+    refused_sound read (begun_at moments deeds) server old new reports o.world is.1 o.serves (asks deeds p told server old reports o puts) o.plain.run
         (known deeds p told server old reports o puts) endpoint o.last o.ahead p told did,
   )
   client_goes (Other (Gave count octets rest)) unbroken old new is deeds puts p q can told server reports o plain did = (
@@ -421,7 +421,7 @@ module _ (read : Reading) (reads : IsReading read) (moments : ℕ → ℕ) (time
   client_plain (Other (Opened host (Connected endpoint left written ∷ []) at_first so_far rest)) unbroken old new is deeds puts p told server reports o did =
       deed_plain Whatever whatever_kept old new (Other (Opened host (Connected endpoint left written ∷ []) at_first so_far rest)) tt (tt, is.1) did o.plain
   client_plain (Other (Refused (NotConnected endpoint ∷ []))) unbroken old new is deeds puts p told server reports o did =
-      refused_plain read (begun_at moments deeds) server old new reports o.world is.1 o.serves (asks deeds p told server old reports o puts) o.plain
+      refused_plain read (begun_at moments deeds) server old new reports o.world is.1 o.serves (asks deeds p told server old reports o puts) o.plain.run
       (known deeds p told server old reports o puts) endpoint o.last o.ahead p told did Whatever
   client_plain (Other (Gave count octets rest)) unbroken old new is deeds puts p told server reports o did =
       gave_plain read (begun_at moments deeds) server old new reports o.world is.1 o.serves (asks deeds p told server old reports o puts)
@@ -459,5 +459,5 @@ module _ (read : Reading) (reads : IsReading read) (moments : ℕ → ℕ) (time
       (λ f count octets rest gave. gave_fresh read (begun_at moments deeds) server old new reports o.world is.1 o.serves
       (asks deeds p told server old reports o puts) (known deeds p told server old reports o puts) count octets rest o.last o.ahead p told gave o.together f)
       (λ endpoint refused. refused_plain read (begun_at moments deeds) server old new reports o.world is.1 o.serves
-      (asks deeds p told server old reports o puts) o.plain (known deeds p told server old reports o puts) endpoint o.last o.ahead p told refused Fresh)
+      (asks deeds p told server old reports o puts) o.plain.run (known deeds p told server old reports o puts) endpoint o.last o.ahead p told refused Fresh)
       did can
