@@ -18,7 +18,7 @@ use Rattle.ftp_server_model.specs.declared.session.ServerLink.TheVariants as Dat
 use Rattle.ftp_pair_world.specs.Agreement.{Order}
 use Rattle.ftp_pair_world.specs.Events.{Break as Breaks, broken_by, is_gone, lends_none, link_breaks}
 use Rattle.ftp_pair_world.specs.Serving.{after_event}
-use Rattle.ftp_pair_world.specs.World.{Broken, World, gone, marked_last, port_at, with_mark}
+use Rattle.ftp_pair_world.specs.World.{Broken, Opened, World, gone, marked_last, port_at, with_mark}
 use Rattle.ftp_pair_agreement.proofs.Chunks.{both_empty}
 use Rattle.ftp_pair_drives.specs.Alone.{ServerIsCalm}
 use Rattle.ftp_pair_drives.specs.Between.{Between}
@@ -37,9 +37,9 @@ use Rattle.ftp_pair_transfers.proofs.Beside.{GoesTo, Takes, Together, is_taking}
 use Rattle.ftp_pair_transfers.proofs.Known.{Known, is_giving, is_near_held}
 use Rattle.ftp_pair_transfers.proofs.ServerGiving.{gives_octets}
 use Rattle.ftp_pair_transfers.proofs.Settling.{far_held}
-use Rattle.ftp_pair_breaks.proofs.Feeding.{Gives}
 use Rattle.ftp_pair_breaks.proofs.Rows.{breaking}
-use Rattle.ftp_pair_breaks.proofs.Untold.{Loading, fault_told, loading_of, told, told_alike, told_closed, told_none, told_open, told_reports, told_wants}
+use Rattle.ftp_pair_breaks.proofs.Laden.{Laden, laden_alike, laden_closed, laden_none, laden_open, laden_reports, laden_rests}
+use Rattle.ftp_pair_breaks.proofs.Untold.{told}
 
 -- ---- the server
 
@@ -127,7 +127,7 @@ module _ (read : Reading) (begun : List Order) (server : Stand server_side) (cli
 -- ---- both
 
 module _ (read : Reading) (begun : List Order) (old new : Stand server_side) (before now : Stand client_side) (reports : List Said) (w : World)
-    (serves : ServerServes old.owner) (sends : far.wants old.owner.end.server.view ≡ Want.Send) (known : Known w) (g : Gives w) where
+    (serves : ServerServes old.owner) (sends : far.wants old.owner.end.server.view ≡ Want.Send) (known : Known w) (laden : Laden w.near) (link : w.link ≡ Opened) where
   abbrev v : Far
   v = old.owner.end.server.view
 
@@ -140,17 +140,13 @@ module _ (read : Reading) (begun : List Order) (old new : Stand server_side) (be
   abbrev s : Sends v
   s = gave read begun old before reports w serves sends
 
-  -- the client takes octets, and has no final reply
-  loads : Loading w.near
-  loads = loading_of w.near g.loads g.unfinal
-
   -- the client is told, and the server
   abbrev then_near : Near
   then_near = near.data_fault w.near
 
   -- it is told so
   then_told : then_near ≡ told w.near
-  then_told = fault_told w.near loads
+  then_told = laden.stays
 
   abbrev broken : World
   broken = record (gone (record w { near = then_near; far = far.data_fault w.far; taken = [] })) { marks = marked_last (Broken w.came) w.marks }
@@ -181,7 +177,7 @@ module _ (read : Reading) (begun : List Order) (old new : Stand server_side) (be
 
     -- what the event does
     breaks : link_breaks (lends_none w) ≡ broken
-    breaks = ap (λ l. with_mark (Broken w.came) (gone (broken_by l (lends_none w)))) g.link
+    breaks = ap (λ l. with_mark (Broken w.came) (gone (broken_by l (lends_none w)))) link
 
     -- the server runs on
     runs : Runs broken.far
@@ -193,18 +189,18 @@ module _ (read : Reading) (begun : List Order) (old new : Stand server_side) (be
     -- the client wants nothing of the world
     near_rests : rests (near.wants (data_closed then_near)) ≡ true
     near_rests =
-        ap (λ m. rests (near.wants (data_closed m))) then_told ∙ ap (λ m. rests (near.wants m)) (told_closed w.near loads) ∙ ap rests (told_wants w.near loads)
+        ap (λ m. rests (near.wants (data_closed m))) then_told ∙ ap (λ m. rests (near.wants m)) (laden_closed w.near laden) ∙ ap rests (laden_rests w.near laden)
 
     -- the event leads there
     leads : LeadsOn read [] w (settled broken)
     leads =
-        one_leads read Breaks w (settled broken) tt (ap (λ l. not (is_gone l)) g.link, sym (ap after_event breaks ∙ after_settles broken near_rests runs))
+        one_leads read Breaks w (settled broken) tt (ap (λ l. not (is_gone l)) link, sym (ap after_event breaks ∙ after_settles broken near_rests runs))
 
     open_near : then_near.closing ≡ false
-    open_near = ap (λ (m : Near). m.closing) then_told ∙ told_open w.near loads
+    open_near = ap (λ (m : Near). m.closing) then_told ∙ laden_open w.near laden
 
     none_near : report_of then_near ≡ None
-    none_near = ap report_of then_told ∙ (told_alike w.near loads).0 ∙ told_none w.near loads
+    none_near = ap report_of then_told ∙ (laden_alike w.near laden).0 ∙ laden_none w.near laden
 
     f : FarSettles broken (settled broken)
     f = far_settles broken none_near open_near refl
@@ -219,7 +215,7 @@ module _ (read : Reading) (begun : List Order) (old new : Stand server_side) (be
     -- nothing is due of the client
     near_done : data_closed (taken then_near) ≡ then_near
     near_done =
-        ap (λ m. data_closed (taken m)) then_told ∙ ap data_closed (sym (reports_is (told w.near)) ∙ told_reports w.near loads) ∙ told_closed w.near loads
+        ap (λ m. data_closed (taken m)) then_told ∙ ap data_closed (sym (reports_is (told w.near)) ∙ laden_reports w.near laden) ∙ laden_closed w.near laden
         ∙ sym then_told
 
     module _ (at : ℕ) (far_is : u ≡ clock_step at (broke v)) (near_was : w.near ≡ n) (near_is : now.owner.end.view ≡ data_fault n)
@@ -234,7 +230,7 @@ module _ (read : Reading) (begun : List Order) (old new : Stand server_side) (be
 
       reported : w.reports ≡ (reports ++ []) ++ option_to_list (report_of now.owner.end.view)
       reported =
-          t.beside.reported ∙ ap (λ m. reports ++ option_to_list (report_of m)) (sym near_was) ∙ ap (λ o. reports ++ option_to_list o) (told_none w.near loads)
+          t.beside.reported ∙ ap (λ m. reports ++ option_to_list (report_of m)) (sym near_was) ∙ ap (λ o. reports ++ option_to_list o) (laden_none w.near laden)
           ∙ sym (append-nil (reports ++ [])) ∙ ap (λ o. (reports ++ []) ++ option_to_list o) (sym (ap report_of view_is ∙ none_near))
 
       pub both_broken : GoesTo read [] begun next told_here new now (reports ++ []) (marked_last (Broken w.came) w.marks) w

@@ -10,6 +10,7 @@ use Rattle.ftp_control.specs.declared.whole.Fate.TheVariants as Fates
 use Rattle.ftp_client_drive.specs.Side.{client_side}
 use Rattle.ftp_client_model.specs.Calls as near
 use Rattle.ftp_client_model.specs.Calls.{data_fault, hears, is_sound, may_hear}
+use Rattle.ftp_client_model.specs.Plan.{count_of}
 use Rattle.ftp_client_model.specs.View.{View as Near}
 use Rattle.ftp_ends.specs.declared.link.Wants.TheVariants as Want
 use Rattle.ftp_server_drive.specs.Side.{Timed, server_side}
@@ -43,13 +44,15 @@ use Rattle.ftp_pair_breaks.proofs.ClientBroken.{broken_lane}
 use Rattle.ftp_pair_breaks.proofs.Drained.{dried, dry}
 use Rattle.ftp_pair_breaks.proofs.Faults.{faulted, faulted_plain, loads_taken}
 use Rattle.ftp_pair_breaks.proofs.Feeding.{Gives}
+use Rattle.ftp_pair_breaks.proofs.Laden.{loading_laden}
 use Rattle.ftp_pair_breaks.proofs.Lagging.{Lags, OfMarks, Then, Whole, beside, unbroken}
-use Rattle.ftp_pair_breaks.proofs.Preceding.{Precedes, behind, gives_at, gives_now, near_at, near_is, steady, steady_here, steady_now, unaware}
+use Rattle.ftp_pair_breaks.proofs.Last.{AreFew, LastAll, last_few, short_few}
+use Rattle.ftp_pair_breaks.proofs.Preceding.{Precedes, asks_all, behind, gives_at, gives_now, near_at, near_is, steady, steady_here, steady_now, unaware}
 use Rattle.ftp_pair_breaks.proofs.Rows.{Steady}
 use Rattle.ftp_pair_breaks.proofs.Steps.{Again, At, both_again, client_step, same_again, server_step}
 use Rattle.ftp_pair_breaks.proofs.Unaware.{late_break, steady_told}
-use Rattle.ftp_pair_breaks.proofs.Untold.{Loading, fault_told, loading_of, loads_of, told_wants}
-use Rattle.ftp_pair_breaks.proofs.Unsent.{AskAll, Unsent, all_carried, unsent_kept}
+use Rattle.ftp_pair_breaks.proofs.Untold.{Loading, fault_told, loading_of, loading_short, loads_of, told_wants}
+use Rattle.ftp_pair_breaks.proofs.Unsent.{Unsent, unsent_kept}
 
 -- none counted
 no_counts : Counts
@@ -142,7 +145,7 @@ module _ (read : Reading) (reads : IsReading read) (moments : ℕ → ℕ) (time
 
   -- ---- the client is told last
 
-  module _ {Are : OfMarks} (deeds : List (Deed client_side)) (puts : AskAll (begun_at moments deeds)) (before : List (Deed server_side))
+  module _ {Are : OfMarks} (deeds : List (Deed client_side)) (carried : AreCarried (begun_at moments deeds)) (before : List (Deed server_side))
       (ports : ArePorts before)
       (p q : Between) (server : Stand server_side) (old new : Stand client_side)
       (l : Precedes read reads moments timed b fair Are deeds p (listened_in before) server old)
@@ -156,14 +159,15 @@ module _ (read : Reading) (reads : IsReading read) (moments : ℕ → ℕ) (time
     abbrev n : Near
     n = l.near
 
-    carried : AreCarried (begun_at moments deeds)
-    carried = all_carried (begun_at moments deeds) puts
+    abbrev g : Gives (begun_at moments deeds) w
+    g = gives_now read reads moments timed b fair deeds carried p count server old l
 
-    abbrev g : Gives w
-    g = gives_now read reads moments timed b fair deeds puts p count server old l
+    -- all was asked for
+    all : count_of g.loads.op ≡ None
+    all = asks_all read reads moments timed b fair deeds carried p count server old l
 
     near_was : w.near ≡ n
-    near_was = near_is read reads moments timed b fair deeds puts p count server old l
+    near_was = near_is read reads moments timed b fair deeds carried p count server old l
 
     -- it has no final reply
     loads : Loading n
@@ -173,17 +177,17 @@ module _ (read : Reading) (reads : IsReading read) (moments : ℕ → ℕ) (time
     IsSteady v = Steady g.loads.op g.loads.decoder g.loads.mark v
 
     here : IsSteady n
-    here = steady_here read reads moments timed b fair deeds puts p count server old l
+    here = steady_here read reads moments timed b fair deeds carried p count server old l
 
     -- it has taken as many as the world counts
     has_taken : HasTaken old.owner.end.view.job w.came
     has_taken =
-        let now = steady_now read reads moments timed b fair deeds puts p count server old l in
+        let now = steady_now read reads moments timed b fair deeds carried p count server old l in
         subst (λ (v : Near). HasTaken v.job w.came) (sym now.is) g.read
 
     -- whatever it hears of what is on its way
     fronts : (front rest : List ℕ) → l.queue ++ l.said ≡ front ++ rest → IsSteady (hears n front)
-    fronts = steady read reads moments timed b fair deeds puts p count server old l
+    fronts = steady read reads moments timed b fair deeds carried p count server old l
 
     lane : new.owner.lane ≡ with_fate Fates.Broken old.owner.lane
     lane = did.0.1
@@ -234,7 +238,7 @@ module _ (read : Reading) (reads : IsReading read) (moments : ℕ → ℕ) (time
         (level read (begun_at moments deeds) l.were were (reports_in deeds) w l.at.serves l.sends l.at.last l.at.ahead (behind p) count l.at.together)
         l.at.together in
         both_again read reads moments timed b fair deeds l.at (marked_last (Broken w.came) w.marks) ways first_far first
-        (both_broken read (begun_at moments deeds) l.were first_far were first (reports_in deeds) w l.at.serves l.sends known_now g l.at.last (behind p) ways
+        (both_broken read (begun_at moments deeds) l.were first_far were first (reports_in deeds) w l.at.serves l.sends known_now (loading_laden w.near (loading_of w.near g.loads g.unfinal)) g.link l.at.last (behind p) ways
         count at_level l.moment refl near_was refl l.unread refl refl refl l.untold l.none (broken_lane old.owner.lane new.owner.lane lane) takes written)
         (record { running = l.at.serves.running; none_waits = l.at.serves.none_waits }) first_sound
         (faulted_plain Whatever n (loads_of n loads) l.at.plain) (none_fresh refl)
@@ -305,7 +309,7 @@ module _ (read : Reading) (reads : IsReading read) (moments : ℕ → ℕ) (time
         let split : l.queue ++ l.said ≡ l.heard ++ (old.unheard ++ p.control.to_client) = l.split in
         let view : new.owner.end.view ≡ hears (data_fault n) l.heard =
         did.0.0.0.0 is.1 ∙ ap data_fault l.view
-        ∙ late_break g.loads.op g.loads.all g.loads.decoder g.loads.mark n here l.heard (fronts l.heard (old.unheard ++ p.control.to_client) split) in
+        ∙ late_break g.loads.op all g.loads.decoder g.loads.mark n here l.heard (fronts l.heard (old.unheard ++ p.control.to_client) split) in
         let may : (k : ℕ) → k < length l.heard → may_hear (hears (data_fault n) (take k (l.heard ++ new.unheard))) ≡ true =
         λ k less.
         let front : List ℕ = take k l.heard in
@@ -314,8 +318,8 @@ module _ (read : Reading) (reads : IsReading read) (moments : ℕ → ℕ) (time
         fronts front rest (split ∙ ap (λ o. o ++ (old.unheard ++ p.control.to_client)) (sym (take-append-drop k l.heard))
         ∙ append_assoc front (drop k l.heard) (old.unheard ++ p.control.to_client)) in
         ap (λ o. may_hear (hears (data_fault n) o)) (take-append-le k l.heard new.unheard (omega (arith, less)))
-        ∙ ap may_hear (sym (late_break g.loads.op g.loads.all g.loads.decoder g.loads.mark n here front is_front))
-        ∙ steady_told g.loads.op g.loads.all g.loads.decoder g.loads.mark (hears n front) is_front in
+        ∙ ap may_hear (sym (late_break g.loads.op all g.loads.decoder g.loads.mark n here front is_front))
+        ∙ steady_told g.loads.op all g.loads.decoder g.loads.mark (hears n front) is_front in
         record {
           hears = (
             ((λ same. (view ∙ ap (hears (data_fault n)) (sym first_is), may), λ differ. absurd (differ calm)), inl calm),
@@ -339,22 +343,19 @@ module _ (read : Reading) (reads : IsReading read) (moments : ℕ → ℕ) (time
           are_marks = (l.marks, l.are_marks, inr (w.came, has_taken, refl));
           marked = got.1 ∙ read_so.1 ∙ ap (marked_last (Broken w.came)) l.marked;
           unsent = subst (IsPlainBy Unsent)
-              (sym (did.0.0.0.0 is.1 ∙ ap data_fault l.view ∙ late_break g.loads.op g.loads.all g.loads.decoder g.loads.mark n here l.heard
+              (sym (did.0.0.0.0 is.1 ∙ ap data_fault l.view ∙ late_break g.loads.op all g.loads.decoder g.loads.mark n here l.heard
               (fronts l.heard (old.unheard ++ p.control.to_client) l.split)))
               (hears_plain Unsent unsent_kept l.heard (data_fault n) first_unsent);
         }
 
   -- ---- the server is told
 
-  module _ (deeds : List (Deed client_side)) (puts : AskAll (begun_at moments deeds)) (p q : Between) (count : ℕ) (old new : Stand server_side)
+  module _ (deeds : List (Deed client_side)) (carried : AreCarried (begun_at moments deeds)) (p q : Between) (count : ℕ) (old new : Stand server_side)
       (client : Stand client_side) (is : (far.wants old.owner.end.server.view ≡ Want.Send) × ServerIsCalm old.owner new.owner)
       (can : Can TheServer ToldBreak p q)
       (did : Calls {side = server_side} Break old new) where
     abbrev was : Stand server_side
     was = dried old
-
-    all_carried_here : AreCarried (begun_at moments deeds)
-    all_carried_here = all_carried (begun_at moments deeds) puts
 
     -- its lane
     far_lane : new.owner.lane ≡ with_fate Fates.Broken old.owner.lane
@@ -379,6 +380,10 @@ module _ (read : Reading) (reads : IsReading read) (moments : ℕ → ℕ) (time
           none_waits = ap (λ (v : Far). v.waiting) t.1 ∙ serves.none_waits;
         }
 
+    -- less came of one that was told than was asked for
+    few_then : {Are : OfMarks} (l : Lags read reads moments timed b fair Are deeds p count was client) → AreFew (begun_at moments deeds) l.was.end.view.job
+    few_then {Are} l = short_few (begun_at moments deeds) l.was.end.view.job (loading_short l.was.end.view l.loads)
+
     -- the client was told before: both are told
     both_again_then : {Are : OfMarks} (l : Lags read reads moments timed b fair Are deeds p count was client)
         → Again read reads moments timed b fair deeds q count (dried new) client (marked_last (Broken l.at.world.came) l.at.world.marks)
@@ -387,19 +392,21 @@ module _ (read : Reading) (reads : IsReading read) (moments : ℕ → ℕ) (time
         let w : World = l.at.world in
         let serves : ServerServes old.owner = record { running = l.at.serves.running; none_waits = l.at.serves.none_waits } in
         let t = told_now serves in
-        let known_now = known read reads moments timed b fair deeds (unbroken p) count was before _ l.at all_carried_here in
-        let g : Gives w = gives_at read reads moments timed b fair deeds puts (unbroken p) count was before l.at is.0 l.unsent in
-        let near_was : w.near ≡ l.was.end.view = near_at read reads moments timed b fair deeds puts (unbroken p) count was before l.at is.0 l.unsent in
+        let known_now = known read reads moments timed b fair deeds (unbroken p) count was before _ l.at carried in
+        let g : Gives (begun_at moments deeds) w =
+        gives_at read reads moments timed b fair deeds carried (unbroken p) count was before l.at is.0 (few_then l) l.unsent in
+        let near_was : w.near ≡ l.was.end.view =
+        near_at read reads moments timed b fair deeds carried (unbroken p) count was before l.at is.0 (few_then l) l.unsent in
         let at_level : Together read (begun_at moments deeds) l.at.last Level (unbroken p) count was before (reports_in deeds) w =
         subst (λ a. Together read (begun_at moments deeds) l.at.last a (unbroken p) count was before (reports_in deeds) w)
         (level read (begun_at moments deeds) was before (reports_in deeds) w l.at.serves is.0 l.at.last l.at.ahead (unbroken p) count l.at.together)
         l.at.together in
-        let there = none_there read (begun_at moments deeds) was (dried new) before client (reports_in deeds) w l.at.serves is.0 known_now g l.at.last
+        let there = none_there read (begun_at moments deeds) was (dried new) before client (reports_in deeds) w l.at.serves is.0 known_now (loading_laden w.near (loading_of w.near g.loads g.unfinal)) g.link l.at.last
         (unbroken p) q count at_level in
         let view : client.owner.end.view ≡ data_fault l.was.end.view = l.view ∙ sym (fault_told l.was.end.view l.loads) in
         let loads = loads_of l.was.end.view l.loads in
         both_again read reads moments timed b fair deeds l.at (marked_last (Broken w.came) w.marks) q (dried new) client
-        (both_broken read (begun_at moments deeds) was (dried new) before client (reports_in deeds) w l.at.serves is.0 known_now g l.at.last
+        (both_broken read (begun_at moments deeds) was (dried new) before client (reports_in deeds) w l.at.serves is.0 known_now (loading_laden w.near (loading_of w.near g.loads g.unfinal)) g.link l.at.last
         (unbroken p) q count at_level t.0 t.1 near_was view unread refl (ap (λ (m : Between). m.control) can.1)
         (ap (λ (m : Between). m.data_ways.to_server) can.1) (ap (λ (x : Lane). x.untold) far_lane ∙ there.0) dry_now l.lane.dry l.lane.takes l.lane.written)
         (record { running = (serves_now serves).running; none_waits = (serves_now serves).none_waits })
@@ -414,9 +421,10 @@ module _ (read : Reading) (reads : IsReading read) (moments : ℕ → ℕ) (time
         let came : ℕ = l.at.world.came in
         let loads = loads_of l.was.end.view l.loads in
         let before : Stand client_side = beside l.was client in
-        let g : Gives l.at.world = gives_at read reads moments timed b fair deeds puts (unbroken p) count was before l.at is.0 l.unsent in
+        let g : Gives (begun_at moments deeds) l.at.world =
+        gives_at read reads moments timed b fair deeds carried (unbroken p) count was before l.at is.0 (few_then l) l.unsent in
         let near_was : l.at.world.near ≡ l.was.end.view =
-        near_at read reads moments timed b fair deeds puts (unbroken p) count was before l.at is.0 l.unsent in
+        near_at read reads moments timed b fair deeds carried (unbroken p) count was before l.at is.0 (few_then l) l.unsent in
         let taken : HasTaken l.was.end.view.job came =
         subst (λ (v : Near). HasTaken v.job came) near_was (loads_taken l.at.world.near g.loads came g.read) in
         let view : client.owner.end.view ≡ data_fault l.was.end.view = l.view ∙ sym (fault_told l.was.end.view l.loads) in
@@ -428,24 +436,25 @@ module _ (read : Reading) (reads : IsReading read) (moments : ℕ → ℕ) (time
           unsent = subst (IsPlainBy Unsent) (sym view) (faulted_plain Unsent l.was.end.view loads l.unsent);
         }
 
-    -- it is to be told: the server is told first
-    pub told_first : {Are : OfMarks} → Whole read reads moments timed b fair Are deeds p count was client
+    -- it is to be told: the server is told first, of an operation that asks for all
+    pub told_first : {Are : OfMarks} → LastAll (begun_at moments deeds) → Whole read reads moments timed b fair Are deeds p count was client
         → Precedes read reads moments timed b fair Are deeds q count new client
-    told_first {Are} o =
+    told_first {Are} asks o =
         let w : World = o.at.world in
         let n : Near = client.owner.end.view in
         let queue : List ℕ = client.unheard ++ p.control.to_client in
         let serves : ServerServes old.owner = record { running = o.at.serves.running; none_waits = o.at.serves.none_waits } in
         let t = told_now serves in
-        let known_now = known read reads moments timed b fair deeds p count was client _ o.at all_carried_here in
-        let g : Gives w = gives_at read reads moments timed b fair deeds puts p count was client o.at is.0 o.unsent in
+        let known_now = known read reads moments timed b fair deeds p count was client _ o.at carried in
+        let g : Gives (begun_at moments deeds) w =
+        gives_at read reads moments timed b fair deeds carried p count was client o.at is.0 (last_few (begun_at moments deeds) n.job asks) o.unsent in
         let at_level : Together read (begun_at moments deeds) o.at.last Level p count was client (reports_in deeds) w =
         subst (λ a. Together read (begun_at moments deeds) o.at.last a p count was client (reports_in deeds) w)
         (level read (begun_at moments deeds) was client (reports_in deeds) w o.at.serves is.0 o.at.last o.at.ahead p count o.at.together)
         o.at.together in
-        let there = none_there read (begun_at moments deeds) was (dried new) client client (reports_in deeds) w o.at.serves is.0 known_now g o.at.last
+        let there = none_there read (begun_at moments deeds) was (dried new) client client (reports_in deeds) w o.at.serves is.0 known_now (loading_laden w.near (loading_of w.near g.loads g.unfinal)) g.link o.at.last
         p q count at_level in
-        let got = resplit deeds all_carried_here p (behind q) count was client (unaware client.owner.end.refusals n queue client.owner.lane) o.at refl
+        let got = resplit deeds carried p (behind q) count was client (unaware client.owner.end.refusals n queue client.owner.lane) o.at refl
         (ap (λ (m : Between). m.control.to_server) can.1) (sym (append-nil queue)) (ap (λ (m : Between). m.data_ways) can.1) (sym can.0)
         (ap (λ (m : Between). m.near) can.1) in
         record {
@@ -455,6 +464,7 @@ module _ (read : Reading) (reads : IsReading read) (moments : ℕ → ℕ) (time
           near = n;
           queue = queue;
           at = got.0;
+          asks = asks;
           unsent = o.unsent;
           marks = o.marks;
           are_marks = o.are_marks;

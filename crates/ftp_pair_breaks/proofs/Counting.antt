@@ -1,7 +1,7 @@
 -- A decoder counts the octets that it reads: of octets that are a front of a whole text it has read as many as they are.
 use Rattle.std.proofs.Common.{◌≡◌, ℕ, suc, ◌+◌, Bool, true, false, true≢false, List, [], ◌∷◌, ◌++◌, length, ◌==◌, Option, Some, None, refl, sym, ap, subst, ◌∙◌, arith}
 use Rattle.std.specs.Option.{is_some}
-use Rattle.std.specs.Prelude.{⊤, ◌-◌, ◌&&◌, if◌then◌else◌, nat_lt}
+use Rattle.std.specs.Prelude.{⊤, ◌-◌, ◌&&◌, if◌then◌else◌, nat_le, nat_lt}
 use Rattle.ftp_client_model.specs.Dialogue.{judged}
 use Rattle.ftp_client_model.specs.Octets.{broken_answer, content_answer, cut_answer, has_settled}
 use Rattle.ftp_client_model.specs.Plan.{count_of}
@@ -9,7 +9,6 @@ use Rattle.ftp_client_model.specs.View.{Receiving}
 use Rattle.ftp_client_model.specs.declared.client.Abort.TheVariants as Aborts
 use Rattle.ftp_client_model.specs.declared.client.Ending.TheVariants as Endings
 use Rattle.ftp_cutting.specs.Machine.{after}
-use Rattle.ftp_cutting.proofs.MachineLemmas.{after-append}
 use Rattle.ftp_mode.specs.Block.{count_of as count_in, has}
 use Rattle.ftp_mode.specs.Count.{next}
 use Rattle.ftp_mode.specs.Fault.{is_no_length}
@@ -23,10 +22,11 @@ use Rattle.ftp_operation.specs.declared.op.Op.{Op}
 use Rattle.ftp_settings.specs.Marker.{is_marker_octet}
 use Rattle.ftp_settings.specs.declared.marker.TheConstants.{MARKER_LIMIT}
 use Rattle.ftp_settings.specs.declared.representation.Representation.{Representation}
-use Rattle.ftp_wire.specs.Decoder.{Decoder, decoder_of, ended as file_ended, fault_in, fault_of, is_ended_in, is_whole, no_octets}
+use Rattle.ftp_wire.specs.Decoder.{Decoder, decoded, decoded_octet, decoder_of, ended as file_ended, fault_in, fault_of, is_whole, no_octets}
 use Rattle.ftp_wire.proofs.DecoderLemmas.{decodes}
 use Rattle.ftp_pair_world.specs.World.{counted}
 use Rattle.ftp_pair_breaks.specs.Deeds.{HasRead}
+use Rattle.ftp_pair_breaks.proofs.Late.{IsFew}
 
 -- so many were read, or one of them stands in no text
 abbrev pub IsAt : Reading → ℕ → Type 0
@@ -72,11 +72,6 @@ all_read (octet ∷ octets) r n is =
     let more : n + 1 + length octets ≡ n + suc (length octets) = omega arith in
     subst (IsAt (after reader (read_step r octet) octets)) more (all_read octets (read_step r octet) (n + 1) (step_reads r octet n is))
 
--- one that stands in no text stays so
-stays_failed : (fault : FrameFault) (octets : List ℕ) → after reader (failed fault) octets ≡ failed fault
-stays_failed fault [] = refl
-stays_failed fault (octet ∷ octets) = stays_failed fault octets
-
 -- a decoder that met no fault has read all that came
 pub faultless_read : (settings : Representation) (came : List ℕ) → fault_of (decoder_of settings came) ≡ None
     → HasRead (decoder_of settings came) (counted (length came))
@@ -91,37 +86,64 @@ faultless_read settings came none =
     by (going count at) here is = (at, here ∙ ap (λ n. going n at) is)
     by (failed fault) here is = absurd (true≢false (ap is_some (sym (ap fault_in here) ∙ none)))
 
--- so has one of a front of a whole text
-pub front_read : (settings : Representation) (came rest wire : List ℕ) → came ++ rest ≡ wire → is_whole (decoder_of settings wire) ≡ true
-    → HasRead (decoder_of settings came) (counted (length came))
-front_read settings came rest wire is whole =
-    let first : Reading = (no_octets settings).reading in
-    let here : (decoder_of settings came).reading ≡ after reader first came = (decodes (no_octets settings) came).reading in
-    let all : is_ended_in (after reader (after reader first came) rest) ≡ true =
-    ap is_ended_in (sym (after-append reader first came rest) ∙ ap (after reader first) is ∙ sym (decodes (no_octets settings) wire).reading) ∙ whole in
-    faultless_read settings came (ap fault_in here ∙ by (after reader first came) all)
-  where
-    by : (r : Reading) → is_ended_in (after reader r rest) ≡ true → fault_in r ≡ None
-    by (going count at) all = refl
-    by (failed fault) all = absurd (true≢false (sym all ∙ ap is_ended_in (stays_failed fault rest)))
+-- ---- a text that is answered
 
--- ---- a text that is answered whole
+decoded_both : (front given : List ℕ) (d : Decoder) → decoded d (front ++ given) ≡ decoded (decoded d front) given
+decoded_both [] given d = refl
+decoded_both (octet ∷ front) given d = decoded_both front given (decoded_octet d octet)
 
--- where a clean end is answered alike whatever marker came, the text is whole
-pub answered_whole : (op : Op (List ℕ)) → count_of op ≡ None → (d : Decoder) (said : Said)
-    → ((mark : Option ℕ) → judged Endings.Clean Aborts.Unsent 226 op (Receiving d mark) ≡ Some said) → is_whole d ≡ true
-answered_whole op all d said answers = by (is_whole d) refl
-  where
-    short : (mark : Option ℕ) → is_whole d ≡ false → judged Endings.Clean Aborts.Unsent 226 op (Receiving d mark) ≡ Some (broken_answer (Receiving d mark))
-    short mark is =
-        ap (λ w. if w then content_answer op (file_ended d).content else cut_answer op (Receiving d mark)) is
-        ∙ ap (λ c. if has_settled c (Receiving d mark) then content_answer op d.content else Some (broken_answer (Receiving d mark))) all
+-- one that stands in no text settles no more, and ends no file
+failed_keeps : (fault : FrameFault) (octets : List ℕ) (d : Decoder) → (decoded (record d { reading = failed fault }) octets).content ≡ d.content
+failed_keeps fault [] d = refl
+failed_keeps fault (octet ∷ octets) d = failed_keeps fault octets d
 
-    is_marked : Option Said → Bool
+failed_ends : (fault : FrameFault) (octets : List ℕ) (d : Decoder) → is_whole (decoded (record d { reading = failed fault }) octets) ≡ false
+failed_ends fault [] d = refl
+failed_ends fault (octet ∷ octets) d = failed_ends fault octets d
+
+settled_as : (asked : Option ℕ) (d e : Decoder) (mark : Option ℕ) → e.content ≡ d.content → has_settled asked (Receiving d mark) ≡ false
+    → has_settled asked (Receiving e mark) ≡ false
+settled_as None d e mark same few = refl
+settled_as (Some count) d e mark same few = ap (λ o. nat_le count (length o)) same ∙ few
+
+module _ (op : Op (List ℕ)) (settings : Representation) (came rest wire : List ℕ) (is : came ++ rest ≡ wire) (few : IsFew op (decoder_of settings came))
+    (said : Said)
+    (answers : (mark : Option ℕ) → judged Endings.Clean Aborts.Unsent 226 op (Receiving (decoder_of settings wire) mark) ≡ Some said) where
+  abbrev d : Decoder
+  d = decoder_of settings came
+
+  abbrev all : Decoder
+  all = decoder_of settings wire
+
+  whole_is : all ≡ decoded d rest
+  whole_is = ap (decoder_of settings) (sym is) ∙ decoded_both came rest (no_octets settings)
+
+  -- one that stands in no text, and of which less came than was asked for, is answered by its last marker
+  module _ (fault : FrameFault) (here : d.reading ≡ failed fault) where
+    settles : all.content ≡ d.content
+    settles =
+        ap (λ (x : Decoder). x.content) whole_is ∙ ap (λ r. (decoded (record d { reading = r }) rest).content) here ∙ failed_keeps fault rest d
+
+    unended : is_whole all ≡ false
+    unended = ap is_whole whole_is ∙ ap (λ r. is_whole (decoded (record d { reading = r }) rest)) here ∙ failed_ends fault rest d
+
+    short : (mark : Option ℕ) → judged Endings.Clean Aborts.Unsent 226 op (Receiving all mark) ≡ Some (broken_answer (Receiving all mark))
+    short mark =
+        ap (λ w. if w then content_answer op (file_ended all).content else cut_answer op (Receiving all mark)) unended
+        ∙ ap (λ enough. if enough then content_answer op all.content else Some (broken_answer (Receiving all mark)))
+        (settled_as (count_of op) d all mark settles (few mark))
+
+    abbrev is_marked : Option Said → Bool
     is_marked (Some (Broken got (Some mark))) = true
     is_marked said = false
 
-    by : (whole : Bool) → is_whole d ≡ whole → is_whole d ≡ true
-    by true is = is
-    by false is =
-        absurd (true≢false (ap is_marked (sym (short (Some 0) is) ∙ answers (Some 0) ∙ sym (answers None) ∙ short None is)))
+    not_failed : ⊥
+    not_failed = true≢false (ap is_marked (sym (short (Some 0)) ∙ answers (Some 0) ∙ sym (answers None) ∙ short None))
+
+  -- where a clean end of the text is answered alike whatever marker came, a decoder of a front of it, less than was asked for, has read that front
+  pub answered_read : HasRead d (counted (length came))
+  answered_read = faultless_read settings came (by d.reading refl)
+    where
+      by : (r : Reading) → d.reading ≡ r → fault_of d ≡ None
+      by (going count at) here = ap fault_in here
+      by (failed fault) here = absurd (not_failed fault here)

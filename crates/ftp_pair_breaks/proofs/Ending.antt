@@ -1,7 +1,9 @@
 -- The deeds of drives that are over, of which downloads broke for the client, put together.
-use Rattle.std.proofs.Common.{◌≡◌, ℕ, suc, false, List, [], ◌∷◌, ◌++◌, length, None, refl, sym, ap, subst, ◌∙◌, append-nil, option_to_list}
-use Rattle.ftp_control.specs.Deeds.{Deed, Other, Stand}
-use Rattle.ftp_client_drive.specs.Side.{Begun, client_side}
+use Rattle.std.specs.Prelude.{⊤}
+use Rattle.std.proofs.Common.{◌≡◌, ◌⊎◌, inl, inr, ℕ, suc, false, List, [], ◌∷◌, ◌++◌, length, None, refl, sym, ap, subst, ◌∙◌, append-nil, option_to_list}
+use Rattle.ftp_control.specs.Deeds.{Deed, Led, Other, Stand}
+use Rattle.ftp_control.specs.Machine.{Aside}
+use Rattle.ftp_client_drive.specs.Side.{Begun, Starting, client_side}
 use Rattle.ftp_client_model.specs.Calls.{is_busy, report_of}
 use Rattle.ftp_operation.specs.Answer.{Said}
 use Rattle.ftp_operation.specs.declared.op.Op.{Op}
@@ -16,23 +18,65 @@ use Rattle.ftp_pair_drives.specs.Over.{answers_of, deeds_of_drive}
 use Rattle.ftp_pair_drives.proofs.Concluding.{ends_keep_the_map}
 use Rattle.ftp_pair_drives.proofs.Ending.{reported_free}
 use Rattle.ftp_pair_drives.proofs.Taken.{free_none}
+use Rattle.ftp_pair_deeds.specs.Deeds.{Along, AreMidst, IsMidst}
 use Rattle.ftp_pair_deeds.proofs.Along.{Went}
 use Rattle.ftp_pair_transfers.specs.Deeds.{begun_at, number_in}
 use Rattle.ftp_pair_transfers.specs.Over.{orders_at}
 use Rattle.ftp_pair_transfers.proofs.Ending.{midst_begins, midst_numbers, midst_reports}
 use Rattle.ftp_pair_breaks.specs.Claims.{DidSuffer}
-use Rattle.ftp_pair_breaks.specs.Deeds.{ClientSuffers}
+use Rattle.ftp_pair_breaks.specs.Deeds.{AreShort, AsksAll, ClientSuffers, IsToldShort, SuffersAlong}
 use Rattle.ftp_pair_breaks.specs.Over.{AreSuffered, OverDrivesAgree, deeds_in}
 use Rattle.ftp_pair_breaks.proofs.Concluding.{breaks_agree}
 
+-- deeds of a client led from here to there, and of a Peek it was told of breaks only so
+abbrev WentShort : (deeds : List (Deed client_side)) (start now : Stand client_side) → Type 0
+WentShort deeds start now = (led : Led deeds start now) × (SuffersAlong deeds start now led × AreShort deeds start now led)
+
+-- what is begun in the midst of a drive
+abbrev BeginNone : List (Deed client_side) → Type 0
+BeginNone [] = ⊤
+BeginNone (Other (Aside (Starting op)) ∷ before) = ⊥
+BeginNone (deed ∷ before) = BeginNone before
+
+none_before : (deed : Deed client_side) (before : List (Deed client_side)) → BeginNone (deed ∷ before) → BeginNone before
+none_before (Other (Aside (Starting op))) before none = absurd none
+none_before deed before none = none
+
+midst_none : (deeds : List (Deed client_side)) → AreMidst deeds → BeginNone deeds
+midst_none [] midst = tt
+midst_none (deed ∷ before) midst = by deed midst.1 (midst_none before midst.0)
+  where
+    by : (deed : Deed client_side) → IsMidst deed → BeginNone before → BeginNone (deed ∷ before)
+    by (Other (Aside (Starting op))) is rest = absurd is
+    by deed is rest = rest
+
+-- so it is the same operation still
+asks_still : (more before : List (Deed client_side)) → BeginNone more → AsksAll before → AsksAll (more ++ before)
+asks_still [] before none asks = asks
+asks_still (deed ∷ more) before none asks = by deed none (λ rest. asks_still more before rest asks)
+  where
+    by : (deed : Deed client_side) → BeginNone (deed ∷ more) → (BeginNone more → AsksAll (more ++ before)) → AsksAll (deed ∷ (more ++ before))
+    by (Other (Aside (Starting op))) none still = absurd none
+    by deed none still = still none
+
 -- one list of a client's deeds after another
-went_then : (more before : List (Deed client_side)) (start mid now : Stand client_side) → Went ClientSuffers more mid now
-    → Went ClientSuffers before start mid
-    → Went ClientSuffers (more ++ before) start now
-went_then [] before start mid now second first = subst (λ n. Went ClientSuffers before start n) (sym second.0) first
-went_then (deed ∷ more) before start mid now second first =
-    let rest = went_then more before start mid second.0.0 (second.0.1, second.1.0) first in
-    ((second.0.0, rest.0, second.0.2), (rest.1, second.1.1))
+went_then : (more before : List (Deed client_side)) (start mid now : Stand client_side) → BeginNone more → (second : Went ClientSuffers more mid now)
+    → AsksAll before ⊎ Along (λ deed at then. IsToldShort deed at) more mid now second.0 → WentShort before start mid → WentShort (more ++ before) start now
+went_then [] before start mid now none second short first = subst (λ n. WentShort before start n) (sym second.0) first
+went_then (deed ∷ more) before start mid now none second short first =
+    let still = none_before deed more none in
+    let rest = went_then more before start mid second.0.0 still (second.0.1, second.1.0) (earlier short) first in
+    ((second.0.0, rest.0, second.0.2), ((rest.1.0, second.1.1), (rest.1.1, here short)))
+  where
+    earlier : AsksAll before ⊎ Along (λ deed at then. IsToldShort deed at) (deed ∷ more) mid now second.0
+        → AsksAll before ⊎ Along (λ deed at then. IsToldShort deed at) more mid second.0.0 second.0.1
+    earlier (inl asks) = inl asks
+    earlier (inr along) = inr along.0
+
+    here : AsksAll before ⊎ Along (λ deed at then. IsToldShort deed at) (deed ∷ more) mid now second.0
+        → AsksAll (more ++ before) ⊎ IsToldShort deed second.0.0.owner
+    here (inl asks) = inl (asks_still more before (none_before deed more none) asks)
+    here (inr along) = inr along.1
 
 -- after its drives a client is to close nothing
 none_to_close : (asked : List (Op (List ℕ) × Said)) (start now : Stand client_side) → AreSuffered asked start now → start.owner.end.view.closing ≡ false
@@ -42,16 +86,20 @@ none_to_close (asked ∷ before) start now put none = ap (λ v. v.closing) put.2
 
 -- the deeds of a client's drives
 answers_go : (asked : List (Op (List ℕ) × Said)) (start now : Stand client_side) (put : AreSuffered asked start now) → start.owner.end.view.closing ≡ false
-    → Went ClientSuffers (deeds_in asked start now put) start now
-answers_go [] start now put none = (put, tt)
+    → WentShort (deeds_in asked start now put) start now
+answers_go [] start now put none = (put, (tt, tt))
 answers_go (asked ∷ before) start now put none =
     let a = put.2 in
     let by = put.3 in
     let first = answers_go before start put.0 put.1 none in
     let drive : Went ClientSuffers (deeds_of_drive a.drove) a.begun now = (a.drove.did.sums.led, by.suffers) in
-    let begun : Went ClientSuffers (Other (Begun asked.0) ∷ deeds_in before start put.0 put.1) start a.begun =
-    ((put.0, first.0, a.begins), (first.1, (((by.raised, none_to_close before start put.0 put.1 none), by.all), by.calm))) in
-    went_then (deeds_of_drive a.drove) (Other (Begun asked.0) ∷ deeds_in before start put.0 put.1) start a.begun now drive begun
+    let begun : WentShort (Other (Begun asked.0) ∷ deeds_in before start put.0 put.1) start a.begun =
+    (
+      (put.0, first.0, a.begins),
+      ((first.1.0, ((by.raised, none_to_close before start put.0 put.1 none), by.calm)), (first.1.1, inr tt)),
+    ) in
+    went_then (deeds_of_drive a.drove) (Other (Begun asked.0) ∷ deeds_in before start put.0 put.1) start a.begun now
+    (midst_none a.drove.did.deeds by.midst) drive by.short begun
 
 -- ---- what they began and reported
 
@@ -97,7 +145,7 @@ over_free b server (asked ∷ before) start now begins put =
 -- what both did before the end agrees
 pub over_drives_agree : OverDrivesAgree
 over_drives_agree b fair moments timed asked server over =
-    let client = subst (λ d. Went ClientSuffers d over.client_start over.client) (sym over.client_is)
+    let client = subst (λ d. WentShort d over.client_start over.client) (sym over.client_is)
     (answers_go asked over.client_start over.client over.put (ap (λ v. v.closing) over.begins.client_view)) in
     let did : DidSuffer b moments over.turns over.between over.last over.client = record {
       server_start = over.server_start;
@@ -111,7 +159,9 @@ over_drives_agree b fair moments timed asked server over =
       server_led = over.server_led;
       client_led = client.0;
       takes = over.takes;
-      suffers = client.1;
+      suffers = client.1.0;
+      short = client.1.1;
+      after = over.after;
       ports = over.ports;
       told = over.told;
     } in

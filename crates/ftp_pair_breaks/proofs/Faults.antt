@@ -4,6 +4,7 @@ use Rattle.ftp_operation.specs.declared.op.Op.{Op}
 use Rattle.ftp_wire.specs.Decoder.{Decoder}
 use Rattle.ftp_client_model.specs.Calls.{data_fault}
 use Rattle.ftp_client_model.specs.Dialogue.{aborts_once_enough, answers_by, answers_once_over, carries_on, closes_once_given_by, finishes_read, has_begun, is_given}
+use Rattle.ftp_client_model.specs.Octets.{has_settled}
 use Rattle.ftp_client_model.specs.Plan.{count_of}
 use Rattle.ftp_client_model.specs.View.{Flow, Receiving, Transfer, Transferring, View as Near}
 use Rattle.ftp_client_model.specs.declared.client.Abort.TheVariants as Aborts
@@ -13,15 +14,15 @@ use Rattle.ftp_client_model.specs.declared.client.Replied.{Replied}
 use Rattle.ftp_client_model.specs.declared.client.Replied.TheVariants as Replies
 use Rattle.ftp_pair_breaks.specs.Deeds.{HasRead, HasTaken}
 use Rattle.ftp_pair_breaks.specs.Late.{downloading}
-use Rattle.ftp_pair_breaks.proofs.Late.{judges}
+use Rattle.ftp_pair_breaks.proofs.Late.{IsFew, judges}
 use Rattle.ftp_pair_deeds.proofs.Plain.{IsPlain, IsPlainBy, IsPlainJob}
 
--- it takes octets of a download of all that there is
+-- it takes octets of a download, of which it has not as many as were asked for
 pub record Loads (n : Near) : Type 0 where
   pub op : Op (List ℕ)
-  pub all : count_of op ≡ None
   pub replied : Replied
   pub decoder : Decoder
+  pub few : IsFew op decoder
   pub mark : Option ℕ
   pub near : n ≡ downloading op replied decoder mark n
 
@@ -34,7 +35,7 @@ pub record Faulted (n u : Near) : Type 0 where
   pub standing : u.standing ≡ n.standing
   pub closing : u.closing ≡ false
 
-module _ (op : Op (List ℕ)) (all : count_of op ≡ None) (flow : Flow) (n : Near) where
+module _ (op : Op (List ℕ)) (flow : Flow) (few : has_settled (count_of op) flow ≡ false) (n : Near) where
   -- its link is over
   abbrev at : Replied → Near
   at replied = record n {
@@ -56,7 +57,7 @@ module _ (op : Op (List ℕ)) (all : count_of op ≡ None) (flow : Flow) (n : Ne
   faults Replies.Nothing = subst (Faulted n) (sym (goes Replies.Nothing)) (record { standing = refl; closing = refl })
   faults Replies.Begun = subst (Faulted n) (sym (goes Replies.Begun)) (record { standing = refl; closing = refl })
   faults (Replies.Final code) =
-      let answer = judges op all code flow in
+      let answer = judges op code flow few in
       subst (Faulted n) (sym (goes (Replies.Final code) ∙ ap (λ j. finishes_read j (at (Replies.Final code))) answer.1))
       (record { standing = refl; closing = refl })
 
@@ -68,7 +69,7 @@ module _ (op : Op (List ℕ)) (all : count_of op ≡ None) (flow : Flow) (n : Ne
   faults_plain Kept Replies.Begun plain kept =
       subst (IsPlainBy Kept) (sym (goes Replies.Begun)) (record { job = (plain, kept); port = refl; run = refl })
   faults_plain Kept (Replies.Final code) plain kept =
-      let answer = judges op all code flow in
+      let answer = judges op code flow few in
       subst (IsPlainBy Kept) (sym (goes (Replies.Final code) ∙ ap (λ j. finishes_read j (at (Replies.Final code))) answer.1))
       (record { job = tt; port = refl; run = refl })
 
@@ -87,14 +88,14 @@ loading_is n l = λ i. record n { job = (l.near i).job; run = (l.near i).run; co
 pub faulted : (n : Near) → Loads n → Faulted n (data_fault n)
 unfolding data_fault
 faulted n l =
-    subst (λ (v : Near). Faulted n (data_fault v)) (sym (loading_is n l)) (faults l.op l.all (Receiving l.decoder l.mark) n l.replied)
+    subst (λ (v : Near). Faulted n (data_fault v)) (sym (loading_is n l)) (faults l.op (Receiving l.decoder l.mark) (l.few l.mark) n l.replied)
 
 pub faulted_plain : (Kept : Op (List ℕ) → Transfer → Type 0) (n : Near) → Loads n → IsPlainBy Kept n → IsPlainBy Kept (data_fault n)
 unfolding data_fault
 faulted_plain Kept n l p =
     let plain : IsPlainJob Kept (loading n l).job = subst (λ (v : Near). IsPlainJob Kept v.job) (loading_is n l) p.job in
     subst (λ (v : Near). IsPlainBy Kept (data_fault v)) (sym (loading_is n l))
-    (faults_plain l.op l.all (Receiving l.decoder l.mark) n Kept l.replied plain.0 plain.1)
+    (faults_plain l.op (Receiving l.decoder l.mark) (l.few l.mark) n Kept l.replied plain.0 plain.1)
 
 -- one that is to close anyway is as before
 pub closing_same : (n : Near) → n.closing ≡ true → data_fault n ≡ n

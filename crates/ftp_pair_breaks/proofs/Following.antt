@@ -10,6 +10,7 @@ use Rattle.ftp_control.specs.declared.whole.Fate.TheVariants as Fates
 use Rattle.ftp_client_drive.specs.Side.{Reporting, Starting, client_side, is_under_way}
 use Rattle.ftp_client_model.specs.Calls as near
 use Rattle.ftp_client_model.specs.Calls.{gives_control, hears, is_busy, is_sound, may_hear, receives, report_of}
+use Rattle.ftp_client_model.specs.Plan.{count_of}
 use Rattle.ftp_client_model.specs.View.{View as Near}
 use Rattle.ftp_client_model.proofs.RepliesInFlight.{in_pieces}
 use Rattle.ftp_ends.specs.declared.link.Wants.{Wants}
@@ -31,11 +32,12 @@ use Rattle.ftp_pair_transfers.proofs.Known.{AreCarried}
 use Rattle.ftp_pair_breaks.specs.Deeds.{ClientSuffers, Marks}
 use Rattle.ftp_pair_breaks.proofs.Feeding.{Gives}
 use Rattle.ftp_pair_breaks.proofs.Lagging.{OfMarks, Then}
-use Rattle.ftp_pair_breaks.proofs.Preceding.{Precedes, behind, gives_now, nothing_rises, steady, steady_here, steady_now, unaware, whole_now}
+use Rattle.ftp_pair_breaks.proofs.Last.{LastAll}
+use Rattle.ftp_pair_breaks.proofs.Preceding.{Precedes, asks_all, behind, gives_now, nothing_rises, steady, steady_here, steady_now, unaware, whole_now}
 use Rattle.ftp_pair_breaks.proofs.Rows.{Steady}
 use Rattle.ftp_pair_breaks.proofs.Steps.{Again, client_step, idle_again}
 use Rattle.ftp_pair_breaks.proofs.Unaware.{late_octets, steady_busy, steady_may, steady_none, steady_owes, steady_receives, steady_reports, steady_wants}
-use Rattle.ftp_pair_breaks.proofs.Unsent.{AskAll, Unsent, all_carried, received_unsent, unsent_kept}
+use Rattle.ftp_pair_breaks.proofs.Unsent.{Unsent, received_unsent, unsent_kept}
 
 abbrev is_receive : Wants → Bool
 is_receive Want.Receive = true
@@ -46,7 +48,7 @@ module _ (read : Reading) (reads : IsReading read) (moments : ℕ → ℕ) (time
       (client : Stand client_side) → Type 0
   P Are deeds between count server client = Precedes read reads moments timed b fair Are deeds between count server client
 
-  module _ {Are : OfMarks} (deeds : List (Deed client_side)) (puts : AskAll (begun_at moments deeds)) (between : Between) (count : ℕ)
+  module _ {Are : OfMarks} (deeds : List (Deed client_side)) (carried : AreCarried (begun_at moments deeds)) (between : Between) (count : ℕ)
       (server : Stand server_side) (client : Stand client_side) (p : P Are deeds between count server client) where
     abbrev w : World
     w = p.at.world
@@ -60,32 +62,33 @@ module _ (read : Reading) (reads : IsReading read) (moments : ℕ → ℕ) (time
     abbrev were : Stand client_side
     were = unaware p.refusals n p.queue client.owner.lane
 
-    carried : AreCarried (begun_at moments deeds)
-    carried = all_carried (begun_at moments deeds) puts
-
-    abbrev g : Gives w
-    g = gives_now read reads moments timed b fair deeds puts between count server client p
+    abbrev g : Gives (begun_at moments deeds) w
+    g = gives_now read reads moments timed b fair deeds carried between count server client p
 
     abbrev IsSteady : Near → Type 0
     IsSteady v = Steady g.loads.op g.loads.decoder g.loads.mark v
 
     here : IsSteady n
-    here = steady_here read reads moments timed b fair deeds puts between count server client p
+    here = steady_here read reads moments timed b fair deeds carried between count server client p
 
     -- so does the drive's
     now : IsSteady c
-    now = steady_now read reads moments timed b fair deeds puts between count server client p
+    now = steady_now read reads moments timed b fair deeds carried between count server client p
 
     -- whatever it hears of what is on its way
     fronts : (front rest : List ℕ) → p.queue ++ p.said ≡ front ++ rest → IsSteady (hears n front)
-    fronts = steady read reads moments timed b fair deeds puts between count server client p
+    fronts = steady read reads moments timed b fair deeds carried between count server client p
+
+    -- all was asked for
+    all : count_of g.loads.op ≡ None
+    all = asks_all read reads moments timed b fair deeds carried between count server client p
 
     -- what both want
     here_wants : near.wants n ≡ Want.Receive
-    here_wants = steady_wants g.loads.op g.loads.all g.loads.decoder g.loads.mark n here
+    here_wants = steady_wants g.loads.op g.loads.decoder g.loads.mark n here
 
     now_wants : near.wants c ≡ Want.Receive
-    now_wants = steady_wants g.loads.op g.loads.all g.loads.decoder g.loads.mark c now
+    now_wants = steady_wants g.loads.op g.loads.decoder g.loads.mark c now
 
     -- it wants nothing else
     wants_not : (q : Wants) → is_receive q ≡ false → near.wants c ≡ q → ⊥
@@ -96,7 +99,8 @@ module _ (read : Reading) (reads : IsReading read) (moments : ℕ → ℕ) (time
     seen_same lane q is = ap (λ x. seen x lane) is
 
     module _ (deed : Deed client_side) (next : Between) (new : Stand client_side) (calm : new.owner.end.refusals ≡ client.owner.end.refusals)
-        (hold : next.far ≡ between.far) (unmarked : (marks : List (List Mark)) → Marks deed client.owner marks marks) where
+        (hold : next.far ≡ between.far) (unmarked : (marks : List (List Mark)) → Marks deed client.owner marks marks)
+        (begins : begun_by (moments (number_in deeds)) deed ≡ []) where
       -- it goes on, where a step of one that heard nothing of it is known
       goes_on : (view : Near) (queue heard : List ℕ)
           → Again read reads moments timed b fair (deed ∷ deeds) (behind next) count p.were (unaware p.refusals view queue new.owner.lane) w.marks
@@ -110,6 +114,7 @@ module _ (read : Reading) (reads : IsReading read) (moments : ℕ → ℕ) (time
         near = view;
         queue = queue;
         at = got.0;
+        asks = subst LastAll (sym (ap (λ l. begun_at moments deeds ++ l) begins ∙ append-nil (begun_at moments deeds))) p.asks;
         unsent = unsent;
         marks = p.marks;
         are_marks = (p.marks, p.are_marks, unmarked p.marks);
@@ -133,9 +138,9 @@ module _ (read : Reading) (reads : IsReading read) (moments : ℕ → ℕ) (time
 
       -- nothing is done of one that heard nothing of it
       idles : new.owner.lane ≡ client.owner.lane → behind next ≡ behind between
-          → begun_by (moments (number_in deeds)) deed ≡ [] → reported_by deed ≡ []
+          → reported_by deed ≡ []
           → Again read reads moments timed b fair (deed ∷ deeds) (behind next) count p.were (unaware p.refusals n p.queue new.owner.lane) w.marks
-      idles lane same begins reports =
+      idles lane same reports =
           subst (λ (l : Lane). Again read reads moments timed b fair (deed ∷ deeds) (behind next) count p.were (unaware p.refusals n p.queue l) w.marks)
           (sym lane)
           (subst (λ (m : Between). Again read reads moments timed b fair (deed ∷ deeds) m count p.were were w.marks) (sym same)
@@ -143,10 +148,9 @@ module _ (read : Reading) (reads : IsReading read) (moments : ℕ → ℕ) (time
 
       -- it holds the same
       stays : new.owner.end.view ≡ c → new.owner.lane ≡ client.owner.lane → behind next ≡ behind between
-          → new.unheard ++ next.control.to_client ≡ client.unheard ++ between.control.to_client
-          → begun_by (moments (number_in deeds)) deed ≡ [] → reported_by deed ≡ [] → P (Then deed client.owner Are) (deed ∷ deeds) next count server new
-      stays view lane same queue begins reports =
-          goes_on n p.queue p.heard (idles lane same begins reports) p.unsent (view ∙ p.view) (p.split ∙ ap (λ o. p.heard ++ o) (sym queue)) p.late
+          → new.unheard ++ next.control.to_client ≡ client.unheard ++ between.control.to_client → reported_by deed ≡ [] → P (Then deed client.owner Are) (deed ∷ deeds) next count server new
+      stays view lane same queue reports =
+          goes_on n p.queue p.heard (idles lane same reports) p.unsent (view ∙ p.view) (p.split ∙ ap (λ o. p.heard ++ o) (sym queue)) p.late
 
     -- ---- it hears
 
@@ -180,7 +184,7 @@ module _ (read : Reading) (reads : IsReading read) (moments : ℕ → ℕ) (time
           let first : take (length front) p.queue ≡ front = ap (take (length front)) is ∙ take_front front queue in
           let may : (k : ℕ) → k < length front → may_hear (hears n (take k p.queue)) ≡ true =
           λ k less.
-          steady_may g.loads.op g.loads.all g.loads.decoder g.loads.mark (hears n (take k p.queue)) (fronts (take k p.queue) (drop k p.queue ++ p.said)
+          steady_may g.loads.op all g.loads.decoder g.loads.mark (hears n (take k p.queue)) (fronts (take k p.queue) (drop k p.queue ++ p.said)
           (ap (λ o. o ++ p.said) (sym (take-append-drop k p.queue)) ∙ append_assoc (take k p.queue) (drop k p.queue) p.said)) in
           let done : HearsNext front were then_stand = record {
             hears = (
@@ -195,7 +199,7 @@ module _ (read : Reading) (reads : IsReading read) (moments : ℕ → ℕ) (time
           let got : Again read reads moments timed b fair (Heard octets ∷ deeds) (behind between) count p.were then_stand w.marks =
           client_step read reads moments timed b fair (Heard front) tt were then_stand (tt, refl) deeds carried (behind between) (behind between) refl count
           p.were p.at done in
-          goes_on (Heard octets) next new calm (ap (λ (m : Between). m.far) can) (λ marks. refl) then_view queue heard
+          goes_on (Heard octets) next new calm (ap (λ (m : Between). m.far) can) (λ marks. refl) refl then_view queue heard
           (subst (λ (l : Lane). Again read reads moments timed b fair (Heard octets ∷ deeds) (behind next) count p.were
           (unaware p.refusals then_view queue l) w.marks) (sym lane_same)
           (subst (λ (m : Between). Again read reads moments timed b fair (Heard octets ∷ deeds) m count p.were then_stand w.marks) (sym (ap behind can)) got))
@@ -225,7 +229,7 @@ module _ (read : Reading) (reads : IsReading read) (moments : ℕ → ℕ) (time
         let then_view : Near = receives n came in
         let then_stand : Stand client_side = unaware p.refusals then_view p.queue new.owner.lane in
         let may : (k : ℕ) → k < some → near.may_receive (receives n (take k octets)) ≡ true =
-        λ k less. steady_receives g.loads.op g.loads.all g.loads.decoder g.loads.mark n here (take k octets) in
+        λ k less. steady_receives g.loads.op all g.loads.decoder g.loads.mark n here (take k octets) in
         let done : Done (Other (Received octets some)) were then_stand = (
           (
             (
@@ -241,8 +245,8 @@ module _ (read : Reading) (reads : IsReading read) (moments : ℕ → ℕ) (time
         client_step read reads moments timed b fair (Other (Received octets some)) tt were then_stand (tt, refl) deeds carried (behind between)
         (behind between) refl count p.were p.at done in
         let late : receives (hears n p.heard) came ≡ hears then_view p.heard =
-        late_octets g.loads.op g.loads.all g.loads.decoder g.loads.mark n here p.heard (subst IsSteady p.view now) came in
-        goes_on (Other (Received octets some)) next new calm (ap (λ (m : Between). m.far) can) (λ marks. refl) then_view p.queue p.heard
+        late_octets g.loads.op all g.loads.decoder g.loads.mark n here p.heard (subst IsSteady p.view now) came in
+        goes_on (Other (Received octets some)) next new calm (ap (λ (m : Between). m.far) can) (λ marks. refl) refl then_view p.queue p.heard
         (subst (λ (m : Between). Again read reads moments timed b fair (Other (Received octets some) ∷ deeds) m count p.were then_stand w.marks)
         (sym (ap behind can)) got)
         (received_unsent came n p.unsent) ((did.0.0.0.0 calm).0 ∙ ap (λ v. receives v came) p.view ∙ late)
@@ -254,14 +258,14 @@ module _ (read : Reading) (reads : IsReading read) (moments : ℕ → ℕ) (time
         → CanTurn (ByClient (Says octets)) between next → SaysNext octets client new → P (Then (Says octets) client.owner Are)
         (Says octets ∷ deeds) next count server new
     says_on octets next new calm can did =
-        let owes : c.owed ≡ [] = steady_owes g.loads.op g.loads.all g.loads.decoder g.loads.mark c now in
+        let owes : c.owed ≡ [] = steady_owes g.loads.op g.loads.decoder g.loads.mark c now in
         let none : octets ≡ [] = did.gives.owed ∙ ap (take did.gives.count) owes ∙ take-nil did.gives.count in
         let view : new.owner.end.view ≡ c =
         did.gives.gave.0 ∙ ap (λ o. record c { owed = drop did.gives.count o }) owes ∙ ap (λ o. record c { owed = o }) (drop-nil did.gives.count ∙ sym owes) in
-        stays (Says octets) next new calm (ap (λ (m : Between). m.far) can) (λ marks. refl) view did.gives.lane
+        stays (Says octets) next new calm (ap (λ (m : Between). m.far) can) (λ marks. refl) refl view did.gives.lane
         (ap behind can ∙ ap (λ o. behind (record between { control = record between.control { to_server = o } }))
         (ap (λ o. between.control.to_server ++ o) none ∙ append-nil between.control.to_server))
-        (ap₂ (λ q (m : Between). q ++ m.control.to_client) did.unheard can) refl refl
+        (ap₂ (λ q (m : Between). q ++ m.control.to_client) did.unheard can) refl
 
     -- ---- it leaves nothing
 
@@ -269,7 +273,7 @@ module _ (read : Reading) (reads : IsReading read) (moments : ℕ → ℕ) (time
     leaves_not asked new did = by client.owner.lane.fate refl did.0.2.0
       where
         whole : is_whole client.owner.lane.fate ≡ true
-        whole = whole_now read reads moments timed b fair deeds puts between count server client p
+        whole = whole_now read reads moments timed b fair deeds carried between count server client p
 
         busy : is_under_way c.job ≡ true
         busy = ap (λ (v : Near). is_under_way v.job) now.is
@@ -287,15 +291,15 @@ module _ (read : Reading) (reads : IsReading read) (moments : ℕ → ℕ) (time
     follows (Heard octets) unbroken next new is can did = heard_on octets next new is.1 can did
     follows (Says octets) unbroken next new is can did = says_on octets next new is.1 can did
     follows (Read octets) unbroken next new is can did =
-        stays (Read octets) next new is.1 (ap (λ (m : Between). m.far) can.1) (λ marks. refl) (ap (λ o. o.end.view) did.owner) (ap (λ o. o.lane) did.owner)
+        stays (Read octets) next new is.1 (ap (λ (m : Between). m.far) can.1) (λ marks. refl) refl (ap (λ o. o.end.view) did.owner) (ap (λ o. o.lane) did.owner)
         (ap behind can.1)
-        (ap (λ q. q ++ next.control.to_client) did.unheard ∙ sym (ap₂ (λ q o. q ++ o) did.heard can.0)) refl refl
+        (ap (λ q. q ++ next.control.to_client) did.unheard ∙ sym (ap₂ (λ q o. q ++ o) did.heard can.0)) refl
     follows (Other (Aside (Reporting None))) unbroken next new is can did =
-        stays (Other (Aside (Reporting None))) next new is.1 (ap (λ (m : Between). m.far) can) (λ marks. refl)
-        (did.0.0.1.0 ∙ steady_reports g.loads.op g.loads.all g.loads.decoder g.loads.mark c now) did.0.1 (ap behind can)
-        (ap₂ (λ (y : Stand client_side) (m : Between). y.unheard ++ m.control.to_client) did.1 can) refl refl
+        stays (Other (Aside (Reporting None))) next new is.1 (ap (λ (m : Between). m.far) can) (λ marks. refl) refl
+        (did.0.0.1.0 ∙ steady_reports g.loads.op g.loads.decoder g.loads.mark c now) did.0.1 (ap behind can)
+        (ap₂ (λ (y : Stand client_side) (m : Between). y.unheard ++ m.control.to_client) did.1 can) refl
     follows (Other (Aside (Reporting (Some said)))) unbroken next new is can did =
-        absurd (some_none (did.0.0.0 ∙ steady_none g.loads.op g.loads.all g.loads.decoder g.loads.mark c now))
+        absurd (some_none (did.0.0.0 ∙ steady_none g.loads.op g.loads.decoder g.loads.mark c now))
       where
         is_there : Option Said → Bool
         is_there None = false
@@ -304,7 +308,7 @@ module _ (read : Reading) (reads : IsReading read) (moments : ℕ → ℕ) (time
         some_none : ◌≡◌ {A = Option Said} (Some said) None → ⊥
         some_none e = true≢false (ap is_there e)
     follows (Other (Aside (Starting op))) unbroken next new is can did =
-        absurd (both (steady_busy g.loads.op g.loads.all g.loads.decoder g.loads.mark c now) did.0.0.0)
+        absurd (both (steady_busy g.loads.op g.loads.decoder g.loads.mark c now) did.0.0.0)
     follows (Other (Opened host (Connected endpoint left written ∷ []) at_first so_far rest)) unbroken next new is can did =
         absurd (wants_not (Want.Connect endpoint) refl did.0.2.0)
     follows (Other (Refused (NotConnected endpoint ∷ []))) unbroken next new is can did = absurd (wants_not (Want.Connect endpoint) refl did.0.2.0)
@@ -313,13 +317,13 @@ module _ (read : Reading) (reads : IsReading read) (moments : ℕ → ℕ) (time
         absurd (none_some (subst (λ o. 0 < length o) unwritten did.0.1.some))
       where
         unwritten : client.owner.lane.unwritten ≡ []
-        unwritten = (nothing_rises read reads moments timed b fair deeds puts between count server client p).1
+        unwritten = (nothing_rises read reads moments timed b fair deeds carried between count server client p).1
 
         none_some : 0 < 0 → ⊥
         none_some less = omega (arith, less)
     follows (Other (Got octets)) unbroken next new is can did =
         let then_stand : Stand client_side = unaware p.refusals n p.queue new.owner.lane in
-        goes_on (Other (Got octets)) next new is.1 (ap (λ (m : Between). m.far) can.2) (λ marks. refl) n p.queue p.heard
+        goes_on (Other (Got octets)) next new is.1 (ap (λ (m : Between). m.far) can.2) (λ marks. refl) refl n p.queue p.heard
         (client_step read reads moments timed b fair (Other (Got octets)) tt were then_stand (tt, refl) deeds carried (behind between) (behind next)
         (can.0, can.1, ap behind can.2) count p.were p.at ((refl, did.0.1, here_wants), refl))
         p.unsent (ap (λ o. o.view) did.0.0 ∙ p.view)
@@ -332,7 +336,7 @@ module _ (read : Reading) (reads : IsReading read) (moments : ℕ → ℕ) (time
         is_ended hold = false
     follows (Other (Waited lost)) unbroken next new is can did =
         let then_stand : Stand client_side = unaware p.refusals n p.queue new.owner.lane in
-        goes_on (Other (Waited lost)) next new is.1 (ap (λ (m : Between). m.far) can) (λ marks. refl) n p.queue p.heard
+        goes_on (Other (Waited lost)) next new is.1 (ap (λ (m : Between). m.far) can) (λ marks. refl) refl n p.queue p.heard
         (subst (λ (m : Between). Again read reads moments timed b fair (Other (Waited lost) ∷ deeds) m count p.were then_stand w.marks) (sym (ap behind can))
         (client_step read reads moments timed b fair (Other (Waited lost)) tt were then_stand (tt, refl) deeds carried (behind between) (behind between)
         refl count p.were p.at ((refl, did.0.1, ap awaits here_wants), refl)))
@@ -346,7 +350,7 @@ module _ (read : Reading) (reads : IsReading read) (moments : ℕ → ℕ) (time
         absurd (wants_not Want.CloseData refl (did.0.2 (ap (λ (v : Near). is_sound v.standing) now.is) (ap (λ (v : Near). is_under_way v.job) now.is)))
     follows (Other Failed) unbroken next new is can did =
         let then_stand : Stand client_side = unaware p.refusals n p.queue new.owner.lane in
-        goes_on (Other Failed) next new is.1 (ap (λ (m : Between). m.far) can) (λ marks. refl) n p.queue p.heard
+        goes_on (Other Failed) next new is.1 (ap (λ (m : Between). m.far) can) (λ marks. refl) refl n p.queue p.heard
         (subst (λ (m : Between). Again read reads moments timed b fair (Other Failed ∷ deeds) m count p.were then_stand w.marks) (sym (ap behind can))
         (client_step read reads moments timed b fair (Other Failed) tt were then_stand (tt, refl) deeds carried (behind between) (behind between)
         refl count p.were p.at ((refl, did.0.1, tt), refl)))

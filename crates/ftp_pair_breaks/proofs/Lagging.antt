@@ -39,9 +39,10 @@ use Rattle.ftp_pair_breaks.specs.Deeds.{ClientSuffers, HasTaken, Marks}
 use Rattle.ftp_pair_breaks.proofs.ClientBroken.{broken_plain, broken_sound, client_broken}
 use Rattle.ftp_pair_breaks.proofs.Faults.{Loads, faulted_plain, loads_taken}
 use Rattle.ftp_pair_breaks.proofs.Feeding.{Feeding, is_final, pushed_gives, world_feeds}
+use Rattle.ftp_pair_breaks.proofs.Last.{AreFew, last_few, short_few}
 use Rattle.ftp_pair_breaks.proofs.Steps.{Again, At, client_step, idle_again, same_again}
-use Rattle.ftp_pair_breaks.proofs.Unsent.{AskAll, Unsent, all_carried, reset_fresh, unsent_kept}
-use Rattle.ftp_pair_breaks.proofs.Untold.{Loading, fault_told, hears_taken, loading_of, loading_says, loading_wants, loads_of, told, told_busy, told_closed, told_hears, told_may, told_none, told_reports, told_wants}
+use Rattle.ftp_pair_breaks.proofs.Unsent.{AskAll, Unsent, all_carried, each_all, reset_fresh, unsent_kept}
+use Rattle.ftp_pair_breaks.proofs.Untold.{Loading, fault_told, heard_short, hears_taken, loading_of, loading_says, loading_short, loading_wants, loads_of, told, told_busy, told_closed, told_hears, told_may, told_none, told_reports, told_wants}
 
 -- a read or a write of it failed, and its end was not told
 abbrev pub is_failed : Fate → Bool
@@ -64,15 +65,15 @@ abbrev pub beside : Held Client → Stand client_side → Stand client_side
 beside was client = with_owner was client
 
 -- with this view
-abbrev viewed : Near → Held Client → Held Client
+abbrev pub viewed : Near → Held Client → Held Client
 viewed view was = record was { end = record was.end { view = view } }
 
 -- what is open takes octets
-dry_shut : (lane : Lane) → Leftover lane → IsOpen lane → ⊥
+pub dry_shut : (lane : Lane) → Leftover lane → IsOpen lane → ⊥
 dry_shut lane l o = both (open_takes lane o) l.dry
 
 -- what is seen of it is of no matter
-leftover_as : (old new : Lane) → Leftover old → new.stands ≡ old.stands → new.fate ≡ old.fate → new.untold ≡ old.untold → new.unwritten ≡ old.unwritten
+pub leftover_as : (old new : Lane) → Leftover old → new.stands ≡ old.stands → new.fate ≡ old.fate → new.untold ≡ old.untold → new.unwritten ≡ old.unwritten
     → Leftover new
 leftover_as old new l stands fate untold unwritten = record {
   dry = ap₂ (λ s f. s && is_whole f) stands fate ∙ l.dry;
@@ -131,38 +132,49 @@ module _ (read : Reading) (reads : IsReading read) (moments : ℕ → ℕ) (time
     pub unsent : IsPlainBy Unsent was.end.view
     pub fresh : StaysFresh between client
 
-  -- a world whose client takes octets: its server has let the link go, or has not heard the command, or gives
-  pub feeding_at : (deeds : List (Deed client_side)) → AskAll (begun_at moments deeds) → (between : Between) (count : ℕ) (server : Stand server_side)
-      (client : Stand client_side) (o : Stands deeds between count server client) → IsPlainBy Unsent client.owner.end.view
-      → near.wants client.owner.end.view ≡ Want.Receive
-      → (o.world.near ≡ client.owner.end.view) × Feeding o.world
-  feeding_at deeds puts between count server client o unsent wants =
+  -- a world whose client takes octets, of which it has less than was asked for: its server has let the link go, or has not heard the command, or gives
+  pub feeding_few : (deeds : List (Deed client_side)) → AreCarried (begun_at moments deeds) → (between : Between) (count : ℕ) (server : Stand server_side)
+      (client : Stand client_side) (o : Stands deeds between count server client) → AreFew (begun_at moments deeds) client.owner.end.view.job
+      → IsPlainBy Unsent client.owner.end.view → near.wants client.owner.end.view ≡ Want.Receive
+      → (o.world.near ≡ client.owner.end.view) × Feeding (begun_at moments deeds) o.world
+  feeding_few deeds carried between count server client o few unsent wants =
       let near_is : o.world.near ≡ client.owner.end.view =
       taking_is read (begun_at moments deeds) o.last o.ahead between count server client _ o.world o.together (taking_of client.owner.end.view wants) in (
         near_is,
-        world_feeds read reads (state_of b) (begun_at moments deeds) puts o.world
-            (runs read reads moments timed b fair deeds between count server client _ o (all_carried (begun_at moments deeds) puts))
-            o.together.beside.control o.together.beside.unready
+        world_feeds read reads (state_of b) (begun_at moments deeds) carried o.world
+            (runs read reads moments timed b fair deeds between count server client _ o carried)
+            o.together.beside.control o.together.beside.unready (subst (λ (v : Near). AreFew (begun_at moments deeds) v.job) (sym near_is) few)
             (subst (λ (v : Near). IsPlainJob Unsent v.job) (sym near_is) unsent.job) (ap near.wants near_is ∙ wants),
       )
 
-  module _ {Are : OfMarks} (deeds : List (Deed client_side)) (puts : AskAll (begun_at moments deeds)) (between : Between) (count : ℕ)
-      (server : Stand server_side) (client : Stand client_side) (l : Lags Are deeds between count server client) where
-    carried : AreCarried (begun_at moments deeds)
-    carried = all_carried (begun_at moments deeds) puts
+  -- so it is of one that asks for all
+  pub feeding_at : (deeds : List (Deed client_side)) → AskAll (begun_at moments deeds) → (between : Between) (count : ℕ) (server : Stand server_side)
+      (client : Stand client_side) (o : Stands deeds between count server client) → IsPlainBy Unsent client.owner.end.view
+      → near.wants client.owner.end.view ≡ Want.Receive
+      → (o.world.near ≡ client.owner.end.view) × Feeding (begun_at moments deeds) o.world
+  feeding_at deeds puts between count server client o unsent wants =
+      let begun = begun_at moments deeds in
+      feeding_few deeds (all_carried begun puts) between count server client o (last_few begun client.owner.end.view.job (each_all begun puts)) unsent wants
 
+  module _ {Are : OfMarks} (deeds : List (Deed client_side)) (carried : AreCarried (begun_at moments deeds)) (between : Between) (count : ℕ)
+      (server : Stand server_side) (client : Stand client_side) (l : Lags Are deeds between count server client) where
     abbrev n : Near
     n = l.was.end.view
 
     abbrev w : World
     w = l.at.world
 
+    -- less came than was asked for
+    few_before : AreFew (begun_at moments deeds) n.job
+    few_before = short_few (begun_at moments deeds) n.job (loading_short n l.loads)
+
     near_is : w.near ≡ n
-    near_is = (feeding_at deeds puts (unbroken between) count server (beside l.was client) l.at l.unsent (loading_wants n l.loads)).0
+    near_is =
+        (feeding_few deeds carried (unbroken between) count server (beside l.was client) l.at few_before l.unsent (loading_wants n l.loads)).0
 
     -- the world's server has let it go, or has not heard the command, or gives
-    pub feeds : Feeding w
-    feeds = (feeding_at deeds puts (unbroken between) count server (beside l.was client) l.at l.unsent (loading_wants n l.loads)).1
+    pub feeds : Feeding (begun_at moments deeds) w
+    feeds = (feeding_few deeds carried (unbroken between) count server (beside l.was client) l.at few_before l.unsent (loading_wants n l.loads)).1
 
     -- where it has let it go the world's client is told
     pub leaves : w.far.session.connection ≡ Data.Free → Whole Are deeds between count server client
@@ -335,10 +347,14 @@ module _ (read : Reading) (reads : IsReading read) (moments : ℕ → ℕ) (time
         l.at.together.beside.to_client ∙ ap (λ q. q ++ between.control.to_client) is ∙ append_assoc octets rest between.control.to_client in
         let heard : hears w.near (take (length octets) w.control_to_client) ≡ hears n octets =
         ap₂ hears near_is (ap (take (length octets)) queue ∙ take_front octets (rest ++ between.control.to_client)) in
-        let got = pushed_gives read reads (state_of b) (begun_at moments deeds) puts w
+        let then_few : AreFew (begun_at moments deeds) (hears n octets).job =
+        short_few (begun_at moments deeds) (hears n octets).job (heard_short n l.loads octets) in
+        let got = pushed_gives read reads (state_of b) (begun_at moments deeds) carried w
         (runs read reads moments timed b fair deeds (unbroken between) count server (beside l.was client) _ l.at carried)
-        l.at.together.beside.control l.at.together.beside.unready
-        (subst (λ (v : Near). IsPlainJob Unsent v.job) (sym near_is) l.unsent.job) (length octets) gives
+        l.at.together.beside.control l.at.together.beside.unready (length octets) gives
+        (subst (λ (v : Near). AreFew (begun_at moments deeds) v.job) (sym near_is) few_before)
+        (subst (λ (v : Near). IsPlainJob Unsent v.job) (sym near_is) l.unsent.job)
+        (subst (λ (v : Near). AreFew (begun_at moments deeds) v.job) (sym heard) then_few)
         (subst (λ (v : Near). IsPlainJob Unsent v.job) (sym heard) p.job) in
         let there = subst (λ (v : Near). (l : Loads v) × (is_final l.replied ≡ false)) heard (got.loads, got.unfinal) in
         loading_of (hears n octets) there.0 there.1

@@ -140,7 +140,15 @@ over_takes v o e = by v.closing (is_sound v.standing) v.connection v.job o.told 
 
 -- ---- under a download
 
-module _ (op : Op (List ℕ)) (all : count_of op ≡ None) where
+-- as many octets as were asked for, where a number was, are not settled
+abbrev pub IsFew : Op (List ℕ) → Decoder → Type 0
+IsFew op d = (mark : Option ℕ) → has_settled (count_of op) (Receiving d mark) ≡ false
+
+-- so it is of each operation that asks for all
+pub all_few : (op : Op (List ℕ)) → count_of op ≡ None → (d : Decoder) → IsFew op d
+all_few op all d mark = ap (λ c. has_settled c (Receiving d mark)) all
+
+module _ (op : Op (List ℕ)) where
   abbrev pub down : Replied → Decoder → Option ℕ → View → View
   down replied d mark n = downloading op replied d mark n
 
@@ -152,14 +160,14 @@ module _ (op : Op (List ℕ)) (all : count_of op ≡ None) where
   so_far replied d mark = record { replied = replied; abort = Aborts.Unsent; flow = Receiving d mark }
 
   -- no ABOR is due
-  abbrev aborting : Option ℕ → Replied → Decoder → Option ℕ → View → View
-  aborting count replied d mark n =
-      if true && true && has_settled count (Receiving d mark) then sends_abort op (so_far replied d mark) (down replied d mark n) else down replied d mark n
+  abbrev aborting : Bool → Replied → Decoder → Option ℕ → View → View
+  aborting enough replied d mark n =
+      if true && true && enough then sends_abort op (so_far replied d mark) (down replied d mark n) else down replied d mark n
 
-  pub goes_open : (replied : Replied) (d : Decoder) (mark : Option ℕ) (n : View) → carries_on (down replied d mark n) ≡ down replied d mark n
-  goes_open Replies.Nothing d mark n = refl
-  goes_open Replies.Begun d mark n = ap (λ k. answers_once_over (aborting k Replies.Begun d mark n)) all
-  goes_open (Replies.Final code) d mark n = ap (λ k. answers_once_over (aborting k (Replies.Final code) d mark n)) all
+  pub goes_open : (replied : Replied) (d : Decoder) → IsFew op d → (mark : Option ℕ) (n : View) → carries_on (down replied d mark n) ≡ down replied d mark n
+  goes_open Replies.Nothing d few mark n = refl
+  goes_open Replies.Begun d few mark n = ap (λ k. answers_once_over (aborting k Replies.Begun d mark n)) (few mark)
+  goes_open (Replies.Final code) d few mark n = ap (λ k. answers_once_over (aborting k (Replies.Final code) d mark n)) (few mark)
 
   -- octets that come
   abbrev decoder_after : Decoder → List ℕ → Decoder
@@ -170,75 +178,63 @@ module _ (op : Op (List ℕ)) (all : count_of op ≡ None) where
   mark_after d mark [] = mark
   mark_after d mark (octet ∷ octets) = mark_after (decoded_octet d octet) (last_mark mark (octet_says d octet)) octets
 
-  takes_one : (replied : Replied) (d : Decoder) (mark : Option ℕ) (n : View) (octet : ℕ)
-      → near.receives_octet (down replied d mark n) octet ≡ down replied (decoded_octet d octet) (last_mark mark (octet_says d octet)) n
-  takes_one Replies.Nothing d mark n octet = refl
-  takes_one Replies.Begun d mark n octet =
-      ap (λ k. aborting k Replies.Begun (decoded_octet d octet) (last_mark mark (octet_says d octet)) n) all
-  takes_one (Replies.Final code) d mark n octet =
-      ap (λ k. aborting k (Replies.Final code) (decoded_octet d octet) (last_mark mark (octet_says d octet)) n) all
-
-  pub takes : (came : List ℕ) (replied : Replied) (d : Decoder) (mark : Option ℕ) (n : View)
-      → receives (down replied d mark n) came ≡ down replied (decoder_after d came) (mark_after d mark came) n
-  takes [] replied d mark n = refl
-  takes (octet ∷ octets) replied d mark n =
-      ap (λ v. receives v octets) (takes_one replied d mark n octet)
-      ∙ takes octets replied (decoded_octet d octet) (last_mark mark (octet_says d octet)) n
-
   -- ---- a break after the final reply is its answer
 
-  pub judges : (code : ℕ) (flow : Flow) → (answer : Said) × (judged Endings.Broken Aborts.Unsent code op flow ≡ Some answer)
-  judges code flow = by (is_refusal code) (code == NO_CONNECTION) (code == BROKEN)
+  pub judges : (code : ℕ) (flow : Flow) → has_settled (count_of op) flow ≡ false
+      → (answer : Said) × (judged Endings.Broken Aborts.Unsent code op flow ≡ Some answer)
+  judges code flow few = by (is_refusal code) (code == NO_CONNECTION) (code == BROKEN)
     where
-      cut : Option ℕ → Option Said
-      cut count = if has_settled count flow then content_answer op (settled_of flow) else Some (broken_answer flow)
+      cut : Bool → Option Said
+      cut enough = if enough then content_answer op (settled_of flow) else Some (broken_answer flow)
 
       by : (refusal none broke : Bool) → (answer : Said) ×
-          ((if refusal then (if none then Some Unopened else (if broke then cut (count_of op) else Some (Refused code))) else cut (count_of op)) ≡ Some answer)
-      by false none broke = (broken_answer flow, ap cut all)
+          ((if refusal then (if none then Some Unopened else (if broke then cut (has_settled (count_of op) flow) else Some (Refused code))) else cut (has_settled (count_of op) flow))
+          ≡ Some answer)
+      by false none broke = (broken_answer flow, ap cut few)
       by true true broke = (Unopened, refl)
-      by true false true = (broken_answer flow, ap cut all)
+      by true false true = (broken_answer flow, ap cut few)
       by true false false = (Refused code, refl)
 
   abbrev pub over : Said → View → View
   over answer n = record n { standing = Stands.Entered; job = Told answer; run = None; connection = Data.Free; closing = false }
 
-  pub final_lost : (code : ℕ) (d : Decoder) (mark : Option ℕ) (n : View)
-      → lost (Replies.Final code) d mark n ≡ over (judges code (Receiving d mark)).0 n
-  final_lost code d mark n =
-      ap (λ j. finishes_read j (record (down (Replies.Final code) d mark n) { connection = Data.Over Endings.Broken })) (judges code (Receiving d mark)).1
+  pub final_lost : (code : ℕ) (d : Decoder) (few : IsFew op d) (mark : Option ℕ) (n : View)
+      → lost (Replies.Final code) d mark n ≡ over (judges code (Receiving d mark) (few mark)).0 n
+  final_lost code d few mark n =
+      ap (λ j. finishes_read j (record (down (Replies.Final code) d mark n) { connection = Data.Over Endings.Broken }))
+      (judges code (Receiving d mark) (few mark)).1
 
   -- what stands aside of it
-  lost_gathered : (replied : Replied) (d : Decoder) (mark : Option ℕ) (n : View) → (lost replied d mark n).gathered ≡ n.gathered
-  lost_gathered Replies.Nothing d mark n = refl
-  lost_gathered Replies.Begun d mark n = refl
-  lost_gathered (Replies.Final code) d mark n = ap (λ (v : View). v.gathered) (final_lost code d mark n)
+  lost_gathered : (replied : Replied) (d : Decoder) → IsFew op d → (mark : Option ℕ) (n : View) → (lost replied d mark n).gathered ≡ n.gathered
+  lost_gathered Replies.Nothing d few mark n = refl
+  lost_gathered Replies.Begun d few mark n = refl
+  lost_gathered (Replies.Final code) d few mark n = ap (λ (v : View). v.gathered) (final_lost code d few mark n)
 
-  lost_ear : (replied : Replied) (d : Decoder) (mark : Option ℕ) (n : View) → (lost replied d mark n).ear ≡ n.ear
-  lost_ear Replies.Nothing d mark n = refl
-  lost_ear Replies.Begun d mark n = refl
-  lost_ear (Replies.Final code) d mark n = ap (λ (v : View). v.ear) (final_lost code d mark n)
+  lost_ear : (replied : Replied) (d : Decoder) → IsFew op d → (mark : Option ℕ) (n : View) → (lost replied d mark n).ear ≡ n.ear
+  lost_ear Replies.Nothing d few mark n = refl
+  lost_ear Replies.Begun d few mark n = refl
+  lost_ear (Replies.Final code) d few mark n = ap (λ (v : View). v.ear) (final_lost code d few mark n)
 
-  gathers_lost : (gathered : Gathered) (replied : Replied) (d : Decoder) (mark : Option ℕ) (n : View)
+  gathers_lost : (gathered : Gathered) (replied : Replied) (d : Decoder) → IsFew op d → (mark : Option ℕ) (n : View)
       → record (lost replied d mark n) { gathered = gathered } ≡ lost replied d mark (record n { gathered = gathered })
-  gathers_lost gathered Replies.Nothing d mark n = refl
-  gathers_lost gathered Replies.Begun d mark n = refl
-  gathers_lost gathered (Replies.Final code) d mark n =
-      ap (λ (v : View). record v { gathered = gathered }) (final_lost code d mark n) ∙ sym (final_lost code d mark (record n { gathered = gathered }))
+  gathers_lost gathered Replies.Nothing d few mark n = refl
+  gathers_lost gathered Replies.Begun d few mark n = refl
+  gathers_lost gathered (Replies.Final code) d few mark n =
+      ap (λ (v : View). record v { gathered = gathered }) (final_lost code d few mark n) ∙ sym (final_lost code d few mark (record n { gathered = gathered }))
 
-  listens_lost : (now : Ear) (replied : Replied) (d : Decoder) (mark : Option ℕ) (n : View)
+  listens_lost : (now : Ear) (replied : Replied) (d : Decoder) → IsFew op d → (mark : Option ℕ) (n : View)
       → record (lost replied d mark n) { ear = now } ≡ lost replied d mark (record n { ear = now })
-  listens_lost now Replies.Nothing d mark n = refl
-  listens_lost now Replies.Begun d mark n = refl
-  listens_lost now (Replies.Final code) d mark n =
-      ap (λ (v : View). record v { ear = now }) (final_lost code d mark n) ∙ sym (final_lost code d mark (record n { ear = now }))
+  listens_lost now Replies.Nothing d few mark n = refl
+  listens_lost now Replies.Begun d few mark n = refl
+  listens_lost now (Replies.Final code) d few mark n =
+      ap (λ (v : View). record v { ear = now }) (final_lost code d few mark n) ∙ sym (final_lost code d few mark (record n { ear = now }))
 
-  owes_lost : (answer : List ℕ) (replied : Replied) (d : Decoder) (mark : Option ℕ) (n : View)
+  owes_lost : (answer : List ℕ) (replied : Replied) (d : Decoder) → IsFew op d → (mark : Option ℕ) (n : View)
       → event_taken (owed answer) (lost replied d mark n) ≡ lost replied d mark (record n { owed = n.owed ++ answer })
-  owes_lost answer Replies.Nothing d mark n = refl
-  owes_lost answer Replies.Begun d mark n = refl
-  owes_lost answer (Replies.Final code) d mark n =
-      ap (event_taken (owed answer)) (final_lost code d mark n) ∙ sym (final_lost code d mark (record n { owed = n.owed ++ answer }))
+  owes_lost answer Replies.Nothing d few mark n = refl
+  owes_lost answer Replies.Begun d few mark n = refl
+  owes_lost answer (Replies.Final code) d few mark n =
+      ap (event_taken (owed answer)) (final_lost code d few mark n) ∙ sym (final_lost code d few mark (record n { owed = n.owed ++ answer }))
 
   -- ---- what is heard
 
@@ -246,12 +242,12 @@ module _ (op : Op (List ℕ)) (all : count_of op ≡ None) where
   pub record Goes (does : View → View) (replied : Replied) (n : View) : Type 0 where
     pub next : Replied
     pub last : View
-    pub stays : (d : Decoder) (mark : Option ℕ) → does (down replied d mark n) ≡ down next d mark last
-    pub breaks : (d : Decoder) (mark : Option ℕ) → does (lost replied d mark n) ≡ lost next d mark last
+    pub stays : (d : Decoder) → IsFew op d → (mark : Option ℕ) → does (down replied d mark n) ≡ down next d mark last
+    pub breaks : (d : Decoder) → IsFew op d → (mark : Option ℕ) → does (lost replied d mark n) ≡ lost next d mark last
 
   -- or it has its answer
   abbrev pub Turns : (View → View) → Replied → View → Type 0
-  Turns does replied n = ((d : Decoder) (mark : Option ℕ) → IsOver (does (down replied d mark n))) ⊎ Goes does replied n
+  Turns does replied n = ((d : Decoder) → IsFew op d → (mark : Option ℕ) → IsOver (does (down replied d mark n))) ⊎ Goes does replied n
 
   -- one that has its answer, whatever was read
   read_over : (read : Option Said) (v : View) → v.standing ≡ Stands.Entered → v.run ≡ None → (transfer : Transfer) → v.job ≡ Transferring op transfer
@@ -272,31 +268,31 @@ module _ (op : Op (List ℕ)) (all : count_of op ≡ None) where
   marked_none (Some count) d mark = refl
 
   reply_turns : (verdict : Verdict) (code : ℕ) (texts : List Text) (replied : Replied) (n : View) → Turns (judged_reply verdict code texts) replied n
-  reply_turns Closing code texts replied n = inl (λ d mark. record { told = refl; late = refl })
-  reply_turns Displaced code texts replied n = inl (λ d mark. record { told = refl; late = refl })
+  reply_turns Closing code texts replied n = inl (λ d few mark. record { told = refl; late = refl })
+  reply_turns Displaced code texts replied n = inl (λ d few mark. record { told = refl; late = refl })
   reply_turns Preliminary code texts Replies.Nothing n = by (code == MARK) refl
     where
       by : (marks : Bool) → (code == MARK) ≡ marks → Turns (judged_reply Preliminary code texts) Replies.Nothing n
       by true is = inr (record {
         next = Replies.Nothing;
         last = n;
-        stays = λ d mark. ap (λ b. if b then down Replies.Nothing d mark n
+        stays = λ d few mark. ap (λ b. if b then down Replies.Nothing d mark n
             else with_reply Replies.Begun op (so_far Replies.Nothing d mark) (down Replies.Nothing d mark n)) is;
-        breaks = λ d mark. ap (λ b. if b then lost Replies.Nothing d mark n
+        breaks = λ d few mark. ap (λ b. if b then lost Replies.Nothing d mark n
             else with_reply Replies.Begun op (so_far Replies.Nothing d mark) (lost Replies.Nothing d mark n)) is;
       })
       by false is = inr (record {
         next = Replies.Begun;
         last = n;
-        stays = λ d mark. ap (λ b. if b then down Replies.Nothing d mark n
-            else with_reply Replies.Begun op (so_far Replies.Nothing d mark) (down Replies.Nothing d mark n)) is ∙ goes_open Replies.Begun d mark n;
-        breaks = λ d mark. ap (λ b. if b then lost Replies.Nothing d mark n
+        stays = λ d few mark. ap (λ b. if b then down Replies.Nothing d mark n
+            else with_reply Replies.Begun op (so_far Replies.Nothing d mark) (down Replies.Nothing d mark n)) is ∙ goes_open Replies.Begun d few mark n;
+        breaks = λ d few mark. ap (λ b. if b then lost Replies.Nothing d mark n
             else with_reply Replies.Begun op (so_far Replies.Nothing d mark) (lost Replies.Nothing d mark n)) is;
       })
-  reply_turns Completion code texts Replies.Nothing n = inl (λ d mark. record { told = refl; late = refl })
-  reply_turns Intermediate code texts Replies.Nothing n = inl (λ d mark. record { told = refl; late = refl })
+  reply_turns Completion code texts Replies.Nothing n = inl (λ d few mark. record { told = refl; late = refl })
+  reply_turns Intermediate code texts Replies.Nothing n = inl (λ d few mark. record { told = refl; late = refl })
   reply_turns Negative code texts Replies.Nothing n =
-      inl (λ d mark. read_over (judged Endings.Ours Aborts.Unsent code op (Receiving d mark))
+      inl (λ d few mark. read_over (judged Endings.Ours Aborts.Unsent code op (Receiving d mark))
       (record (down (Replies.Final code) d mark n) { connection = Data.Over Endings.Ours; closing = true }) refl refl (so_far (Replies.Final code) d mark) refl)
   reply_turns Preliminary code texts Replies.Begun n = by (code == MARK) refl
     where
@@ -310,26 +306,26 @@ module _ (op : Op (List ℕ)) (all : count_of op ≡ None) where
       by true is = inr (record {
         next = Replies.Begun;
         last = n;
-        stays = λ d mark. ap (λ b. if b then marking (flows d mark) (down Replies.Begun d mark n) else down Replies.Begun d mark n) is
+        stays = λ d few mark. ap (λ b. if b then marking (flows d mark) (down Replies.Begun d mark n) else down Replies.Begun d mark n) is
             ∙ ap (λ f. marking f (down Replies.Begun d mark n)) (marked_none (mark_value (joined texts)) d mark);
-        breaks = λ d mark. ap (λ b. if b then marking (flows d mark) (lost Replies.Begun d mark n) else lost Replies.Begun d mark n) is
+        breaks = λ d few mark. ap (λ b. if b then marking (flows d mark) (lost Replies.Begun d mark n) else lost Replies.Begun d mark n) is
             ∙ ap (λ f. marking f (lost Replies.Begun d mark n)) (marked_none (mark_value (joined texts)) d mark);
       })
       by false is = inr (record {
         next = Replies.Begun;
         last = n;
-        stays = λ d mark. ap (λ b. if b then marking (flows d mark) (down Replies.Begun d mark n) else down Replies.Begun d mark n) is;
-        breaks = λ d mark. ap (λ b. if b then marking (flows d mark) (lost Replies.Begun d mark n) else lost Replies.Begun d mark n) is;
+        stays = λ d few mark. ap (λ b. if b then marking (flows d mark) (down Replies.Begun d mark n) else down Replies.Begun d mark n) is;
+        breaks = λ d few mark. ap (λ b. if b then marking (flows d mark) (lost Replies.Begun d mark n) else lost Replies.Begun d mark n) is;
       })
   reply_turns Completion code texts Replies.Begun n =
-      inr (record { next = Replies.Final code; last = n; stays = λ d mark. goes_open (Replies.Final code) d mark n; breaks = λ d mark. refl })
+      inr (record { next = Replies.Final code; last = n; stays = λ d few mark. goes_open (Replies.Final code) d few mark n; breaks = λ d few mark. refl })
   reply_turns Negative code texts Replies.Begun n =
-      inr (record { next = Replies.Final code; last = n; stays = λ d mark. goes_open (Replies.Final code) d mark n; breaks = λ d mark. refl })
-  reply_turns Intermediate code texts Replies.Begun n = inl (λ d mark. record { told = refl; late = refl })
-  reply_turns Preliminary code texts (Replies.Final before) n = inl (λ d mark. record { told = refl; late = refl })
-  reply_turns Completion code texts (Replies.Final before) n = inl (λ d mark. record { told = refl; late = refl })
-  reply_turns Intermediate code texts (Replies.Final before) n = inl (λ d mark. record { told = refl; late = refl })
-  reply_turns Negative code texts (Replies.Final before) n = inl (λ d mark. record { told = refl; late = refl })
+      inr (record { next = Replies.Final code; last = n; stays = λ d few mark. goes_open (Replies.Final code) d few mark n; breaks = λ d few mark. refl })
+  reply_turns Intermediate code texts Replies.Begun n = inl (λ d few mark. record { told = refl; late = refl })
+  reply_turns Preliminary code texts (Replies.Final before) n = inl (λ d few mark. record { told = refl; late = refl })
+  reply_turns Completion code texts (Replies.Final before) n = inl (λ d few mark. record { told = refl; late = refl })
+  reply_turns Intermediate code texts (Replies.Final before) n = inl (λ d few mark. record { told = refl; late = refl })
+  reply_turns Negative code texts (Replies.Final before) n = inl (λ d few mark. record { told = refl; late = refl })
 
   -- a line
   line_turns : (heard : Heard) (replied : Replied) (n : View) → Turns (line_taken heard) replied n
@@ -337,10 +333,10 @@ module _ (op : Op (List ℕ)) (all : count_of op ≡ None) where
   line_turns (GoesOn gathered) replied n = inr (record {
     next = replied;
     last = record n { gathered = gathered };
-    stays = λ d mark. refl;
-    breaks = λ d mark. gathers_lost gathered replied d mark n;
+    stays = λ d few mark. refl;
+    breaks = λ d few mark. gathers_lost gathered replied d few mark n;
   })
-  line_turns (Faulty fault) replied n = inl (λ d mark. record { told = refl; late = refl })
+  line_turns (Faulty fault) replied n = inl (λ d few mark. record { told = refl; late = refl })
   line_turns (Says code texts) replied n =
       let m : View = record n { gathered = Between } in
       elim (reply_turns (verdict_of code) code texts replied m) [
@@ -349,7 +345,7 @@ module _ (op : Op (List ℕ)) (all : count_of op ≡ None) where
           next = g.next;
           last = g.last;
           stays = g.stays;
-          breaks = λ d mark. ap (judged_reply (verdict_of code) code texts) (gathers_lost Between replied d mark n) ∙ g.breaks d mark;
+          breaks = λ d few mark. ap (judged_reply (verdict_of code) code texts) (gathers_lost Between replied d few mark n) ∙ g.breaks d few mark;
         })
       ]
 
@@ -361,15 +357,15 @@ module _ (op : Op (List ℕ)) (all : count_of op ≡ None) where
           next = g.next;
           last = g.last;
           stays = g.stays;
-          breaks = λ d mark. ap (λ before. line_taken (line_heard before text) (lost replied d mark n)) (lost_gathered replied d mark n) ∙ g.breaks d mark;
+          breaks = λ d few mark. ap (λ before. line_taken (line_heard before text) (lost replied d mark n)) (lost_gathered replied d few mark n) ∙ g.breaks d few mark;
         })
       ]
-  event_turns too_long replied n = inl (λ d mark. record { told = refl; late = refl })
+  event_turns too_long replied n = inl (λ d few mark. record { told = refl; late = refl })
   event_turns (owed answer) replied n = inr (record {
     next = replied;
     last = record n { owed = n.owed ++ answer };
-    stays = λ d mark. refl;
-    breaks = λ d mark. owes_lost answer replied d mark n;
+    stays = λ d few mark. refl;
+    breaks = λ d few mark. owes_lost answer replied d few mark n;
   })
 
   -- an octet
@@ -379,8 +375,8 @@ module _ (op : Op (List ℕ)) (all : count_of op ≡ None) where
         | inl f ↦ inr (record {
           next = replied;
           last = m;
-          stays = λ d mark. ap (λ es. events_taken es (down replied d mark m)) f;
-          breaks = λ d mark. ear_lost d mark ∙ ap (λ es. events_taken es (lost replied d mark m)) f;
+          stays = λ d few mark. ap (λ es. events_taken es (down replied d mark m)) f;
+          breaks = λ d few mark. ear_lost d few mark ∙ ap (λ es. events_taken es (lost replied d mark m)) f;
         })
         | inr f ↦ one f.0 f.1 (event_turns f.0 replied m)
       ]
@@ -388,56 +384,76 @@ module _ (op : Op (List ℕ)) (all : count_of op ≡ None) where
       m : View
       m = record n { ear = ear_step reply_limit n.ear octet }
 
-      ear_lost : (d : Decoder) (mark : Option ℕ)
+      ear_lost : (d : Decoder) → IsFew op d → (mark : Option ℕ)
           → hears_octet (lost replied d mark n) octet ≡ events_taken (ear_out reply_limit n.ear octet) (lost replied d mark m)
-      ear_lost d mark =
+      ear_lost d few mark =
           ap (λ e. events_taken (ear_out reply_limit e octet) (record (lost replied d mark n) { ear = ear_step reply_limit e octet }))
-          (lost_ear replied d mark n)
-          ∙ ap (events_taken (ear_out reply_limit n.ear octet)) (listens_lost (ear_step reply_limit n.ear octet) replied d mark n)
+          (lost_ear replied d few mark n)
+          ∙ ap (events_taken (ear_out reply_limit n.ear octet)) (listens_lost (ear_step reply_limit n.ear octet) replied d few mark n)
 
       one : (event : NvtEvent) → ear_out reply_limit n.ear octet ≡ event ∷ [] → Turns (event_taken event) replied m → Turns (λ v. hears_octet v octet) replied n
-      one event f (inl stops) = inl (λ d mark. subst (λ es. IsOver (events_taken es (down replied d mark m))) (sym f) (stops d mark))
+      one event f (inl stops) = inl (λ d few mark. subst (λ es. IsOver (events_taken es (down replied d mark m))) (sym f) (stops d few mark))
       one event f (inr g) = inr (record {
         next = g.next;
         last = g.last;
-        stays = λ d mark. ap (λ es. events_taken es (down replied d mark m)) f ∙ g.stays d mark;
-        breaks = λ d mark. ear_lost d mark ∙ ap (λ es. events_taken es (lost replied d mark m)) f ∙ g.breaks d mark;
+        stays = λ d few mark. ap (λ es. events_taken es (down replied d mark m)) f ∙ g.stays d few mark;
+        breaks = λ d few mark. ear_lost d few mark ∙ ap (λ es. events_taken es (lost replied d mark m)) f ∙ g.breaks d few mark;
       })
 
   pub hears_turns : (octets : List ℕ) (replied : Replied) (n : View) → Turns (λ v. hears v octets) replied n
-  hears_turns [] replied n = inr (record { next = replied; last = n; stays = λ d mark. refl; breaks = λ d mark. refl })
+  hears_turns [] replied n = inr (record { next = replied; last = n; stays = λ d few mark. refl; breaks = λ d few mark. refl })
   hears_turns (octet ∷ octets) replied n =
       elim (octet_turns octet replied n) [
-        | inl stops ↦ inl (λ d mark. hears_over octets (hears_octet (down replied d mark n) octet) (stops d mark))
+        | inl stops ↦ inl (λ d few mark. hears_over octets (hears_octet (down replied d mark n) octet) (stops d few mark))
         | inr g ↦ on g (hears_turns octets g.next g.last)
       ]
     where
       on : (g : Goes (λ v. hears_octet v octet) replied n) → Turns (λ v. hears v octets) g.next g.last
           → Turns (λ v. hears v (octet ∷ octets)) replied n
-      on g (inl stops) = inl (λ d mark. subst (λ v. IsOver (hears v octets)) (sym (g.stays d mark)) (stops d mark))
+      on g (inl stops) = inl (λ d few mark. subst (λ v. IsOver (hears v octets)) (sym (g.stays d few mark)) (stops d few mark))
       on g (inr h) = inr (record {
         next = h.next;
         last = h.last;
-        stays = λ d mark. ap (λ v. hears v octets) (g.stays d mark) ∙ h.stays d mark;
-        breaks = λ d mark. ap (λ v. hears v octets) (g.breaks d mark) ∙ h.breaks d mark;
+        stays = λ d few mark. ap (λ v. hears v octets) (g.stays d few mark) ∙ h.stays d few mark;
+        breaks = λ d few mark. ap (λ v. hears v octets) (g.breaks d few mark) ∙ h.breaks d few mark;
       })
+
+-- one that asks for all
+module _ (op : Op (List ℕ)) (all : count_of op ≡ None) where
+  -- takes octets
+  takes_one : (replied : Replied) (d : Decoder) (mark : Option ℕ) (n : View) (octet : ℕ)
+      → near.receives_octet (down op replied d mark n) octet ≡ down op replied (decoded_octet d octet) (last_mark mark (octet_says d octet)) n
+  takes_one Replies.Nothing d mark n octet = refl
+  takes_one Replies.Begun d mark n octet =
+      ap (λ k. aborting op (has_settled k (Receiving (decoded_octet d octet) (last_mark mark (octet_says d octet)))) Replies.Begun (decoded_octet d octet) (last_mark mark (octet_says d octet)) n) all
+  takes_one (Replies.Final code) d mark n octet =
+      ap (λ k. aborting op (has_settled k (Receiving (decoded_octet d octet) (last_mark mark (octet_says d octet)))) (Replies.Final code) (decoded_octet d octet) (last_mark mark (octet_says d octet)) n) all
+
+  pub takes : (came : List ℕ) (replied : Replied) (d : Decoder) (mark : Option ℕ) (n : View)
+      → receives (down op replied d mark n) came ≡ down op replied (decoder_after op d came) (mark_after op d mark came) n
+  takes [] replied d mark n = refl
+  takes (octet ∷ octets) replied d mark n =
+      ap (λ v. receives v octets) (takes_one replied d mark n octet)
+      ∙ takes octets replied (decoded_octet d octet) (last_mark mark (octet_says d octet)) n
 
 -- ---- both orders
 
 pub hears_late : HearsLate
 hears_late op all replied d mark n heard came takes_on =
-    elim (hears_turns op all heard replied n) [
-      | inl stops ↦ absurd (over_takes (hears (downloading op replied d mark n) heard) (stops d mark) takes_on)
-      | inr g ↦ ap (λ v. receives v came) (g.stays d mark) ∙ takes op all came g.next d mark g.last
-          ∙ sym (g.stays (decoder_after op all d came) (mark_after op all d mark came)) ∙ ap (λ v. hears v heard) (sym (takes op all came replied d mark n))
+    let few = all_few op all d in
+    elim (hears_turns op heard replied n) [
+      | inl stops ↦ absurd (over_takes (hears (downloading op replied d mark n) heard) (stops d few mark) takes_on)
+      | inr g ↦ ap (λ v. receives v came) (g.stays d few mark) ∙ takes op all came g.next d mark g.last
+          ∙ sym (g.stays (decoder_after op d came) (all_few op all (decoder_after op d came)) (mark_after op d mark came)) ∙ ap (λ v. hears v heard) (sym (takes op all came replied d mark n))
     ]
 
 pub breaks_late : BreaksLate
 unfolding data_fault
 breaks_late op all replied d mark n heard came takes_on =
-    elim (hears_turns op all heard replied n) [
-      | inl stops ↦ absurd (over_takes (hears (downloading op replied d mark n) heard) (stops d mark) takes_on)
-      | inr g ↦ ap (λ v. data_fault (receives v came)) (g.stays d mark) ∙ ap data_fault (takes op all came g.next d mark g.last)
-          ∙ sym (g.breaks (decoder_after op all d came) (mark_after op all d mark came))
+    let few = all_few op all d in
+    elim (hears_turns op heard replied n) [
+      | inl stops ↦ absurd (over_takes (hears (downloading op replied d mark n) heard) (stops d few mark) takes_on)
+      | inr g ↦ ap (λ v. data_fault (receives v came)) (g.stays d few mark) ∙ ap data_fault (takes op all came g.next d mark g.last)
+          ∙ sym (g.breaks (decoder_after op d came) (all_few op all (decoder_after op d came)) (mark_after op d mark came))
           ∙ ap (λ v. hears (data_fault v) heard) (sym (takes op all came replied d mark n))
     ]

@@ -1,4 +1,5 @@
 pub mod Late
+pub mod Last
 pub mod Counting
 pub mod Faults
 pub mod Unsent
@@ -10,6 +11,7 @@ pub mod Failing
 pub mod Seen
 pub mod Untold
 pub mod Steps
+pub mod Laden
 pub mod Lagging
 pub mod BothBroken
 pub mod Unaware

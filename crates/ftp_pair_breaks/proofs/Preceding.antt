@@ -7,6 +7,7 @@ use Rattle.ftp_control.specs.Lane.{IsLeft, IsOpen, Lane, with_untold}
 use Rattle.ftp_control.specs.Machine.{Aside, Break, Closed, End, Failed, Gave, Got, Left, LetGo, Listening, Opened, Received, Waited, Wrote, awaits}
 use Rattle.ftp_client_drive.specs.Side.{client_side}
 use Rattle.ftp_client_model.specs.Calls.{hears}
+use Rattle.ftp_client_model.specs.Plan.{count_of}
 use Rattle.ftp_client_model.specs.View.{Doing, Idle, Job, Told, Transferring, View as Near, Waiting}
 use Rattle.ftp_ends.specs.declared.link.Wants.{Wants}
 use Rattle.ftp_ends.specs.declared.link.Wants.TheVariants as Want
@@ -16,7 +17,8 @@ use Rattle.ftp_server_model.specs.Calls.{clock_step, control_step}
 use Rattle.ftp_server_model.specs.Machine.{IsReading, Reading}
 use Rattle.ftp_server_model.specs.View.{View as Far}
 use Rattle.ftp_pair_world.specs.Claims.{Beginning, IsFair, state_of}
-use Rattle.ftp_pair_world.specs.World.{Mark, World}
+use Rattle.ftp_pair_world.specs.Agreement.{Order}
+use Rattle.ftp_pair_world.specs.World.{Mark, Opened as LinkOpened, World}
 use Rattle.ftp_pair_agreement.proofs.Chunks.{both_empty}
 use Rattle.ftp_pair_drives.specs.Alone.{ServerIsCalm, reports_in}
 use Rattle.ftp_pair_drives.specs.Between.{Between, CanTurn, Has, Has_lost, Server as ByServer}
@@ -28,19 +30,20 @@ use Rattle.ftp_pair_transfers.specs.Ahead.{Level, far_ahead}
 use Rattle.ftp_pair_transfers.specs.Deeds.{AreMoments, begun_at}
 use Rattle.ftp_pair_transfers.proofs.Aborting.{given_untaken}
 use Rattle.ftp_pair_transfers.proofs.Beside.{is_taking, open_takes}
-use Rattle.ftp_pair_transfers.proofs.Known.{is_near_held}
+use Rattle.ftp_pair_transfers.proofs.Known.{AreCarried, is_near_held}
 use Rattle.ftp_pair_transfers.proofs.Simulating.{known, runs}
 use Rattle.ftp_pair_breaks.specs.Deeds.{ServerYields}
 use Rattle.ftp_pair_breaks.proofs.Faults.{Loads}
 use Rattle.ftp_pair_breaks.proofs.BothBroken.{broke, level, sends_far}
 use Rattle.ftp_pair_breaks.proofs.Drained.{dry, unless_broken}
 use Rattle.ftp_pair_breaks.proofs.Failing.{closes}
-use Rattle.ftp_pair_breaks.proofs.Feeding.{Gives, pushed_gives}
+use Rattle.ftp_pair_breaks.proofs.Feeding.{Gives, giving_opened, pushed_gives}
 use Rattle.ftp_pair_breaks.proofs.Lagging.{OfMarks}
+use Rattle.ftp_pair_breaks.proofs.Last.{AreFew, LastAll, last_few}
 use Rattle.ftp_pair_breaks.proofs.Rows.{Steady, breaking, gives_heard}
 use Rattle.ftp_pair_breaks.proofs.Steps.{At}
 use Rattle.ftp_pair_breaks.proofs.Unaware.{taken_loads}
-use Rattle.ftp_pair_breaks.proofs.Unsent.{AskAll, Unsent, all_carried}
+use Rattle.ftp_pair_breaks.proofs.Unsent.{Unsent}
 
 -- what lies between, as if the server had not been told, and all that it said before were read
 abbrev pub behind : Between → Between
@@ -63,14 +66,26 @@ idle_unsent (Waiting op) plain = plain
 idle_unsent (Doing op step) plain = plain
 idle_unsent (Transferring op transfer) plain = plain
 
+-- less came of it than was asked for
+idle_few : (begun : List Order) (job : Job) → AreFew begun job → AreFew begun (idle_of job)
+idle_few begun (Told answer) few = λ op last transfer d mark is flow. absurd (true≢false (sym (ap is_transfer is)))
+  where
+    is_transfer : Job → Bool
+    is_transfer (Transferring op transfer) = true
+    is_transfer job = false
+idle_few begun Idle few = few
+idle_few begun (Waiting op) few = few
+idle_few begun (Doing op step) few = few
+idle_few begun (Transferring op transfer) few = few
+
 module _ (read : Reading) (reads : IsReading read) (moments : ℕ → ℕ) (timed : AreMoments moments) (b : Beginning) (fair : IsFair b) where
   abbrev Stands : (deeds : List (Deed client_side)) (between : Between) (count : ℕ) (server : Stand server_side) (client : Stand client_side) → Type 0
   Stands deeds between count server client = At read reads moments timed b fair deeds between count server client
 
   -- a world whose server gives
-  module _ (deeds : List (Deed client_side)) (puts : AskAll (begun_at moments deeds)) (between : Between) (count : ℕ) (server : Stand server_side)
+  module _ (deeds : List (Deed client_side)) (carried : AreCarried (begun_at moments deeds)) (between : Between) (count : ℕ) (server : Stand server_side)
       (client : Stand client_side) (o : Stands deeds between count server client) (sends : far.wants server.owner.end.server.view ≡ Want.Send)
-      (unsent : IsPlainBy Unsent client.owner.end.view) where
+      (few : AreFew (begun_at moments deeds) client.owner.end.view.job) (unsent : IsPlainBy Unsent client.owner.end.view) where
     abbrev x : World
     x = o.world
 
@@ -81,13 +96,18 @@ module _ (read : Reading) (reads : IsReading read) (moments : ℕ → ℕ) (time
     world_unsent : IsPlainJob Unsent x.near.job
     world_unsent = subst (λ (n : Near). IsPlainJob Unsent n.job) (sym o.together.beside.near) (idle_unsent v.job unsent.job)
 
+    -- less came than was asked for
+    world_few : AreFew (begun_at moments deeds) x.near.job
+    world_few = subst (λ (n : Near). AreFew (begun_at moments deeds) n.job) (sym o.together.beside.near) (idle_few (begun_at moments deeds) v.job few)
+
     -- it gives octets
-    pub gives_at : Gives x
+    pub gives_at : Gives (begun_at moments deeds) x
     gives_at =
-        pushed_gives read reads (state_of b) (begun_at moments deeds) puts x
-        (runs read reads moments timed b fair deeds between count server client _ o (all_carried (begun_at moments deeds) puts))
-        o.together.beside.control o.together.beside.unready world_unsent 0
-        (sends_far read (begun_at moments deeds) server client (reports_in deeds) x o.serves sends o.last o.ahead between count o.together) world_unsent
+        pushed_gives read reads (state_of b) (begun_at moments deeds) carried x
+        (runs read reads moments timed b fair deeds between count server client _ o carried)
+        o.together.beside.control o.together.beside.unready 0
+        (sends_far read (begun_at moments deeds) server client (reports_in deeds) x o.serves sends o.last o.ahead between count o.together) world_few world_unsent
+        world_few world_unsent
 
     -- the client takes octets
     pub near_at : x.near ≡ v
@@ -109,6 +129,15 @@ module _ (read : Reading) (reads : IsReading read) (moments : ℕ → ℕ) (time
         by true is = is
         by false is = absurd (both (ap is_near_held gives_at.link) (o.together.keeping.over is))
 
+  -- a world whose server gives does so over a link that is open
+  pub opened_at : (deeds : List (Deed client_side)) → AreCarried (begun_at moments deeds) → (between : Between) (count : ℕ) (server : Stand server_side)
+      (client : Stand client_side) (o : Stands deeds between count server client) → far.wants server.owner.end.server.view ≡ Want.Send
+      → o.world.link ≡ LinkOpened
+  opened_at deeds carried between count server client o sends =
+      giving_opened read reads (state_of b) (begun_at moments deeds) carried o.world
+      (runs read reads moments timed b fair deeds between count server client _ o carried) o.together.beside.control o.together.beside.unready
+      (sends_far read (begun_at moments deeds) server client (reports_in deeds) o.world o.serves sends o.last o.ahead between count o.together)
+
   -- the server was told first: a world is beside one that was not, and a client that heard nothing of what the server said since
   pub record Precedes (Are : OfMarks) (deeds : List (Deed client_side)) (between : Between) (count : ℕ) (server : Stand server_side)
       (client : Stand client_side) : Type 0 where
@@ -118,6 +147,7 @@ module _ (read : Reading) (reads : IsReading read) (moments : ℕ → ℕ) (time
     pub near : Near
     pub queue : List ℕ
     pub at : Stands deeds (behind between) count were (unaware refusals near queue client.owner.lane)
+    pub asks : LastAll (begun_at moments deeds)
     pub unsent : IsPlainBy Unsent near
     pub marks : List (List Mark)
     pub are_marks : Are marks
@@ -140,7 +170,7 @@ module _ (read : Reading) (reads : IsReading read) (moments : ℕ → ℕ) (time
     pub split : queue ++ said ≡ heard ++ (client.unheard ++ between.control.to_client)
     pub late : (heard ≡ []) ⊎ (queue ≡ [])
 
-  module _ {Are : OfMarks} (deeds : List (Deed client_side)) (puts : AskAll (begun_at moments deeds)) (between : Between) (count : ℕ)
+  module _ {Are : OfMarks} (deeds : List (Deed client_side)) (carried : AreCarried (begun_at moments deeds)) (between : Between) (count : ℕ)
       (server : Stand server_side) (client : Stand client_side) (p : Precedes Are deeds between count server client) where
     abbrev pub virtual : Stand client_side
     virtual = unaware p.refusals p.near p.queue client.owner.lane
@@ -148,17 +178,24 @@ module _ (read : Reading) (reads : IsReading read) (moments : ℕ → ℕ) (time
     abbrev w : World
     w = p.at.world
 
+    few : AreFew (begun_at moments deeds) p.near.job
+    few = last_few (begun_at moments deeds) p.near.job p.asks
+
     -- the world's server gives
-    pub gives_now : Gives w
-    gives_now = gives_at deeds puts (behind between) count p.were virtual p.at p.sends p.unsent
+    pub gives_now : Gives (begun_at moments deeds) w
+    gives_now = gives_at deeds carried (behind between) count p.were virtual p.at p.sends few p.unsent
+
+    -- octets of an operation that asks for all
+    pub asks_all : count_of gives_now.loads.op ≡ None
+    asks_all = p.asks gives_now.loads.op gives_now.last
 
     -- its client takes octets
     pub near_is : w.near ≡ p.near
-    near_is = near_at deeds puts (behind between) count p.were virtual p.at p.sends p.unsent
+    near_is = near_at deeds carried (behind between) count p.were virtual p.at p.sends few p.unsent
 
     -- and was told neither of an end nor of a break
     pub whole_now : is_whole client.owner.lane.fate ≡ true
-    whole_now = taking_at deeds puts (behind between) count p.were virtual p.at p.sends p.unsent
+    whole_now = taking_at deeds carried (behind between) count p.were virtual p.at p.sends few p.unsent
 
     -- it is ahead by nothing
     ahead_level : p.at.ahead ≡ Level
@@ -182,7 +219,7 @@ module _ (read : Reading) (reads : IsReading read) (moments : ℕ → ℕ) (time
         → Steady gives_now.loads.op gives_now.loads.decoder gives_now.loads.mark (hears p.near front)
     steady front rest is =
         subst (λ n. Steady gives_now.loads.op gives_now.loads.decoder gives_now.loads.mark (hears n front)) near_is
-        (gives_heard w gives_now front (rest ++ p.left) (coming ∙ ap (λ o. o ++ p.left) is ∙ append_assoc front rest p.left))
+        (gives_heard (begun_at moments deeds) w gives_now front (rest ++ p.left) (coming ∙ ap (λ o. o ++ p.left) is ∙ append_assoc front rest p.left))
 
     -- so does the client that heard nothing of it
     pub steady_here : Steady gives_now.loads.op gives_now.loads.decoder gives_now.loads.mark p.near
@@ -197,7 +234,7 @@ module _ (read : Reading) (reads : IsReading read) (moments : ℕ → ℕ) (time
     -- no octet of its data connection goes to it
     pub nothing_rises : (between.data_ways.to_server ≡ []) × (client.owner.lane.unwritten ≡ [])
     nothing_rises =
-        let known_now = known read reads moments timed b fair deeds (behind between) count p.were virtual _ p.at (all_carried (begun_at moments deeds) puts) in
+        let known_now = known read reads moments timed b fair deeds (behind between) count p.were virtual _ p.at carried in
         let giving = sends_far read (begun_at moments deeds) p.were virtual (reports_in deeds) w p.at.serves p.sends p.at.last p.at.ahead (behind between) count
         p.at.together in
         let ways = between.data_ways.to_server ++ client.owner.lane.unwritten in
@@ -247,6 +284,7 @@ module _ (read : Reading) (reads : IsReading read) (moments : ℕ → ℕ) (time
         near = p.near;
         queue = p.queue;
         at = got.0;
+        asks = p.asks;
         unsent = p.unsent;
         marks = p.marks;
         are_marks = p.are_marks;

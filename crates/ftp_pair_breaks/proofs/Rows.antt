@@ -6,7 +6,6 @@ use Rattle.ftp_operation.specs.declared.op.Op.{Op}
 use Rattle.ftp_wire.specs.Decoder.{Decoder}
 use Rattle.ftp_client_model.specs.Calls.{hears}
 use Rattle.ftp_client_model.specs.Dialogue.{answered}
-use Rattle.ftp_client_model.specs.Plan.{count_of}
 use Rattle.ftp_client_model.specs.View.{View as Near}
 use Rattle.ftp_client_model.specs.declared.client.Replied.{Replied}
 use Rattle.ftp_client_model.specs.declared.client.Replied.TheVariants as Replies
@@ -17,12 +16,13 @@ use Rattle.ftp_server_model.specs.declared.reply.FixedReply.TheVariants as Texts
 use Rattle.ftp_pair_agreement.proofs.Chunks.{cuts}
 use Rattle.ftp_pair_agreement.proofs.Sessions.{fixed}
 use Rattle.ftp_pair_dialogues.specs.Stage.{calm}
+use Rattle.ftp_pair_world.specs.Agreement.{Order}
 use Rattle.ftp_pair_world.specs.World.{World}
 use Rattle.ftp_pair_agreement.specs.Cut.{FlowsRow}
 use Rattle.ftp_pair_agreement.specs.Stages.{behind_opening, heard_by, replied_of}
 use Rattle.ftp_pair_breaks.specs.Late.{downloading}
 use Rattle.ftp_pair_breaks.proofs.Feeding.{Gives}
-use Rattle.ftp_pair_breaks.proofs.Late.{down, goes_open}
+use Rattle.ftp_pair_breaks.proofs.Late.{IsFew, down, goes_open}
 
 -- what is said as a transfer begins, and as its link broke
 abbrev pub opening : List ℕ
@@ -38,9 +38,9 @@ pub record Steady (op : Op (List ℕ)) (d : Decoder) (mark : Option ℕ) (v : Ne
   pub is : v ≡ downloading op replied d mark last
   pub owes : last.owed ≡ []
 
-module _ (s : Session) (op : Op (List ℕ)) (all : count_of op ≡ None) (d : Decoder) (mark : Option ℕ) (n : Near) where
+module _ (s : Session) (op : Op (List ℕ)) (d : Decoder) (few : IsFew op d) (mark : Option ℕ) (n : Near) where
   abbrev at : Replied → Near
-  at replied = down op all replied d mark (calm n)
+  at replied = down op replied d mark (calm n)
 
   -- a front of a reply changes nothing
   front : (replied : Replied) (reply : Reply) → IsWritten reply.code reply.lines → (heard more : List ℕ) (octet : ℕ)
@@ -56,14 +56,14 @@ module _ (s : Session) (op : Op (List ℕ)) (all : count_of op ≡ None) (d : De
   begins =
       let reply = fixed_reply Texts.Opens in
       (reply_is_heard reply.code reply.lines (at Replies.Nothing) (fixed s Texts.Opens) (record { ear = refl; gathered = refl })).whole
-      ∙ goes_open op all Replies.Begun d mark (calm n)
+      ∙ goes_open op Replies.Begun d few mark (calm n)
 
   breaks : hears (at Replies.Begun) breaking ≡ at (Replies.Final 426)
   unfolding answered
   breaks =
       let reply = fixed_reply Texts.Broken in
       (reply_is_heard reply.code reply.lines (at Replies.Begun) (fixed s Texts.Broken) (record { ear = refl; gathered = refl })).whole
-      ∙ goes_open op all (Replies.Final 426) d mark (calm n)
+      ∙ goes_open op (Replies.Final 426) d few mark (calm n)
 
   -- a front of a 426
   pub broken_heard : (heard rest : List ℕ) → heard ++ rest ≡ breaking → Steady op d mark (hears (at Replies.Begun) heard)
@@ -87,7 +87,7 @@ module _ (s : Session) (op : Op (List ℕ)) (all : count_of op ≡ None) (d : De
 
 -- ---- in a world whose server gives
 
-module _ (w : World) (g : Gives w) where
+module _ (begun : List Order) (w : World) (g : Gives begun w) where
   abbrev d : Decoder
   d = g.loads.decoder
 
@@ -109,11 +109,11 @@ module _ (w : World) (g : Gives w) where
           → Steady g.loads.op d g.loads.mark (hears w.near heard)
       by true near row =
           subst (Steady g.loads.op d g.loads.mark) (sym (ap (λ v. hears v heard) (near ∙ ap (hears (base Replies.Begun)) row.0)))
-          (broken_heard w.far.session g.loads.op g.loads.all d g.loads.mark g.base heard rest (sym behind ∙ ap (λ c. c ++ breaking) row.1))
+          (broken_heard w.far.session g.loads.op d g.loads.few g.loads.mark g.base heard rest (sym behind ∙ ap (λ c. c ++ breaking) row.1))
       by false near row =
           let unit : List ℕ = row.octet ∷ row.more in
           let all : (g.held ++ heard) ++ rest ≡ opening ++ breaking =
           append_assoc g.held heard rest ∙ ap (λ c. g.held ++ c) (sym behind)
           ∙ ap (λ c. g.held ++ (c ++ breaking)) (row.is ∙ append-nil unit) ∙ sym (append_assoc g.held unit breaking) ∙ ap (λ c. c ++ breaking) row.whole in
           subst (Steady g.loads.op d g.loads.mark) (sym (ap (λ v. hears v heard) near ∙ sym (in_pieces (base Replies.Nothing) g.held heard)))
-          (both_heard w.far.session g.loads.op g.loads.all d g.loads.mark g.base (g.held ++ heard) rest all)
+          (both_heard w.far.session g.loads.op d g.loads.few g.loads.mark g.base (g.held ++ heard) rest all)

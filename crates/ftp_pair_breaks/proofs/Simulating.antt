@@ -16,6 +16,7 @@ use Rattle.ftp_server_model.specs.Calls as far
 use Rattle.ftp_server_model.specs.Calls.{break_step, clock_step}
 use Rattle.ftp_server_model.specs.Machine.{IsReading, Reading}
 use Rattle.ftp_server_model.specs.View.{View as Far}
+use Rattle.ftp_pair_world.specs.Agreement.{Order}
 use Rattle.ftp_pair_world.specs.Claims.{Beginning, IsFair}
 use Rattle.ftp_pair_world.specs.World.{Broken, Mark, World, marked_last}
 use Rattle.ftp_pair_drives.specs.Alone.{ServerIsCalm, begun_by, reports_in}
@@ -24,8 +25,9 @@ use Rattle.ftp_pair_drives.specs.Claims.{Begins}
 use Rattle.ftp_pair_drives.specs.Touches.{ToldBreak, touch_in}
 use Rattle.ftp_pair_drives.proofs.Taken.{reports_is}
 use Rattle.ftp_pair_deeds.specs.Deeds.{ArePorts, listened_in}
+use Rattle.ftp_pair_deeds.proofs.FarForms.{no_close}
 use Rattle.ftp_pair_deeds.proofs.Fresh.{Fresh}
-use Rattle.ftp_pair_deeds.proofs.Holding.{is_called, is_had}
+use Rattle.ftp_pair_deeds.proofs.Holding.{both, is_called, is_had}
 use Rattle.ftp_pair_deeds.proofs.Plain.{IsPlainBy, IsPlainly}
 use Rattle.ftp_pair_deeds.proofs.Stands.{ClientFetches}
 use Rattle.ftp_pair_transfers.specs.Deeds.{AreMoments, AreToldAt, IsToldAt, begun_at, last_of, number_in}
@@ -34,13 +36,13 @@ use Rattle.ftp_pair_transfers.proofs.Called.{BreaksNone, StaysFresh}
 use Rattle.ftp_pair_transfers.proofs.ClientGiving.{gave_by}
 use Rattle.ftp_pair_transfers.proofs.ClientRefused.{refused_plain}
 use Rattle.ftp_pair_transfers.proofs.ClientStays.{client_resets}
-use Rattle.ftp_pair_transfers.proofs.Known.{AreCarried, Known}
+use Rattle.ftp_pair_transfers.proofs.Known.{AreCarried, Known, both_carried, is_near_held}
 use Rattle.ftp_pair_transfers.proofs.Lost.{IsSeen, near_done, seen_itself, with_lost}
 use Rattle.ftp_pair_transfers.proofs.Reaching.{earlier, starts_so}
 use Rattle.ftp_pair_transfers.proofs.Simulating.{asks, known, never}
 use Rattle.ftp_pair_breaks.specs.Claims.{AreSame, BreaksAreOfWorlds, IsClientFirst, IsServerFirst, ReportAlike, SufferingIsOfWorld}
 use Rattle.ftp_server_model.specs.declared.session.ServerLink.TheVariants as Data
-use Rattle.ftp_pair_breaks.specs.Deeds.{AreMarks, ClientSuffers, HasTaken, Marks, ServerYields, SuffersAlong, YieldsAlong}
+use Rattle.ftp_pair_breaks.specs.Deeds.{AreAfter, AreMarks, AreShort, AsksAll, ClientSuffers, HasTaken, IsToldAfter, IsToldShort, Marks, ServerYields, SuffersAlong, YieldsAlong}
 use Rattle.ftp_pair_breaks.proofs.BothBroken.{broke, broke_step}
 use Rattle.ftp_pair_breaks.proofs.BothTold.{told_after, told_first, told_last}
 use Rattle.ftp_pair_breaks.proofs.ClientBroken.{broken_closing, broken_lane, broken_plain, broken_sound, client_broken, closing_by, closing_plain, closing_sound}
@@ -48,29 +50,45 @@ use Rattle.ftp_pair_breaks.proofs.Drained.{BreaksNot, IsLone, dried, dried_none,
 use Rattle.ftp_pair_breaks.proofs.Faults.{Loads, faulted_plain, loads_taken}
 use Rattle.ftp_pair_breaks.proofs.Feeding.{Feeding, is_final}
 use Rattle.ftp_pair_breaks.proofs.Following.{follows}
-use Rattle.ftp_pair_breaks.proofs.Lagging.{Lags, Leftover, OfMarks, Then, Whole, beside, feeding_at, feeds, is_failed, lag_step, leaves, unbroken}
-use Rattle.ftp_pair_breaks.proofs.Preceding.{Precedes, behind, gives_now, asks_none, precede_server, steady_here, steady_now, unaware}
+use Rattle.ftp_pair_breaks.proofs.Lagging.{Lags, Leftover, OfMarks, Then, Whole, beside, feeding_few, feeds, is_failed, lag_step, leaves, unbroken}
+use Rattle.ftp_pair_breaks.proofs.Last.{AreFew, deeds_all, last_few, short_few}
+use Rattle.ftp_pair_breaks.proofs.Preceding.{Precedes, behind, gives_now, opened_at, asks_none, precede_server, steady_here, steady_now, unaware}
 use Rattle.ftp_pair_breaks.proofs.Steps.{Again, At, again, client_step, idle_again, server_step, told_late}
 use Rattle.ftp_pair_breaks.proofs.Unaware.{steady_alike}
 use Rattle.ftp_pair_breaks.proofs.Seen.{IsTold, Sees, dropped, far_sees, sees_fresh}
 use Rattle.ftp_pair_breaks.proofs.Unbroken.{sees_unbroken}
-use Rattle.ftp_pair_breaks.proofs.Unsent.{AskAll, Unsent, all_carried, both_all, near_unsent, reset_fresh}
+use Rattle.ftp_pair_breaks.proofs.Unsent.{Unsent, near_unsent, reset_fresh}
 use Rattle.ftp_pair_breaks.proofs.Untold.{Loading, fault_told, loading_of, loads_of, told_alike}
 
 -- ---- what was begun
 
--- a deed begins an operation that asks for all, as where none breaks, or nothing
-by_all : (moment : ℕ) (deed : Deed client_side) (old new : client_side.End) → ClientSuffers deed old new → AskAll (begun_by moment deed)
-by_all moment (Other (Aside (Starting op))) old new is = ((is.0.0.0.0, is.0.1), tt)
-by_all moment deed old new is = tt
+-- a deed begins an operation as where none breaks, or nothing
+by_carried : (moment : ℕ) (deed : Deed client_side) (old new : client_side.End) → ClientSuffers deed old new → AreCarried (begun_by moment deed)
+by_carried moment (Other (Aside (Starting op))) old new is = (is.0.0.0, tt)
+by_carried moment deed old new is = tt
 
 -- so all deeds do
-pub in_all : (moments : ℕ → ℕ) (deeds : List (Deed client_side)) (start now : Stand client_side) (led : Led deeds start now)
-    → SuffersAlong deeds start now led → AskAll (begun_at moments deeds)
-in_all moments [] start now led gives = tt
-in_all moments (deed ∷ before) start now led gives =
-    both_all (begun_at moments before) (begun_by (moments (number_in before)) deed) (in_all moments before start led.0 led.1 gives.0)
-    (by_all (moments (number_in before)) deed led.0.owner now.owner gives.1)
+in_carried : (moments : ℕ → ℕ) (deeds : List (Deed client_side)) (start now : Stand client_side) (led : Led deeds start now)
+    → SuffersAlong deeds start now led → AreCarried (begun_at moments deeds)
+in_carried moments [] start now led gives = tt
+in_carried moments (deed ∷ before) start now led gives =
+    both_carried (begun_at moments before) (begun_by (moments (number_in before)) deed) (in_carried moments before start led.0 led.1 gives.0)
+    (by_carried (moments (number_in before)) deed led.0.owner now.owner gives.1)
+
+-- what a client, and a server, of a Peek is told
+abbrev pub ToldShort : Deed client_side → List (Deed client_side) → client_side.End → Type 0
+ToldShort deed deeds at = AsksAll deeds ⊎ IsToldShort deed at
+
+abbrev pub ToldAfter : Deed server_side → List (Deed client_side) → Between → server_side.End → Type 0
+ToldAfter deed deeds between at = AsksAll deeds ⊎ IsToldAfter deed between at
+
+-- as a world sees what lies between
+seen_after : (deed : Deed server_side) (deeds : List (Deed client_side)) (at : server_side.End) (between seen : Between) → seen.near ≡ between.near
+    → ToldAfter deed deeds between at → ToldAfter deed deeds seen at
+seen_after deed deeds at between seen same (inl asks) = inl asks
+seen_after (Other Break) deeds at between seen same (inr (inl lost)) = inr (inl (same ∙ lost))
+seen_after (Other Break) deeds at between seen same (inr (inr closing)) = inr (inr closing)
+seen_after deed deeds at between seen same (inr is) = inr tt
 
 -- where none is lost
 none_lost : (octets : List ℕ) (m : Between) → octets ≡ [] → with_lost octets m ≡ m
@@ -102,16 +120,13 @@ module _ (read : Reading) (reads : IsReading read) (moments : ℕ → ℕ) (time
 
   -- ---- a deed of the client, where a world is beside both
 
-  module _ {Are : OfMarks} (deeds : List (Deed client_side)) (puts : AskAll (begun_at moments deeds)) (p q : Between) (count : ℕ) (server : Stand server_side)
+  module _ {Are : OfMarks} (deeds : List (Deed client_side)) (carried : AreCarried (begun_at moments deeds)) (p q : Between) (count : ℕ) (server : Stand server_side)
       (old new : Stand client_side) (o : W Are deeds p count server old) where
     abbrev w : World
     w = o.at.world
 
     abbrev v : Near
     v = old.owner.end.view
-
-    carried : AreCarried (begun_at moments deeds)
-    carried = all_carried (begun_at moments deeds) puts
 
     old_asks : ClientFetches old.owner
     old_asks = asks read reads moments timed b fair deeds p count server old _ o.at carried
@@ -236,13 +251,19 @@ module _ (read : Reading) (reads : IsReading read) (moments : ℕ → ℕ) (time
             fresh = broken_fresh (faulted_now Fresh (loads_of v loads));
           }
 
-      breaks_on : Lone (Then (Other Break) old.owner Are) (Other Break ∷ deeds) q count server new
-      breaks_on = elim is.0.2 [
-        | inl wants ↦ by wants (feeding_at read reads moments timed b fair deeds puts p count server old o.at o.unsent wants)
+      breaks_on : ToldShort (Other Break) deeds old.owner → Lone (Then (Other Break) old.owner Are) (Other Break ∷ deeds) q count server new
+      breaks_on short = elim is.0.2 [
         | inr closing ↦ inl (breaks_closing closing)
+        | inl wants ↦ elim short [
+          | inl asks ↦ on_few wants (last_few (begun_at moments deeds) v.job (deeds_all moments deeds asks))
+          | inr other ↦ elim other [
+            | inl less ↦ on_few wants (short_few (begun_at moments deeds) v.job less)
+            | inr closing ↦ inl (breaks_closing closing)
+          ]
+        ]
       ]
         where
-          by : near.wants v ≡ Want.Receive → (w.near ≡ v) × Feeding w → Lone (Then (Other Break) old.owner Are) (Other Break ∷ deeds) q count server new
+          by : near.wants v ≡ Want.Receive → (w.near ≡ v) × Feeding (begun_at moments deeds) w → Lone (Then (Other Break) old.owner Are) (Other Break ∷ deeds) q count server new
           by wants f =
               let there = subst Loads f.0 f.1.loads in
               let taken : HasTaken v.job w.came = subst (λ (n : Near). HasTaken n.job w.came) f.0 (loads_taken w.near f.1.loads w.came f.1.read) in
@@ -253,6 +274,9 @@ module _ (read : Reading) (reads : IsReading read) (moments : ℕ → ℕ) (time
                     inr (breaks_early (loading_of v loads.0 loads.1))
               ]
 
+          on_few : near.wants v ≡ Want.Receive → AreFew (begun_at moments deeds) v.job → Lone (Then (Other Break) old.owner Are) (Other Break ∷ deeds) q count server new
+          on_few wants few = by wants (feeding_few read reads moments timed b fair deeds carried p count server old o.at few o.unsent wants)
+
     -- as where none breaks
     pub steps_on : (deed : Deed client_side) → BreaksNone deed → ClientSuffers deed old.owner new.owner → ClientTries deed old.owner new.owner
         → Marks deed old.owner o.marks (marked_by deed o.marks) → CanTurn (Client deed) p q → Done deed old new
@@ -262,50 +286,52 @@ module _ (read : Reading) (reads : IsReading read) (moments : ℕ → ℕ) (time
         (client_step read reads moments timed b fair deed unbroken old new tries deeds carried p q can count server o.at did)
         (stays_unsent deed unbroken is did)
 
-    whole_step : (deed : Deed client_side) → ClientSuffers deed old.owner new.owner → CanTurn (Client deed) p q → Done deed old new
-        → Lone (Then deed old.owner Are) (deed ∷ deeds) q count server new
-    whole_step (Other (Left (Reset left written))) is can did = inl (resets_on left written is can did)
-    whole_step (Other Break) is can did = breaks_on is can did
-    whole_step (Other (Aside (Starting op))) is can did = inl (steps_on (Other (Aside (Starting op))) tt is (is.0.0, is.1) refl can did)
-    whole_step deed is can did = inl (steps_on deed tt is (is.0, is.1) refl can did)
+    whole_step : (deed : Deed client_side) → ToldShort deed deeds old.owner → ClientSuffers deed old.owner new.owner → CanTurn (Client deed) p q
+        → Done deed old new → Lone (Then deed old.owner Are) (deed ∷ deeds) q count server new
+    whole_step (Other (Left (Reset left written))) short is can did = inl (resets_on left written is can did)
+    whole_step (Other Break) short is can did = breaks_on is can did short
+    whole_step deed short is can did = inl (steps_on deed tt is (is.0, is.1) refl can did)
 
   -- ---- one after another
 
   -- a deed of the client
-  lone_client : {Are : OfMarks} (deed : Deed client_side) (deeds : List (Deed client_side)) → AskAll (begun_at moments deeds) → (p q : Between) (count : ℕ)
-      (server : Stand server_side) (old new : Stand client_side) → Lone Are deeds p count server old → ClientSuffers deed old.owner new.owner
-      → CanTurn (Client deed) p q → Done deed old new → Lone (Then deed old.owner Are) (deed ∷ deeds) q count server new
-  lone_client {Are} deed deeds puts p q count server old new (inl o) is can did = whole_step deeds puts p q count server old new o deed is can did
-  lone_client {Are} deed deeds puts p q count server old new (inr l) is can did =
-      elim (feeds read reads moments timed b fair deeds puts p count server old l).far [
+  lone_client : {Are : OfMarks} (deed : Deed client_side) (deeds : List (Deed client_side)) → AreCarried (begun_at moments deeds) → (p q : Between)
+      (count : ℕ) (server : Stand server_side) (old new : Stand client_side) → Lone Are deeds p count server old → ToldShort deed deeds old.owner
+      → ClientSuffers deed old.owner new.owner → CanTurn (Client deed) p q → Done deed old new
+      → Lone (Then deed old.owner Are) (deed ∷ deeds) q count server new
+  lone_client {Are} deed deeds carried p q count server old new (inl o) short is can did =
+      whole_step deeds carried p q count server old new o deed short is can did
+  lone_client {Are} deed deeds carried p q count server old new (inr l) short is can did =
+      elim (feeds read reads moments timed b fair deeds carried p count server old l).far [
         | inl free ↦
-            whole_step deeds puts p q count server old new (leaves read reads moments timed b fair deeds puts p count server old l free) deed is can did
-        | inr going ↦ inr (lag_step read reads moments timed b fair deeds puts p count server old l deed q new is can did going.1)
+            whole_step deeds carried p q count server old new (leaves read reads moments timed b fair deeds carried p count server old l free) deed short is
+            can did
+        | inr going ↦ inr (lag_step read reads moments timed b fair deeds carried p count server old l deed q new is can did going.1)
       ]
 
   -- so it is where the server was told first
-  pub client_turn : {Are : OfMarks} (deed : Deed client_side) (deeds : List (Deed client_side)) → AskAll (begun_at moments deeds)
+  pub client_turn : {Are : OfMarks} (deed : Deed client_side) (deeds : List (Deed client_side)) → AreCarried (begun_at moments deeds)
       → (before : List (Deed server_side))
       → ArePorts before → (p q : Between) (server : Stand server_side) (old new : Stand client_side) → Suffered Are deeds p (listened_in before) server old
-      → ClientSuffers deed old.owner new.owner → CanTurn (Client deed) p q → Done deed old new
+      → ToldShort deed deeds old.owner → ClientSuffers deed old.owner new.owner → CanTurn (Client deed) p q → Done deed old new
       → Suffered (Then deed old.owner Are) (deed ∷ deeds) q (listened_in before) server new
-  client_turn {Are} deed deeds puts before ports p q server old new (inl o) is can did =
-      inl (lone_client deed deeds puts p q (listened_in before) (dried server) old new o is can did)
-  client_turn {Are} deed deeds puts before ports p q server old new (inr l) is can did = by deed is can did
+  client_turn {Are} deed deeds carried before ports p q server old new (inl o) short is can did =
+      inl (lone_client deed deeds carried p q (listened_in before) (dried server) old new o short is can did)
+  client_turn {Are} deed deeds carried before ports p q server old new (inr l) short is can did = by deed is can did
     where
       by : (deed : Deed client_side) → ClientSuffers deed old.owner new.owner → CanTurn (Client deed) p q → Done deed old new
           → Suffered (Then deed old.owner Are) (deed ∷ deeds) q (listened_in before) server new
       by (Other Break) is can did =
-          inl (inl (told_last read reads moments timed b fair deeds puts before ports p q server old new l is can did))
-      by deed is can did = inr (follows read reads moments timed b fair deeds puts p (listened_in before) server old l deed tt q new is can did)
+          inl (inl (told_last read reads moments timed b fair deeds carried before ports p q server old new l is can did))
+      by deed is can did = inr (follows read reads moments timed b fair deeds carried p (listened_in before) server old l deed tt q new is can did)
 
   -- the client was told, and its world's was not: it lags on, or its world's is told now
-  lags_still : {Are : OfMarks} (deeds : List (Deed client_side)) → AskAll (begun_at moments deeds)
+  lags_still : {Are : OfMarks} (deeds : List (Deed client_side)) → AreCarried (begun_at moments deeds)
       → (p q : Between) (told count : ℕ) (old new : Stand server_side)
       (client : Stand client_side) (l : L Are deeds p told old client)
       → Again read reads moments timed b fair deeds (unbroken q) count new (beside l.was client) l.at.world.marks → q.near ≡ Has_lost → StaysFresh q client
       → Lone Are deeds q count new client
-  lags_still {Are} deeds puts p q told count old new client l got hold fresh = by (record {
+  lags_still {Are} deeds carried p q told count old new client l got hold fresh = by (record {
     was = l.was;
     at = got.0;
     loads = l.loads;
@@ -321,61 +347,66 @@ module _ (read : Reading) (reads : IsReading read) (moments : ℕ → ℕ) (time
   })
     where
       by : L Are deeds q count new client → Lone Are deeds q count new client
-      by l = elim (feeds read reads moments timed b fair deeds puts q count new client l).far [
-        | inl free ↦ inl (leaves read reads moments timed b fair deeds puts q count new client l free)
+      by l = elim (feeds read reads moments timed b fair deeds carried q count new client l).far [
+        | inl free ↦ inl (leaves read reads moments timed b fair deeds carried q count new client l free)
         | inr going ↦ inr l
       ]
 
   -- a deed of the server that is told of no break
-  lone_server : {Are : OfMarks} (deed : Deed server_side) (deeds : List (Deed client_side)) → AskAll (begun_at moments deeds)
+  lone_server : {Are : OfMarks} (deed : Deed server_side) (deeds : List (Deed client_side)) → AreCarried (begun_at moments deeds)
       → (before : List (Deed server_side))
       → ArePorts (deed ∷ before) → (p q : Between) (old new : Stand server_side) (client : Stand client_side) → Lone Are deeds p (listened_in before) old client
       → IsLone deed old.owner → ServerIsCalm old.owner new.owner → Sees deed old p q → (did : Done deed old new)
       → IsToldAt deed old new did (last_of moments (number_in deeds)) → Lone Are deeds q (listened_in (deed ∷ before)) new client
-  lone_server {Are} deed deeds puts before ports p q old new client (inl o) is calm can did told =
-      let got = server_step read reads moments timed b fair deed old new is calm deeds (all_carried (begun_at moments deeds) puts) before ports p q can client
+  lone_server {Are} deed deeds carried before ports p q old new client (inl o) is calm can did told =
+      let got = server_step read reads moments timed b fair deed old new is calm deeds carried before ports p q can client
       o.at did told in
       inl (record { at = got.0; marks = o.marks; are_marks = o.are_marks; marked = got.1 ∙ o.marked; unsent = o.unsent })
-  lone_server {Are} deed deeds puts before ports p q old new client (inr l) is calm can did told =
+  lone_server {Are} deed deeds carried before ports p q old new client (inr l) is calm can did told =
       let there = sees_unbroken deed old is p q l.hold can in
-      let got = server_step read reads moments timed b fair deed old new is calm deeds (all_carried (begun_at moments deeds) puts) before ports (unbroken p)
+      let got = server_step read reads moments timed b fair deed old new is calm deeds carried before ports (unbroken p)
       (unbroken q) there.0 (beside l.was client) l.at did told in
-      lags_still deeds puts p q (listened_in before) (listened_in (deed ∷ before)) old new client l got there.1 (sees_fresh deed old is p q client l.fresh can)
+      lags_still deeds carried p q (listened_in before) (listened_in (deed ∷ before)) old new client l got there.1 (sees_fresh deed old is p q client l.fresh can)
 
   -- one that is told of the break of what is to close
-  lone_late : {Are : OfMarks} (deeds : List (Deed client_side)) → AskAll (begun_at moments deeds) → (before : List (Deed server_side)) (p : Between)
+  lone_late : {Are : OfMarks} (deeds : List (Deed client_side)) → AreCarried (begun_at moments deeds) → (before : List (Deed server_side)) (p : Between)
       (old new : Stand server_side) (client : Stand client_side) → Lone Are deeds p (listened_in before) (dried old) client → ServerIsCalm old.owner new.owner
       → old.owner.end.server.view.session.closing ≡ true → p.far ≡ Has → Calls {side = server_side} Break old new
       → Lone Are deeds (dropped (dried old) p) (listened_in before) (dried new) client
-  lone_late {Are} deeds puts before p old new client (inl o) calm closing has did =
-      let got = told_late read reads moments timed b fair old new calm did closing deeds (all_carried (begun_at moments deeds) puts) before p has client o.at in
+  lone_late {Are} deeds carried before p old new client (inl o) calm closing has did =
+      let got = told_late read reads moments timed b fair old new calm did closing deeds carried before p has client o.at in
       inl (record { at = got.0; marks = o.marks; are_marks = o.are_marks; marked = got.1 ∙ o.marked; unsent = o.unsent })
-  lone_late {Are} deeds puts before p old new client (inr l) calm closing has did =
-      let got = told_late read reads moments timed b fair old new calm did closing deeds (all_carried (begun_at moments deeds) puts) before (unbroken p) has
+  lone_late {Are} deeds carried before p old new client (inr l) calm closing has did =
+      let got = told_late read reads moments timed b fair old new calm did closing deeds carried before (unbroken p) has
       (beside l.was client) l.at in
-      lags_still deeds puts p (dropped (dried old) p) (listened_in before) (listened_in before) (dried old) (dried new) client l got l.hold
+      lags_still deeds carried p (dropped (dried old) p) (listened_in before) (listened_in before) (dried old) (dried new) client l got l.hold
       (λ called. absurd (true≢false (sym called)))
 
   -- where a world is beside the server as if it had nothing unwritten of what it was told that it broke
-  module _ {Are : OfMarks} (deeds : List (Deed client_side)) (puts : AskAll (begun_at moments deeds)) (before : List (Deed server_side)) (p q : Between)
+  module _ {Are : OfMarks} (deeds : List (Deed client_side)) (carried : AreCarried (begun_at moments deeds)) (before : List (Deed server_side)) (p q : Between)
       (old new : Stand server_side) (client : Stand client_side) (o : Lone Are deeds p (listened_in before) (dried old) client) where
     -- it is told of a break while it gives
-    told_giving : (far.wants old.owner.end.server.view ≡ Want.Send) × ServerIsCalm old.owner new.owner → Can TheServer ToldBreak p q
-        → Calls {side = server_side} Break old new → Lone Are deeds p (listened_in before) (dried old) client
+    told_giving : ToldAfter (Other Break) deeds p old.owner → (far.wants old.owner.end.server.view ≡ Want.Send) × ServerIsCalm old.owner new.owner
+        → Can TheServer ToldBreak p q → Calls {side = server_side} Break old new → Lone Are deeds p (listened_in before) (dried old) client
         → Suffered Are deeds q (listened_in before) new client
-    told_giving is can did (inl w) =
-        inr (told_first read reads moments timed b fair deeds puts p q (listened_in before) old new client is can did w)
-    told_giving is can did (inr l) =
-        inl (inl (told_after read reads moments timed b fair deeds puts p q (listened_in before) old new client is can did l))
+    told_giving (inl asks) is can did (inl w) =
+        inr (told_first read reads moments timed b fair deeds carried p q (listened_in before) old new client is can did (deeds_all moments deeds asks) w)
+    told_giving (inr (inl lost)) is can did (inl w) =
+        let opened = opened_at read reads moments timed b fair deeds carried p (listened_in before) (dried old) client w.at is.0 in
+        absurd (both (w.at.together.keeping.had (ap is_near_held opened)) (ap is_had lost))
+    told_giving (inr (inr closing)) is can did (inl w) =
+        absurd (both closing (no_close old.owner.end.server.view Want.Send is.0 refl))
+    told_giving after is can did (inr l) =
+        inl (inl (told_after read reads moments timed b fair deeds carried p q (listened_in before) old new client is can did l))
 
     -- or once that is to close
-    told_of_it : ServerYields (Other Break) old.owner new.owner → IsTold (dried old) p q → Calls {side = server_side} Break old new
-        → Suffered Are deeds q (listened_in before) new client
-    told_of_it is can did = elim can [
-      | inl sends ↦ told_giving (sends.0, is.1) sends.1 did o
+    told_of_it : ToldAfter (Other Break) deeds p old.owner → ServerYields (Other Break) old.owner new.owner → IsTold (dried old) p q
+        → Calls {side = server_side} Break old new → Suffered Are deeds q (listened_in before) new client
+    told_of_it after is can did = elim can [
+      | inl sends ↦ told_giving after (sends.0, is.1) sends.1 did o
       | inr closing ↦
           subst (λ (m : Between). Suffered Are deeds m (listened_in before) new client) (sym closing.2)
-          (inl (lone_late deeds puts before p old new client o is.1 closing.0 closing.1 did))
+          (inl (lone_late deeds carried before p old new client o is.1 closing.0 closing.1 did))
     ]
 
     -- a deed but that
@@ -384,17 +415,17 @@ module _ (read : Reading) (reads : IsReading read) (moments : ℕ → ℕ) (time
         → Suffered Are deeds q (listened_in (deed ∷ before)) new client
     goes_on deed kept ports is can did told =
         let step = dried_step old new deed kept is.0 did in
-        inl (lone_server deed deeds puts before ports p q (dried old) (dried new) client o step.0 is.1 can step.1
+        inl (lone_server deed deeds carried before ports p q (dried old) (dried new) client o step.0 is.1 can step.1
         (dried_told old new deed kept is.0 did (last_of moments (number_in deeds)) told))
 
-    lone_turn : (deed : Deed server_side) → ArePorts (deed ∷ before) → ServerYields deed old.owner new.owner → Sees deed (dried old) p q
-        → (did : Done deed old new) → IsToldAt deed old new did (last_of moments (number_in deeds))
+    lone_turn : (deed : Deed server_side) → ToldAfter deed deeds p old.owner → ArePorts (deed ∷ before) → ServerYields deed old.owner new.owner
+        → Sees deed (dried old) p q → (did : Done deed old new) → IsToldAt deed old new did (last_of moments (number_in deeds))
         → Suffered Are deeds q (listened_in (deed ∷ before)) new client
-    lone_turn (Other Break) ports is can did told = told_of_it is can did
-    lone_turn deed ports is can did told = goes_on deed tt ports is can did told
+    lone_turn (Other Break) after ports is can did told = told_of_it after is can did
+    lone_turn deed after ports is can did told = goes_on deed tt ports is can did told
 
   -- where the server was told first
-  module _ {Are : OfMarks} (deeds : List (Deed client_side)) (puts : AskAll (begun_at moments deeds)) (before : List (Deed server_side)) (p q : Between)
+  module _ {Are : OfMarks} (deeds : List (Deed client_side)) (carried : AreCarried (begun_at moments deeds)) (before : List (Deed server_side)) (p q : Between)
       (old new : Stand server_side) (client : Stand client_side) (l : P Are deeds p (listened_in before) old client) where
     lost_not : p.far ≡ Has → ⊥
     lost_not has = true≢false (ap is_had (sym has ∙ l.hold))
@@ -402,28 +433,28 @@ module _ (read : Reading) (reads : IsReading read) (moments : ℕ → ℕ) (time
     precede_turn : (deed : Deed server_side) → ServerYields deed old.owner new.owner → Sees deed (dried old) p q → Done deed old new
         → Suffered Are deeds q (listened_in (deed ∷ before)) new client
     precede_turn (Other (Listening port)) is can did =
-        absurd (asks_none read reads moments timed b fair deeds puts p (listened_in before) old client l port new did)
+        absurd (asks_none read reads moments timed b fair deeds carried p (listened_in before) old client l port new did)
     precede_turn (Other Break) is can did = absurd (elim can [
       | inl sends ↦ lost_not sends.1.0
       | inr closing ↦ lost_not closing.1
     ])
     precede_turn (Other (Left (Reset left written))) is can did =
-        inr (precede_server read reads moments timed b fair deeds puts p (listened_in before) old client l (Other (Left (Reset left written))) q new is
+        inr (precede_server read reads moments timed b fair deeds carried p (listened_in before) old client l (Other (Left (Reset left written))) q new is
         (can.0, can.1 ∙ none_lost (dried old).owner.lane.unwritten (with_hold TheServer Has_lost p) l.none) did)
     precede_turn deed is can did =
-        inr (precede_server read reads moments timed b fair deeds puts p (listened_in before) old client l deed q new is can did)
+        inr (precede_server read reads moments timed b fair deeds carried p (listened_in before) old client l deed q new is can did)
 
   -- a deed of the server, as a world sees it
-  pub server_turn : {Are : OfMarks} (deed : Deed server_side) (deeds : List (Deed client_side)) → AskAll (begun_at moments deeds)
+  pub server_turn : {Are : OfMarks} (deed : Deed server_side) (deeds : List (Deed client_side)) → AreCarried (begun_at moments deeds)
       → (before : List (Deed server_side))
       → ArePorts (deed ∷ before) → (p q : Between) (old new : Stand server_side) (client : Stand client_side)
-      → Suffered Are deeds p (listened_in before) old client
+      → Suffered Are deeds p (listened_in before) old client → ToldAfter deed deeds p old.owner
       → ServerYields deed old.owner new.owner → Sees deed (dried old) p q → (did : Done deed old new)
       → IsToldAt deed old new did (last_of moments (number_in deeds)) → Suffered Are deeds q (listened_in (deed ∷ before)) new client
-  server_turn {Are} deed deeds puts before ports p q old new client (inl o) is can did told =
-      lone_turn deeds puts before p q old new client o deed ports is can did told
-  server_turn {Are} deed deeds puts before ports p q old new client
-      (inr l) is can did told = precede_turn deeds puts before p q old new client l deed is can did
+  server_turn {Are} deed deeds carried before ports p q old new client (inl o) after is can did told =
+      lone_turn deeds carried before p q old new client o deed after ports is can did told
+  server_turn {Are} deed deeds carried before ports p q old new client (inr l) after is can did told =
+      precede_turn deeds carried before p q old new client l deed is can did
 
   -- octets are unwritten only where it has a data connection
   pub spare_now : {Are : OfMarks} (deeds : List (Deed client_side)) (between : Between) (count : ℕ) (server : Stand server_side) (client : Stand client_side)
@@ -440,16 +471,17 @@ module _ (read : Reading) (reads : IsReading read) (moments : ℕ → ℕ) (time
     suffered : Suffered Are deeds seen count server client
 
   -- deed by deed
-  reaches : (turns : List Turn) (between : Between) → Happened turns between
+  reaches : (turns : List Turn) (between : Between) (happened : Happened turns between)
       → (server_start server : Stand server_side) (client_start client : Stand client_side) → Begins b server_start client_start
       → server_start.owner.lane.untold ≡ [] → client_start.owner.lane.unwritten ≡ []
       → server_start.owner.lane.unwritten ≡ [] → client_start.owner.lane.untold ≡ []
       → (server_led : Led (server_deeds turns) server_start server) (client_led : Led (client_deeds turns) client_start client)
       → YieldsAlong (server_deeds turns) server_start server server_led → SuffersAlong (client_deeds turns) client_start client client_led
       → ArePorts (server_deeds turns) → AreToldAt moments turns server_start server server_led
+      → AreShort (client_deeds turns) client_start client client_led → AreAfter turns between happened server_start server server_led
       → Stood (AreMarks (client_deeds turns) client_start client client_led) (client_deeds turns) between (listened_in (server_deeds turns)) server client
   reaches [] between happened server_start server client_start client begins untold unwritten far_unwritten near_untold server_led client_led takes gives
-      ports told =
+      ports told short after =
       let start = starts_so read reads moments timed b fair server_start client_start begins untold unwritten far_unwritten near_untold in
       subst (λ (m : Between). Stood (λ marks. marks ≡ []) [] m 0 server client) (sym happened)
       (subst (λ (s : Stand server_side). Stood (λ marks. marks ≡ []) [] nothing_yet 0 s client) (sym server_led)
@@ -466,34 +498,36 @@ module _ (read : Reading) (reads : IsReading read) (moments : ℕ → ℕ) (time
             })));
       })))
   reaches (Server deed ∷ before) between happened server_start server client_start client begins untold unwritten far_unwritten near_untold server_led
-      client_led takes gives ports told =
+      client_led takes gives ports told short after =
       let reached = reaches before happened.0 happened.1 server_start server_led.0 client_start client begins untold unwritten far_unwritten near_untold
-      server_led.1 client_led takes.0 gives (earlier deed (server_deeds before) ports) told.0 in
+      server_led.1 client_led takes.0 gives (earlier deed (server_deeds before) ports) told.0 short after.0 in
       let there = far_sees server_led.0 server happened.0 between reached.seen reached.is_seen
       (spare_now (client_deeds before) reached.seen (listened_in (server_deeds before)) server_led.0 client reached.suffered) deed takes.1 happened.2 in
       record {
         seen = there.0;
         is_seen = there.2;
-        suffered = server_turn deed (client_deeds before) (in_all moments (client_deeds before) client_start client client_led gives) (server_deeds before)
-            ports reached.seen there.0 server_led.0 server client reached.suffered takes.1 there.1 server_led.2 told.1;
+        suffered = server_turn deed (client_deeds before) (in_carried moments (client_deeds before) client_start client client_led gives)
+            (server_deeds before) ports reached.seen there.0 server_led.0 server client reached.suffered
+            (seen_after deed (client_deeds before) server_led.0.owner happened.0 reached.seen reached.is_seen.near after.1)
+            takes.1 there.1 server_led.2 told.1;
       }
   reaches (Client deed ∷ before) between happened server_start server client_start client begins untold unwritten far_unwritten near_untold server_led
-      client_led takes gives ports told =
+      client_led takes gives ports told short after =
       let reached = reaches before happened.0 happened.1 server_start server client_start client_led.0 begins untold unwritten far_unwritten near_untold
-      server_led client_led.1 takes gives.0 ports told in
+      server_led client_led.1 takes gives.0 ports told short.0 after in
       let there = near_done happened.0 between reached.seen reached.is_seen (touch_in deed) happened.2 in
       record {
         seen = there.after;
         is_seen = there.is_seen;
-        suffered = client_turn deed (client_deeds before) (in_all moments (client_deeds before) client_start client_led.0 client_led.1 gives.0)
-            (server_deeds before) ports reached.seen there.after server client_led.0 client reached.suffered gives.1 there.can client_led.2;
+        suffered = client_turn deed (client_deeds before) (in_carried moments (client_deeds before) client_start client_led.0 client_led.1 gives.0)
+            (server_deeds before) ports reached.seen there.after server client_led.0 client reached.suffered short.1 gives.1 there.can client_led.2;
       }
 
 -- events of a world lead to what both drives hold, or held before one of them was told
 pub breaks_are_of_worlds : BreaksAreOfWorlds
 breaks_are_of_worlds read reads b fair moments timed turns between server client did =
     let stood = reaches read reads moments timed b fair turns between did.happened did.server_start server did.client_start client did.begins did.untold
-    did.unwritten did.server_unwritten did.client_untold did.server_led did.client_led did.takes did.suffers did.ports did.told in
+    did.unwritten did.server_unwritten did.client_untold did.server_led did.client_led did.takes did.suffers did.ports did.told did.short did.after in
     by stood.seen stood.suffered
   where
     -- those of the deeds
@@ -534,9 +568,9 @@ breaks_are_of_worlds read reads b fair moments timed turns between server client
           near = s.near ∙ ap near.data_closed (sym (reports_is was.owner.end.view));
         }
 
-    -- what was begun asks for all
-    puts : AskAll (begun_at moments (client_deeds turns))
-    puts = in_all moments (client_deeds turns) did.client_start client did.client_led did.suffers
+    -- what was begun can be carried
+    carried : AreCarried (begun_at moments (client_deeds turns))
+    carried = in_carried moments (client_deeds turns) did.client_start client did.client_led did.suffers
 
     -- the server was told first
     first : (m : Between) → Precedes read reads moments timed b fair are_marks (client_deeds turns) m (listened_in (server_deeds turns)) server client
@@ -544,7 +578,7 @@ breaks_are_of_worlds read reads b fair moments timed turns between server client
     first m p =
         let were : Far = p.were.owner.end.server.view in
         let broken : break_step (clock_step p.moment were) ≡ clock_step p.moment (broke were) = broke_step p.were p.at.serves p.sends p.moment in
-        let loads = (gives_now read reads moments timed b fair (client_deeds turns) puts m (listened_in (server_deeds turns)) server client p).loads in
+        let loads = (gives_now read reads moments timed b fair (client_deeds turns) carried m (listened_in (server_deeds turns)) server client p).loads in
         of_world p.were (unaware p.refusals p.near p.queue client.owner.lane) (behind m)
         (inr (inr (record {
           moment = p.moment;
@@ -558,8 +592,8 @@ breaks_are_of_worlds read reads b fair moments timed turns between server client
           near = p.view;
         })))
         (steady_alike loads.op loads.decoder loads.mark client.owner.end.view p.near
-        (steady_now read reads moments timed b fair (client_deeds turns) puts m (listened_in (server_deeds turns)) server client p)
-        (steady_here read reads moments timed b fair (client_deeds turns) puts m (listened_in (server_deeds turns)) server client p))
+        (steady_now read reads moments timed b fair (client_deeds turns) carried m (listened_in (server_deeds turns)) server client p)
+        (steady_here read reads moments timed b fair (client_deeds turns) carried m (listened_in (server_deeds turns)) server client p))
         (ap (λ (f : Far). f.session.table) p.far_is) p.at p.marks p.are_marks p.marked
       where
         heard_front : (queue said heard rest : List ℕ) → queue ++ said ≡ heard ++ rest → (heard ≡ []) ⊎ (queue ≡ [])

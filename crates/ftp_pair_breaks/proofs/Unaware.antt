@@ -15,10 +15,10 @@ use Rattle.ftp_pair_drives.proofs.Taken.{idle_of, taken}
 use Rattle.ftp_pair_breaks.specs.Claims.{ReportAlike}
 use Rattle.ftp_pair_breaks.specs.Late.{downloading}
 use Rattle.ftp_pair_breaks.proofs.Faults.{Loads}
-use Rattle.ftp_pair_breaks.proofs.Late.{breaks_late, down, final_lost, hears_late, lost, takes}
+use Rattle.ftp_pair_breaks.proofs.Late.{all_few, breaks_late, down, final_lost, hears_late, lost, takes}
 use Rattle.ftp_pair_breaks.proofs.Rows.{Steady}
 
-module _ (op : Op (List ℕ)) (all : count_of op ≡ None) (d : Decoder) (mark : Option ℕ) (v : Near) (s : Steady op d mark v) where
+module _ (op : Op (List ℕ)) (d : Decoder) (mark : Option ℕ) (v : Near) (s : Steady op d mark v) where
   pub steady_wants : near.wants v ≡ Want.Receive
   unfolding near.wants
   steady_wants = ap near.wants s.is
@@ -43,14 +43,16 @@ module _ (op : Op (List ℕ)) (all : count_of op ≡ None) (d : Decoder) (mark :
   pub steady_reports : near.reports v ≡ v
   steady_reports = ap near.reports s.is ∙ sym s.is
 
-  -- it may hear, and so it may once it is told
+-- and one that asks for all
+module _ (op : Op (List ℕ)) (all : count_of op ≡ None) (d : Decoder) (mark : Option ℕ) (v : Near) (s : Steady op d mark v) where
+  -- may hear, and so it may once it is told
   pub steady_may : may_hear v ≡ true
   steady_may = ap may_hear s.is ∙ ap (λ o. may_hear (record (downloading op s.replied d mark s.last) { owed = o })) s.owes
 
-  may_lost : (replied : Replied) → may_hear (lost op all replied d mark s.last) ≡ may_hear (down op all replied d mark s.last)
+  may_lost : (replied : Replied) → may_hear (lost op replied d mark s.last) ≡ may_hear (down op replied d mark s.last)
   may_lost Replies.Nothing = refl
   may_lost Replies.Begun = refl
-  may_lost (Replies.Final code) = ap may_hear (final_lost op all code d mark s.last)
+  may_lost (Replies.Final code) = ap may_hear (final_lost op code d (all_few op all d) mark s.last)
 
   pub steady_told : may_hear (data_fault v) ≡ true
   unfolding data_fault

@@ -1,5 +1,5 @@
 -- A client that asks for all sends no ABOR, whatever it does; and of all that was begun all is asked for.
-use Rattle.std.proofs.Common.{◌≡◌, ℕ, Bool, true, false, true≢false, ◌&&◌, List, [], ◌∷◌, ◌++◌, take, Option, None, refl, sym, ap, subst, ◌∙◌}
+use Rattle.std.proofs.Common.{◌≡◌, ℕ, Bool, true, false, true≢false, ◌&&◌, List, [], ◌∷◌, ◌++◌, take, Option, Some, None, refl, sym, ap, subst, ◌∙◌}
 use Rattle.std.specs.Prelude.{if◌then◌else◌, ⊤}
 use Rattle.ftp_control.specs.Asking.{Connected, Ended as EndedBy, NotConnected, Reset, Shut}
 use Rattle.ftp_control.specs.Deeds.{Calls, Deed, Done, Heard, Other, Read, Said as Says, Stand}
@@ -8,10 +8,11 @@ use Rattle.ftp_control.specs.declared.whole.Rest.{Rest}
 use Rattle.ftp_client_drive.specs.Side.{Reporting, Starting, client_side}
 use Rattle.ftp_client_model.specs.Calls as near
 use Rattle.ftp_client_model.specs.Calls.{heard_flow, receives, receives_octet}
-use Rattle.ftp_client_model.specs.Dialogue.{has_begun, is_to_abort, is_unsent, sends_abort}
-use Rattle.ftp_client_model.specs.Octets.{has_settled}
+use Rattle.ftp_client_model.specs.Dialogue.{has_begun, is_to_abort, is_unsent, marked_flow, sends_abort}
+use Rattle.ftp_client_model.specs.Octets.{has_enough, has_settled}
 use Rattle.ftp_client_model.specs.Plan.{count_of}
-use Rattle.ftp_client_model.specs.View.{Job, Transfer, Transferring, View as Near}
+use Rattle.ftp_client_model.specs.View.{Flow, Job, Receiving, Sending, Transfer, Transferring, View as Near}
+use Rattle.ftp_client_model.specs.declared.client.Abort.{Abort}
 use Rattle.ftp_client_model.specs.declared.client.Abort.TheVariants as Aborts
 use Rattle.ftp_client_model.specs.declared.client.ClientLink.{ClientLink}
 use Rattle.ftp_client_model.specs.declared.client.ClientLink.TheVariants as Data
@@ -23,6 +24,7 @@ use Rattle.ftp_pair_world.specs.World.{Mark, World}
 use Rattle.ftp_pair_dialogues.specs.Fetches.{Ask}
 use Rattle.ftp_pair_dialogues.specs.Peeks.{halting}
 use Rattle.ftp_pair_agreement.specs.PeekStages.{AtHalt, halt_abort, halt_replied}
+use Rattle.ftp_pair_drives.specs.Alone.{begun_by}
 use Rattle.ftp_pair_drives.specs.Between.{Between, Can, Near as TheClient}
 use Rattle.ftp_pair_drives.specs.Touches.{Resets}
 use Rattle.ftp_pair_data.specs.Unaborted.{is_unaborted}
@@ -31,10 +33,19 @@ use Rattle.ftp_pair_deeds.proofs.Fresh.{Fresh}
 use Rattle.ftp_pair_deeds.proofs.Holding.{is_called}
 use Rattle.ftp_pair_deeds.proofs.Plain.{IsKept, IsPlain, IsPlainBy, IsPlainJob, starts_plain}
 use Rattle.ftp_pair_deeds.proofs.Plainly.{deed_plain}
-use Rattle.ftp_pair_transfers.specs.Deeds.{IsCarried}
+use Rattle.ftp_pair_transfers.specs.Deeds.{IsCarried, begun_at, number_in}
 use Rattle.ftp_pair_transfers.proofs.Called.{BreaksNone, StaysFresh, transferred_plain}
 use Rattle.ftp_pair_transfers.proofs.Known.{AreCarried}
-use Rattle.ftp_pair_breaks.specs.Deeds.{ClientSuffers}
+use Rattle.ftp_wire.specs.Decoder.{decoder_of}
+use Rattle.ftp_pair_breaks.specs.Deeds.{AsksAll, ClientSuffers, IsPeeking, IsSuffering}
+use Rattle.ftp_pair_breaks.proofs.Last.{FewOf, IsLast, LastAll}
+
+-- ---- deeds
+
+-- of one that asks for all
+pub suffering_peeks : (deed : Deed client_side) (at : client_side.End) → IsSuffering deed at → IsPeeking deed at
+suffering_peeks (Other (Aside (Starting op))) at is = is.0
+suffering_peeks deed at is = is
 
 -- ---- orders
 
@@ -64,30 +75,58 @@ last_all done order begun is all = by done (subst AskAll is all)
     by (Single op moment ∷ done) w = by done w.1
     by (Tries upload moment ∷ done) w = absurd w
 
+-- so does the one that was begun last
+pub each_all : (begun : List Order) → AskAll begun → LastAll begun
+each_all begun all op last = (last_all last.done (Single op last.moment) begun last.is all).0.1
+
+-- and each of two rows
+parted : (front given : List Order) → AskAll (front ++ given) → AskAll front × AskAll given
+parted [] given all = (tt, all)
+parted (Single op moment ∷ front) given all = let rest = parted front given all.1 in ((all.0, rest.0), rest.1)
+parted (Tries upload moment ∷ front) given all = absurd all
+
+-- of deeds that begin them
+pub asked_all : (moments : ℕ → ℕ) (deeds : List (Deed client_side)) → AskAll (begun_at moments deeds) → AsksAll deeds
+asked_all moments [] all = tt
+asked_all moments (deed ∷ before) all =
+    by deed (parted (begun_at moments before) (begun_by (moments (number_in before)) deed) all) (asked_all moments before)
+  where
+    by : (deed : Deed client_side) → AskAll (begun_at moments before) × AskAll (begun_by (moments (number_in before)) deed)
+        → (AskAll (begun_at moments before) → AsksAll before) → AsksAll (deed ∷ before)
+    by (Other (Aside (Starting op))) both_are still = both_are.1.0.1
+    by deed both_are still = still both_are.0
+
 -- ---- no ABOR is sent
 
--- where all is asked for
+-- where less came than was asked for
 abbrev pub Unsent : Op (List ℕ) → Transfer → Type 0
-Unsent op transfer = count_of op ≡ None → transfer.abort ≡ Aborts.Unsent
+Unsent op transfer = has_enough op transfer.flow ≡ false → transfer.abort ≡ Aborts.Unsent
 
-pub never_aborts : (link : ClientLink) (op : Op (List ℕ)) (transfer : Transfer) → count_of op ≡ None → is_to_abort link op transfer ≡ false
-never_aborts Data.Open op transfer all =
-    ap (λ (c : Option ℕ). is_unsent transfer.abort && has_begun transfer.replied && has_settled c transfer.flow) all
+pub never_aborts : (link : ClientLink) (op : Op (List ℕ)) (transfer : Transfer) → has_enough op transfer.flow ≡ false → is_to_abort link op transfer ≡ false
+never_aborts Data.Open op transfer few =
+    ap (λ (enough : Bool). is_unsent transfer.abort && has_begun transfer.replied && enough) few
     ∙ three (is_unsent transfer.abort) (has_begun transfer.replied)
   where
     three : (one other : Bool) → one && other && false ≡ false
     three true true = refl
     three true false = refl
     three false other = refl
-never_aborts link op transfer all = refl
+never_aborts link op transfer few = refl
+
+-- a 110 settles nothing
+noted_few : (asked : Option ℕ) (mark : Option ℕ) (flow : Flow) → has_settled asked (marked_flow mark flow) ≡ has_settled asked flow
+noted_few None mark flow = refl
+noted_few (Some count) None flow = refl
+noted_few (Some count) (Some mark) (Sending left before) = refl
+noted_few (Some count) (Some mark) (Receiving decoder before) = refl
 
 pub unsent_kept : IsKept Unsent
 unsent_kept = record {
-  begins = λ op flow is all. refl;
+  begins = λ op flow is few. refl;
   replies = λ replied op transfer unsent. unsent;
-  notes = λ mark op transfer unsent. unsent;
-  aborts = λ link op transfer plain unsent is all. absurd (true≢false (sym is ∙ never_aborts link op transfer all));
-  answers = λ op transfer unsent is all. absurd (true≢false (sym (ap is_unsent (unsent all)) ∙ ap is_unsent is));
+  notes = λ mark op transfer unsent few. unsent (sym (noted_few (count_of op) mark transfer.flow) ∙ few);
+  aborts = λ link op transfer plain unsent is few. absurd (true≢false (sym is ∙ never_aborts link op transfer few));
+  answers = λ op transfer unsent is few. absurd (true≢false (sym (ap is_unsent (unsent few)) ∙ ap is_unsent is));
 }
 
 -- as octets are taken
@@ -103,19 +142,26 @@ received_unsent (octet ∷ octets) n p = received_unsent octets (receives_octet 
         record { job = (plain, unsent_kept.aborts n.connection op transfer plain unsent is); port = p.port; run = p.run }
     by_abort op transfer plain unsent false is = record { job = (plain, unsent); port = p.port; run = p.run }
 
+    -- behind ABOR none is added
+    heard : (op : Op (List ℕ)) (abort : Abort) (flow : Flow) → (has_enough op flow ≡ false → abort ≡ Aborts.Unsent)
+        → has_enough op (heard_flow abort flow octet) ≡ false → abort ≡ Aborts.Unsent
+    heard op Aborts.Unsent flow unsent few = refl
+    heard op Aborts.Sent flow unsent few = unsent few
+    heard op Aborts.Answered flow unsent few = unsent few
+
     by : (job : Job) → IsPlainJob Unsent job → IsPlainBy Unsent (near.heard_by job octet n)
     by (Transferring op transfer) plain =
-        let heard : Transfer = record transfer { flow = heard_flow transfer.abort transfer.flow octet } in
-        by_abort op heard plain.0 plain.1 (is_to_abort n.connection op heard) refl
+        let then_is : Transfer = record transfer { flow = heard_flow transfer.abort transfer.flow octet } in
+        by_abort op then_is plain.0 (heard op transfer.abort transfer.flow plain.1) (is_to_abort n.connection op then_is) refl
     by job plain = p
 
 -- no world's Peek is at its ABOR then
-pub not_halting : (now : State) (ask : Ask) (own : List Mark) (w : World) → count_of ask.op ≡ None → AtHalt now ask own w → IsPlainJob Unsent w.near.job → ⊥
-not_halting now ask own w all h unsent =
+pub not_halting : (now : State) (ask : Ask) (own : List Mark) (w : World) → FewOf ask.op w.near.job → AtHalt now ask own w → IsPlainJob Unsent w.near.job → ⊥
+not_halting now ask own w few h unsent =
     let job : w.near.job ≡ halting ask.op (halt_replied h.halt) (halt_abort h.halt) ask.settings h.came =
     ap (λ (u : World). u.near.job) h.is ∙ ap (λ (n : Near). n.job) h.here.near in
     let kept : IsPlainJob Unsent (halting ask.op (halt_replied h.halt) (halt_abort h.halt) ask.settings h.came) = subst (IsPlainJob Unsent) job unsent in
-    true≢false (sym (ap is_unaborted job ∙ ap is_unsent (kept.1 all)) ∙ halt_aborted now ask own w h)
+    true≢false (sym (ap is_unaborted job ∙ ap is_unsent (kept.1 (few _ (decoder_of ask.settings h.came) _ job refl _))) ∙ halt_aborted now ask own w h)
 
 -- ---- so it is after each deed
 
@@ -137,7 +183,7 @@ module _ (old new : Stand client_side) where
   near_unsent (Other (Aside (Reporting said))) unbroken is p gave refused did =
       deed_plain Unsent unsent_kept old new (Other (Aside (Reporting said))) tt (tt, is.1) did p
   near_unsent (Other (Aside (Starting op))) unbroken is p gave refused did =
-      subst (IsPlainBy Unsent) (sym (did.0.0.1.0.0 is.1)) (starts_plain Unsent unsent_kept op v (transferred_plain op is.0.0.0) p)
+      subst (IsPlainBy Unsent) (sym (did.0.0.1.0.0 is.1)) (starts_plain Unsent unsent_kept op v (transferred_plain op is.0.0) p)
   near_unsent (Other (Opened host (Connected endpoint left written ∷ []) at_first so_far rest)) unbroken is p gave refused did =
       deed_plain Unsent unsent_kept old new (Other (Opened host (Connected endpoint left written ∷ []) at_first so_far rest)) tt (tt, is.1) did p
   near_unsent (Other (Refused (NotConnected endpoint ∷ []))) unbroken is p gave refused did = refused endpoint did

@@ -4,7 +4,7 @@ use Rattle.ftp_control.specs.Deeds.{Led, Stand}
 use Rattle.ftp_client_drive.specs.Side.{client_side}
 use Rattle.ftp_client_model.specs.Calls.{control_end, data_closed, data_fault, hears, report_of, reports}
 use Rattle.ftp_client_model.specs.View.{View}
-use Rattle.ftp_pair_breaks.specs.Deeds.{AreMarks, SuffersAlong, YieldsAlong}
+use Rattle.ftp_pair_breaks.specs.Deeds.{AreAfter, AreMarks, AreShort, SuffersAlong, YieldsAlong}
 use Rattle.ftp_pair_drives.specs.Alone.{reports_in}
 use Rattle.ftp_pair_drives.specs.Between.{Between, Happened, Turn, client_deeds, server_deeds}
 use Rattle.ftp_pair_drives.specs.Claims.{Begins}
@@ -35,6 +35,8 @@ pub record DidSuffer (b : Beginning) (moments : ℕ → ℕ) (turns : List Turn)
   pub client_led : Led (client_deeds turns) client_start client
   pub takes : YieldsAlong (server_deeds turns) server_start server server_led
   pub suffers : SuffersAlong (client_deeds turns) client_start client client_led
+  pub short : AreShort (client_deeds turns) client_start client client_led
+  pub after : AreAfter turns between happened server_start server server_led
   pub ports : ArePorts (server_deeds turns)
   pub told : AreToldAt moments turns server_start server server_led
 

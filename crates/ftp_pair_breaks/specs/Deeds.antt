@@ -1,6 +1,6 @@
 -- The deeds of one server's drive and of drives of one client of which a download's data connection breaks: the client is told so while it takes octets, or the
 -- server while it gives or after it gave all, or both, in either order (RFC 959, section 3.3).
-use Rattle.std.specs.Prelude.{◌≡◌, ◌⊎◌, ⊤, ℕ, true, List, [], ◌∷◌, None}
+use Rattle.std.specs.Prelude.{◌≡◌, ◌⊎◌, ⊤, ℕ, false, true, List, [], ◌∷◌, None}
 use Rattle.ftp_control.specs.Asking.{Reset}
 use Rattle.ftp_control.specs.Deeds.{Deed, Led, Other, Stand}
 use Rattle.ftp_control.specs.Machine.{Aside, Break, Failed, Held, Left}
@@ -8,12 +8,14 @@ use Rattle.ftp_control.specs.declared.whole.Fate.TheVariants as Fates
 use Rattle.ftp_client_drive.specs.Side.{Starting, client_side}
 use Rattle.ftp_client_model.specs.Calls.{wants}
 use Rattle.ftp_client_model.specs.Failing.{Client}
+use Rattle.ftp_client_model.specs.Octets.{has_enough}
 use Rattle.ftp_client_model.specs.Plan.{count_of}
 use Rattle.ftp_client_model.specs.View.{Flow, Job, Receiving, Sending, Transferring}
 use Rattle.ftp_ends.specs.declared.link.Wants.TheVariants as Want
 use Rattle.ftp_mode.specs.Reading.{Place, going}
 use Rattle.ftp_pair_deeds.specs.Deeds.{Along}
 use Rattle.ftp_pair_drives.specs.Alone.{ClientIsCalm, ServerIsCalm}
+use Rattle.ftp_pair_drives.specs.Between.{Between, Client as ByClient, Happened, Has_lost, Server as ByServer, Turn, client_deeds, server_deeds}
 use Rattle.ftp_pair_transfers.specs.Deeds.{IsServing}
 use Rattle.ftp_pair_transfers.specs.Refusals.{IsTrying, marked_by}
 use Rattle.ftp_pair_world.specs.World.{Broken, Mark, marked_last}
@@ -49,12 +51,52 @@ IsSuffering (Other Break) at =
 IsSuffering (Other (Left (Reset left written))) at = at.lane.unwritten ≡ []
 IsSuffering deed at = IsTrying deed at
 
+-- what it begins may be a Peek; else it does what it does where it asks for all
+abbrev pub IsPeeking : Deed client_side → Held Client → Type 0
+IsPeeking (Other (Aside (Starting op))) at = IsTrying (Other (Aside (Starting op))) at
+IsPeeking deed at = IsSuffering deed at
+
 -- so it does, and it was not refused memory
 abbrev pub ClientSuffers : Deed client_side → (old new : Held Client) → Type 0
-ClientSuffers deed old new = IsSuffering deed old × ClientIsCalm old new
+ClientSuffers deed old new = IsPeeking deed old × ClientIsCalm old new
 
 abbrev pub SuffersAlong : (deeds : List (Deed client_side)) (start now : Stand client_side) → Led deeds start now → Type 0
 SuffersAlong deeds start now led = Along ClientSuffers deeds start now led
+
+-- ---- Peeks
+
+-- the operation that was begun last asks for all
+abbrev pub AsksAll : List (Deed client_side) → Type 0
+AsksAll [] = ⊤
+AsksAll (Other (Aside (Starting op)) ∷ before) = count_of op ≡ None
+AsksAll (deed ∷ before) = AsksAll before
+
+-- of a download that is under way less came than was asked for, so that no ABOR was sent
+abbrev pub IsShort : Job → Type 0
+IsShort (Transferring op transfer) = has_enough op transfer.flow ≡ false
+IsShort job = ⊤
+
+-- the client of a Peek is told of a break only where less came than was asked for, or where it is to close
+abbrev pub IsToldShort : Deed client_side → Held Client → Type 0
+IsToldShort (Other Break) at = IsShort at.end.view.job ⊎ (at.end.view.closing ≡ true)
+IsToldShort deed at = ⊤
+
+-- so it is of each deed of which a Peek was begun last
+abbrev pub AreShort : (deeds : List (Deed client_side)) (start now : Stand client_side) → Led deeds start now → Type 0
+AreShort [] start now led = ⊤
+AreShort (deed ∷ before) start now led = AreShort before start led.0 led.1 × (AsksAll before ⊎ IsToldShort deed led.0.owner)
+
+-- the server of a Peek is told of a break only after the client was, or where it is to close
+abbrev pub IsToldAfter : Deed server_side → Between → Held Timed → Type 0
+IsToldAfter (Other Break) between at = (between.near ≡ Has_lost) ⊎ (at.end.server.view.session.closing ≡ true)
+IsToldAfter deed between at = ⊤
+
+abbrev pub AreAfter : (turns : List Turn) (between : Between) → Happened turns between → (start now : Stand server_side) → Led (server_deeds turns) start now
+    → Type 0
+AreAfter [] between happened start now led = ⊤
+AreAfter (ByServer deed ∷ before) between happened start now led =
+    AreAfter before happened.0 happened.1 start led.0 led.1 × (AsksAll (client_deeds before) ⊎ IsToldAfter deed happened.0 led.0.owner)
+AreAfter (ByClient deed ∷ before) between happened start now led = AreAfter before happened.0 happened.1 start now led
 
 -- ---- the marks
 

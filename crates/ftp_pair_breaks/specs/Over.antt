@@ -1,6 +1,6 @@
 -- Drives that are over, of which downloads of the client's broke: what the contracts of one server's drive and of a client's drives tell, each after the
 -- operation that it answers, put together.
-use Rattle.std.specs.Prelude.{◌≡◌, ℕ, List, [], ◌∷◌, ◌++◌, None}
+use Rattle.std.specs.Prelude.{◌≡◌, ◌⊎◌, ℕ, List, [], ◌∷◌, ◌++◌, None}
 use Rattle.ftp_control.specs.Asking.{Asked}
 use Rattle.ftp_control.specs.Deeds.{Deed, Ended, Led, Other, Stand}
 use Rattle.ftp_control.specs.Machine.{Left}
@@ -17,19 +17,19 @@ use Rattle.ftp_pair_drives.specs.Alone.{ClientIsCalm}
 use Rattle.ftp_pair_drives.specs.Between.{Between, Happened, Turn, client_deeds, server_deeds}
 use Rattle.ftp_pair_drives.specs.Claims.{Begins}
 use Rattle.ftp_pair_drives.specs.Over.{Answers, answers_of, deeds_of_drive, deeds_of_server}
-use Rattle.ftp_pair_deeds.specs.Deeds.{AreMidst, ArePorts}
+use Rattle.ftp_pair_deeds.specs.Deeds.{Along, AreMidst, ArePorts}
 use Rattle.ftp_pair_transfers.specs.Deeds.{AreMoments, AreToldAt, IsTransferred}
 use Rattle.ftp_pair_transfers.specs.Over.{orders_at}
-use Rattle.ftp_pair_breaks.specs.Deeds.{AreMarks, SuffersAlong, YieldsAlong}
+use Rattle.ftp_pair_breaks.specs.Deeds.{AreAfter, AreMarks, IsToldShort, SuffersAlong, YieldsAlong}
 
 -- ---- the client
 
 -- a drive did so, and before it reported nothing was reported, and no other operation begun
 pub record AnswersSuffering {op : Op (List ℕ)} {answer : Said} {old new : Stand client_side} (a : Answers op answer old new) : Type 0 where
   pub raised : IsTransferred op
-  pub all : count_of op ≡ None
   pub calm : ClientIsCalm old.owner a.begun.owner
   pub suffers : SuffersAlong (deeds_of_drive a.drove) a.begun new a.drove.did.sums.led
+  pub short : (count_of op ≡ None) ⊎ Along (λ deed at then. IsToldShort deed at) (deeds_of_drive a.drove) a.begun new a.drove.did.sums.led
   pub midst : AreMidst a.drove.did.deeds
 
 -- operations and their answers, the last one first
@@ -70,6 +70,7 @@ pub record AreOver (b : Beginning) (moments : ℕ → ℕ) (asked : List (Op (Li
   pub takes : YieldsAlong (server_deeds turns) server_start last server_led
   pub ports : ArePorts (server_deeds turns)
   pub told : AreToldAt moments turns server_start last server_led
+  pub after : AreAfter turns between happened server_start last server_led
 
 -- the answers that a client's drives gave, and the map that the server's drive left, agree with the operations, with marks of these deeds: each is the direct
 -- run's where its dial did not fail and it was told of no break

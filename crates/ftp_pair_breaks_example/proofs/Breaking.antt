@@ -15,7 +15,7 @@ use Rattle.ftp_server_model.specs.Calls as far
 use Rattle.ftp_server_model.specs.Failing.{EndFails, GiveFails}
 use Rattle.ftp_server_model.specs.Machine.{later}
 use Rattle.ftp_server_model.specs.View.{View as Far}
-use Rattle.ftp_pair_breaks.specs.Deeds.{ClientSuffers, IsSuffering, IsYielding, ServerYields}
+use Rattle.ftp_pair_breaks.specs.Deeds.{ClientSuffers, IsPeeking, IsYielding, ServerYields}
 use Rattle.ftp_pair_deeds.specs.Deeds.{IsMidst}
 use Rattle.ftp_pair_deeds.proofs.Along.{Went}
 use Rattle.ftp_pair_drives.specs.Between.{Between, Client, Server, Turn}
@@ -33,7 +33,7 @@ yields (Other Break) at is = absurd is
 yields deed at is = is
 
 -- so does a client in the midst of a drive
-pub suffers : (deed : Deed client_side) (at : Held NearEnd) → IsMidst deed → IsUnbroken deed → IsAsking deed at → IsSuffering deed at
+pub suffers : (deed : Deed client_side) (at : Held NearEnd) → IsMidst deed → IsUnbroken deed → IsAsking deed at → IsPeeking deed at
 suffers (Other (Aside (Starting op))) at midst unbroken is = absurd midst
 suffers (Other Failed) at midst unbroken is = tt
 suffers (Other Break) at midst unbroken is = absurd unbroken

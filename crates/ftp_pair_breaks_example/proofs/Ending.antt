@@ -1,15 +1,15 @@
 -- How such a session ends: the client's drive reports and leaves its data connection or its port, and the server's drive is over since the client left; and the
 -- moment in its midst.
-use Rattle.std.proofs.Common.{◌≡◌, inr, ℕ, false, true, List, [], ◌∷◌, ◌++◌, None, Some, refl, sym, ap, subst}
+use Rattle.std.proofs.Common.{◌≡◌, inl, inr, ℕ, false, true, List, [], ◌∷◌, ◌++◌, None, Some, refl, sym, ap, subst}
 use Rattle.ftp_control.specs.Asking.{Asked, Shut}
 use Rattle.ftp_control.specs.Lane.{Lane}
 use Rattle.ftp_control.specs.Deeds.{Deed, Done, Ended, EndsHere, Led, Other, Stand}
-use Rattle.ftp_control.specs.Machine.{Closed, Left, move_of, seen, waits}
+use Rattle.ftp_control.specs.Machine.{Aside, Closed, Left, move_of, seen, waits}
 use Rattle.ftp_control.proofs.Courses.{carries}
 use Rattle.ftp_control.proofs.Idling.{carrier}
 use Rattle.ftp_control.proofs.Totals.{sums}
 use Rattle.ftp_client_drive.specs.Driving.{Drove as ClientDrove}
-use Rattle.ftp_client_drive.specs.Side.{Begun, Report, client_machine, client_side, is_under_way}
+use Rattle.ftp_client_drive.specs.Side.{Begun, Report, Starting, client_machine, client_side, is_under_way}
 use Rattle.ftp_client_model.specs.Calls as near
 use Rattle.ftp_client_model.specs.Plan.{count_of}
 use Rattle.ftp_client_model.specs.View.{View as Near}
@@ -23,6 +23,8 @@ use Rattle.ftp_server_model.specs.View.{View as Far}
 use Rattle.ftp_pair_breaks.specs.Claims.{DidSuffer}
 use Rattle.ftp_pair_breaks.specs.Deeds.{ClientSuffers}
 use Rattle.ftp_pair_breaks.specs.Over.{AnswersSuffering, AreOver, AreSuffered}
+use Rattle.ftp_pair_breaks.proofs.Last.{AsksEach, none_after, none_short}
+use Rattle.ftp_pair_deeds.specs.Deeds.{AreMidst, IsMidst}
 use Rattle.ftp_pair_deeds.proofs.Along.{Went}
 use Rattle.ftp_pair_drives.specs.Between.{Between, CanTurn, Client, Turn, client_deeds, server_deeds}
 use Rattle.ftp_pair_drives.specs.Claims.{Begins}
@@ -33,6 +35,17 @@ use Rattle.ftp_pair_world.specs.Claims.{Beginning}
 use Rattle.ftp_pair_example.proofs.Moves.{near_closes, says_answer}
 use Rattle.ftp_pair_example.proofs.Playing.{PlayedBy, far_in, near_in, none_yet}
 use Rattle.ftp_pair_breaks_example.proofs.Breaking.{breaking, went_on}
+
+-- ---- no Peek is begun
+
+-- an operation that asks for all, and none in its midst
+midst_each : (deeds before : List (Deed client_side)) → AreMidst deeds → AsksEach before → AsksEach (deeds ++ before)
+midst_each [] before midst each = each
+midst_each (deed ∷ deeds) before midst each = by deed midst.1 (midst_each deeds before midst.0 each)
+  where
+    by : (deed : Deed client_side) → IsMidst deed → AsksEach (deeds ++ before) → AsksEach (deed ∷ (deeds ++ before))
+    by (Other (Aside (Starting op))) is rest = absurd is
+    by deed is rest = rest
 
 -- ---- a moment in its midst
 
@@ -46,7 +59,8 @@ pub did_so : {before : List Turn} (b : Beginning) (moments : ℕ → ℕ) (op : 
 did_so b moments op first client_first begun between server client begins does is all closing p =
     let went : Went ClientSuffers (client_deeds p.turns) (near_in none_yet client_first []) client =
     subst (λ deeds. Went ClientSuffers deeds (near_in none_yet client_first []) client) (sym p.client_is)
-    (went_on op p.midst (near_in none_yet client_first []) (near_in none_yet begun []) client (p.near_led, p.takes) does (((is, closing), all), refl)) in
+    (went_on op p.midst (near_in none_yet client_first []) (near_in none_yet begun []) client (p.near_led, p.takes) does ((is, closing), refl)) in
+    let each : AsksEach (client_deeds p.turns) = subst AsksEach (sym p.client_is) (midst_each p.midst (Other (Begun op) ∷ []) p.are (all, tt)) in
     record {
       server_start = far_in none_yet first [];
       client_start = near_in none_yet client_first [];
@@ -60,6 +74,8 @@ did_so b moments op first client_first begun between server client begins does i
       client_led = went.0;
       takes = p.gives;
       suffers = went.1;
+      short = none_short (client_deeds p.turns) (near_in none_yet client_first []) client went.0 each;
+      after = none_after p.turns between p.happened (far_in none_yet first []) server p.far_led each;
       ports = p.ports;
       told = p.told;
     }
@@ -115,7 +131,7 @@ module _ {before : List Turn} (b : Beginning) (first : Far) (op : Op (List ℕ))
   -- by such deeds
   near_does : AnswersSuffering near_answers
   unfolding near_answers near_drove near_led near_done
-  near_does = record { raised = is; all = all; calm = refl; suffers = (((p.takes, (tt, refl)), may), (tt, refl)); midst = p.are }
+  near_does = record { raised = is; calm = refl; suffers = (((p.takes, (tt, refl)), may), (tt, refl)); short = inl all; midst = p.are }
 
   -- and that is all that was asked
   unfoldable all_asked : AreSuffered ((op, said) ∷ []) (near_in none_yet client_first []) near_done
@@ -163,6 +179,7 @@ module _ {before : List Turn} (b : Beginning) (first : Far) (op : Op (List ℕ))
       → (server : Stand server_side) × (over : AreOver b moments ((op, said) ∷ []) server) × (more : List Turn) × (over.turns ≡ more ++ before)
   unfolding all_asked near_answers near_drove far_end far_led near_done
   both_over owed at over =
+      let each : AsksEach (client_deeds p.turns) = subst AsksEach (sym p.client_is) (midst_each p.midst (Other (Begun op) ∷ []) p.are (all, tt)) in
       let deeds : List (Deed server_side) = Ended ∷ server_deeds p.turns in
       let led = far_led owed at over in
       let totals = sums (Other (Left Shut) ∷ deeds) (far_in none_yet first []) far_off led in
@@ -200,6 +217,7 @@ module _ {before : List Turn} (b : Beginning) (first : Far) (op : Op (List ℕ))
           takes = p.gives;
           ports = p.ports;
           told = p.told;
+          after = none_after p.turns there p.happened (far_in none_yet first []) (far_in none_yet v []) p.far_led each;
         },
         last_turns ++ p.resets.0,
         ap (λ l. last_turns ++ l) p.resets.1,

@@ -4,7 +4,7 @@ use Rattle.std.specs.Prelude.{⊤, if◌then◌else◌}
 use Rattle.ftp_client_drive.specs.Side.{Reporting, client_machine, client_side}
 use Rattle.ftp_client_model.specs.Calls as near
 use Rattle.ftp_client_model.specs.Dialogue.{sends_abort}
-use Rattle.ftp_client_model.specs.Octets.{flow_octet}
+use Rattle.ftp_client_model.specs.Octets.{flow_octet, has_settled}
 use Rattle.ftp_client_model.specs.Plan.{count_of}
 use Rattle.ftp_client_model.specs.View.{Doing, Flow, Idle, Job, Receiving, Sending, Told, Transfer, Transferring, View as Near, Waiting}
 use Rattle.ftp_client_model.specs.declared.client.Abort.TheVariants as Aborts
@@ -35,7 +35,7 @@ use Rattle.ftp_wire.proofs.DecoderLemmas.{decodes}
 use Rattle.ftp_pair_breaks.specs.Deeds.{HasBrought, HasTaken}
 use Rattle.ftp_pair_breaks.specs.Late.{downloading}
 use Rattle.ftp_pair_breaks.proofs.Counting.{IsAt, step_reads}
-use Rattle.ftp_pair_breaks.proofs.Late.{Turns, down, hears_turns, is_told}
+use Rattle.ftp_pair_breaks.proofs.Late.{Turns, all_few, down, hears_turns, is_told}
 use Rattle.ftp_pair_breaks.proofs.Unsent.{never_aborts}
 use Rattle.ftp_pair_cuts.specs.Counted.{DownloadsAreCounted, HasReadUp, IsLoading, IsTaking, LoadsOn, TakesOn, UploadsAreCounted, told_by, told_in}
 use Rattle.ftp_pair_cuts.proofs.Concluded.{transfer_shut}
@@ -337,7 +337,8 @@ carries_octet v octet n c =
     let is : near.receives_octet v octet ≡ on =
     ap (λ j. near.heard_by j octet v) c.job
     ∙ ap (λ a. near.with_flow c.op c.transfer (near.heard_flow a c.transfer.flow octet) v) c.unsent
-    ∙ ap (λ (b : Bool). if b then sends_abort c.op heard on else on) (never_aborts v.connection c.op heard c.all) in
+    ∙ ap (λ (b : Bool). if b then sends_abort c.op heard on else on)
+    (never_aborts v.connection c.op heard (ap (λ (k : Option ℕ). has_settled k heard.flow) c.all)) in
     subst (λ w. Carries w (n + 1)) (sym is) (record {
       op = c.op;
       all = c.all;
@@ -369,17 +370,18 @@ module _ (old new : Stand client_side) (n : ℕ) where
 
   -- it hears octets
   hears_job : (octets : List ℕ) → IsLoading old.owner → JobAt nv.job n → JobAt (near.hears nv octets).job n
-  hears_job octets l at = by (hears_turns l.0 l.1 octets l.2 nv)
+  hears_job octets l at = by (hears_turns l.0 octets l.2 nv)
     where
       is_down : nv ≡ downloading l.0 l.2 l.3 l.4 nv
       is_down = l.5
 
-      by : Turns l.0 l.1 (λ v. near.hears v octets) l.2 nv → JobAt (near.hears nv octets).job n
+      by : Turns l.0 (λ v. near.hears v octets) l.2 nv → JobAt (near.hears nv octets).job n
       by (inl stops) =
           subst (λ v. JobAt (near.hears v octets).job n) (sym is_down)
-          (told_at (near.hears (down l.0 l.1 l.2 l.3 l.4 nv) octets).job n (stops l.3 l.4).told)
+          (told_at (near.hears (down l.0 l.2 l.3 l.4 nv) octets).job n (stops l.3 (all_few l.0 l.1 l.3) l.4).told)
       by (inr g) =
-          let is : near.hears nv octets ≡ down l.0 l.1 g.next l.3 l.4 g.last = ap (λ v. near.hears v octets) is_down ∙ g.stays l.3 l.4 in
+          let is : near.hears nv octets ≡ down l.0 g.next l.3 l.4 g.last =
+          ap (λ v. near.hears v octets) is_down ∙ g.stays l.3 (all_few l.0 l.1 l.3) l.4 in
           let read : IsAt l.3.reading n = subst (λ (v : Near). JobAt v.job n) is_down at in
           subst (λ (v : Near). JobAt v.job n) (sym is) read
 

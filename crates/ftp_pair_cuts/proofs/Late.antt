@@ -91,10 +91,13 @@ module _ (op : Op (List ℕ)) (all : count_of op ≡ None) (first : ℕ) (more :
   goes_open Replies.Begun mark n = ap (λ k. answers_once_over (aborting k Replies.Begun mark n)) all
   goes_open (Replies.Final code) mark n = ap (λ k. answers_once_over (aborting k (Replies.Final code) mark n)) all
 
-  -- a break after the final reply is its answer
-  final_lost : (code : ℕ) (mark : Option ℕ) (n : View) → lost (Replies.Final code) mark n ≡ over op all (judges op all code (flow mark)).0 n
+  -- it never has enough, so that a break after the final reply is its answer
+  few : (mark : Option ℕ) → has_settled (count_of op) (flow mark) ≡ false
+  few mark = ap (λ k. has_settled k (flow mark)) all
+
+  final_lost : (code : ℕ) (mark : Option ℕ) (n : View) → lost (Replies.Final code) mark n ≡ over op (judges op code (flow mark) (few mark)).0 n
   final_lost code mark n =
-      ap (λ j. finishes_read j (record (up (Replies.Final code) mark n) { connection = Data.Over Endings.Broken })) (judges op all code (flow mark)).1
+      ap (λ j. finishes_read j (record (up (Replies.Final code) mark n) { connection = Data.Over Endings.Broken })) (judges op code (flow mark) (few mark)).1
 
   -- what stands aside of it
   lost_gathered : (replied : Replied) (mark : Option ℕ) (n : View) → (lost replied mark n).gathered ≡ n.gathered

@@ -23,7 +23,7 @@ use Rattle.ftp_pair_breaks.proofs.Preceding.{Precedes, behind, gives_now, steady
 use Rattle.ftp_pair_breaks.proofs.Simulating as breaking
 use Rattle.ftp_pair_breaks.proofs.Steps.{At}
 use Rattle.ftp_pair_breaks.proofs.Unaware.{steady_alike}
-use Rattle.ftp_pair_breaks.proofs.Unsent.{AskAll}
+use Rattle.ftp_pair_breaks.proofs.Unsent.{AskAll, all_carried}
 use Rattle.ftp_pair_breaks.proofs.Untold.{fault_told, told_alike}
 use Rattle.ftp_pair_cuts.specs.Claims.{CutIsOfWorld, CutsAreOfWorlds, IsBeside}
 use Rattle.ftp_pair_cuts.specs.Deeds.{AreMarks}
@@ -115,7 +115,7 @@ cuts_are_of_worlds read reads b fair moments timed turns between server client d
     first m p =
         let were : Far = p.were.owner.end.server.view in
         let broken : break_step (clock_step p.moment were) ≡ clock_step p.moment (broke were) = broke_step p.were p.at.serves p.sends p.moment in
-        let loads = (gives_now read reads moments timed b fair deeds puts m count server client p).loads in
+        let loads = (gives_now read reads moments timed b fair deeds (all_carried (begun_at moments deeds) puts) m count server client p).loads in
         let front = heard_front p.queue p.said p.heard (client.unheard ++ m.control.to_client) p.split p.late in
         let was : Stand client_side = unaware p.refusals p.near p.queue client.owner.lane in
         of_world p.were was was (behind m)
@@ -131,8 +131,8 @@ cuts_are_of_worlds read reads b fair moments timed turns between server client d
           near = p.view;
         }))))
         (steady_alike loads.op loads.decoder loads.mark client.owner.end.view p.near
-        (steady_now read reads moments timed b fair deeds puts m count server client p)
-        (steady_here read reads moments timed b fair deeds puts m count server client p))
+        (steady_now read reads moments timed b fair deeds (all_carried (begun_at moments deeds) puts) m count server client p)
+        (steady_here read reads moments timed b fair deeds (all_carried (begun_at moments deeds) puts) m count server client p))
         (ap (λ (f : Far). f.session.table) p.far_is) p.at p.marks p.are_marks p.marked refl refl
       where
         heard_front : (queue said heard rest : List ℕ) → queue ++ said ≡ heard ++ rest → (heard ≡ []) ⊎ (queue ≡ [])

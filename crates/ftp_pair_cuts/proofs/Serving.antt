@@ -254,7 +254,7 @@ module _ (read : Reading) (reads : IsReading read) (moments : ℕ → ℕ) (time
     pub lags_never : {Are : OfMarks} → Lags read reads moments timed b fair Are deeds p count old client → ⊥
     lags_never {Are} l =
         let takes : is_upload l.at.world.far.session.connection ≡ true = world_upload l.at in
-        elim (feeds read reads moments timed b fair deeds puts p count old client l).far [
+        elim (feeds read reads moments timed b fair deeds (all_carried (begun_at moments deeds) puts) p count old client l).far [
           | inl free ↦ both takes (ap is_upload free)
           | inr going ↦ by_link takes going.1
         ]

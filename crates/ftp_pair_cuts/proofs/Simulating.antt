@@ -38,7 +38,7 @@ use Rattle.ftp_pair_breaks.proofs.Steps.{server_step}
 use Rattle.ftp_pair_breaks.proofs.Unaware.{steady_open, steady_wants}
 use Rattle.ftp_pair_breaks.proofs.Seen.{IsTold, Sees, far_sees, sees_fresh}
 use Rattle.ftp_pair_breaks.proofs.Unbroken.{sees_unbroken}
-use Rattle.ftp_pair_breaks.proofs.Unsent.{AskAll, Unsent, all_carried}
+use Rattle.ftp_pair_breaks.proofs.Unsent.{AskAll, Unsent, all_carried, asked_all, suffering_peeks}
 use Rattle.ftp_pair_cuts.specs.Coming.{HasCome}
 use Rattle.ftp_pair_cuts.specs.Deeds.{AreCutAt, AreMarks, ClientGives, GivesAlong, IsCutAt, LosesAlong, ServerLoses, cut_marks}
 use Rattle.ftp_pair_cuts.proofs.ClientTold.{told_closing, told_giving}
@@ -109,8 +109,8 @@ module _ (read : Reading) (reads : IsReading read) (moments : ℕ → ℕ) (time
           middle = there.0;
           seen = there.1;
           written = deed_written deed old new none did o.written;
-          suffered = breaking.client_turn read reads moments timed b fair deed deeds puts before ports o.middle there.0 server old new o.suffered (is, gives.1)
-              there.2 did;
+          suffered = breaking.client_turn read reads moments timed b fair deed deeds (all_carried (begun_at moments deeds) puts) before ports o.middle there.0
+              server old new o.suffered (inl (asked_all moments deeds puts)) (suffering_peeks deed old.owner is, gives.1) there.2 did;
         })
 
     -- it is told of the break of an upload
@@ -132,12 +132,13 @@ module _ (read : Reading) (reads : IsReading read) (moments : ℕ → ℕ) (time
         by (inl (inl w)) (inr closing) = by_closing closing w old.owner.lane.unwritten refl
         by (inl (inr l)) other = absurd (true≢false (ap is_lost (sym l.hold ∙ can.0)))
         by (inr l) other =
-            let g = (gives_now read reads moments timed b fair deeds puts p count server old l).loads in
-            let steady = steady_now read reads moments timed b fair deeds puts p count server old l in
+            let carried = all_carried (begun_at moments deeds) puts in
+            let g = (gives_now read reads moments timed b fair deeds carried p count server old l).loads in
+            let steady = steady_now read reads moments timed b fair deeds carried p count server old l in
             elim other [
               | inl sends ↦
-                  absurd (true≢false (ap is_receive (sym (steady_wants g.op g.all g.decoder g.mark old.owner.end.view steady) ∙ sends)))
-              | inr closing ↦ absurd (true≢false (sym closing ∙ steady_open g.op g.all g.decoder g.mark old.owner.end.view steady))
+                  absurd (true≢false (ap is_receive (sym (steady_wants g.op g.decoder g.mark old.owner.end.view steady) ∙ sends)))
+              | inr closing ↦ absurd (true≢false (sym closing ∙ steady_open g.op g.decoder g.mark old.owner.end.view steady))
             ]
 
     beside_step : (deed : Deed client_side) → ClientGives deed old.owner new.owner → CanTurn (Client deed) p q → Done deed old new
@@ -205,8 +206,8 @@ module _ (read : Reading) (reads : IsReading read) (moments : ℕ → ℕ) (time
           middle = there.0;
           seen = there.1;
           written = o.written;
-          suffered = breaking.server_turn read reads moments timed b fair deed deeds puts before ports o.middle there.0 old new client o.suffered (is, calm)
-              there.2 did told;
+          suffered = breaking.server_turn read reads moments timed b fair deed deeds (all_carried (begun_at moments deeds) puts) before ports o.middle there.0
+              old new client o.suffered (inl (asked_all moments deeds puts)) (is, calm) there.2 did told;
         }
 
     -- beside a client that was told
@@ -332,7 +333,8 @@ module _ (read : Reading) (reads : IsReading read) (moments : ℕ → ℕ) (time
           absurd (lags_never read reads moments timed b fair deeds puts p q told_ports old new client calm wants
           (subst (λ (s : Stand server_side). Lags read reads moments timed b fair Are deeds p told_ports s client) old_dried l))
       by_suffered {Are} (inr l) =
-          absurd (true≢false (ap is_receive (sym wants ∙ far_nothing read reads moments timed b fair deeds puts p told_ports old client l)))
+          absurd (true≢false (ap is_receive (sym wants
+          ∙ far_nothing read reads moments timed b fair deeds (all_carried (begun_at moments deeds) puts) p told_ports old client l)))
 
       cut_on : {Are : OfMarks} → Cut Are deeds p told_ports old client
           → Cut (cut_marks Want.Receive came_now Are) (Other Break ∷ deeds) q told_ports new client
