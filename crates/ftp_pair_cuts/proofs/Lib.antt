@@ -5,7 +5,7 @@ pub mod Seen
 pub mod Concluded
 pub mod ServerCut
 pub mod Coming
-pub mod Counted
+pub mod ByDeeds
 pub mod Climbing
 pub mod Offering
 pub mod Rows

@@ -1,6 +1,6 @@
 pub mod Late
 pub mod Coming
-pub mod Counted
+pub mod ByDeeds
 pub mod Deeds
 pub mod Claims
 pub mod Over

@@ -1,6 +1,6 @@
 //! Laws of uploads whose data connections break: functions that do nothing, whose contracts are the claims of `specs/`.
 ghost use Rattle.ftp_pair_cuts.specs.Claims.{CutsAgree, CutsAreOfWorlds, CutsPartingAgree};
-ghost use Rattle.ftp_pair_cuts.specs.Counted.{DownloadsAreCounted, UploadsAreCounted};
+ghost use Rattle.ftp_pair_cuts.specs.ByDeeds.{DownloadsAreCounted, UploadsAreCounted};
 ghost use Rattle.ftp_pair_cuts.specs.Late.{UploadsBreakLate, UploadsGiveLate};
 ghost use Rattle.ftp_pair_cuts.specs.Over.{CutDrivesAgree};
 

@@ -37,7 +37,7 @@ use Rattle.ftp_pair_breaks.specs.Late.{downloading}
 use Rattle.ftp_pair_breaks.proofs.Counting.{IsAt, step_reads}
 use Rattle.ftp_pair_breaks.proofs.Late.{Turns, all_few, down, hears_turns, is_told}
 use Rattle.ftp_pair_breaks.proofs.Unsent.{never_aborts}
-use Rattle.ftp_pair_cuts.specs.Counted.{DownloadsAreCounted, HasReadUp, IsLoading, IsTaking, LoadsOn, TakesOn, UploadsAreCounted, told_by, told_in}
+use Rattle.ftp_pair_cuts.specs.ByDeeds.{DownloadsAreCounted, HasReadUp, IsLoading, IsTaking, LoadsOn, TakesOn, UploadsAreCounted, told_by, told_in}
 use Rattle.ftp_pair_cuts.proofs.Concluded.{transfer_shut}
 use Rattle.ftp_pair_deeds.specs.Deeds.{Along}
 use Rattle.ftp_pair_deeds.proofs.FarForms.{none_later}
