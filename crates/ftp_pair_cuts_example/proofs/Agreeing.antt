@@ -5,7 +5,8 @@ use Rattle.ftp_pair_example.specs.Example.{file_alone}
 use Rattle.ftp_pair_example.proofs.Fair.{file_alone_is_there}
 use Rattle.ftp_pair_transfers.specs.Deeds.{AreMoments}
 use Rattle.ftp_pair_world.specs.Claims.{Beginning, IsFair}
-use Rattle.ftp_pair_cuts_example.specs.Example.{ClientFirstAgrees, HasAgreed, Moment, Passes, ServerAloneAgrees, cut_asked}
+use Rattle.ftp_pair_cuts_example.specs.Example.{ClientFirstAgrees, HasAgreed, Moment, Passes, ServerAloneAgrees, ServerFirstAgrees, cut_asked}
+use Rattle.ftp_pair_cuts_example.proofs.Keeping.{server_first_is_over}
 use Rattle.ftp_pair_cuts_example.proofs.Sending.{client_first_is_over, server_alone_is_over}
 
 -- of a session that is fair
@@ -21,3 +22,8 @@ pub server_alone_agrees : ServerAloneAgrees
 server_alone_agrees moments timed =
     let there = file_alone_is_there in
     let p = server_alone_is_over file_alone 0 moments there.has there.room in (p, has_agreed _ there.fair moments timed _ p)
+
+pub server_first_agrees : ServerFirstAgrees
+server_first_agrees moments timed =
+    let there = file_alone_is_there in
+    let p = server_first_is_over file_alone 0 moments there.has there.room in (p, has_agreed _ there.fair moments timed _ p)

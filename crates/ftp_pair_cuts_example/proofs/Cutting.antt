@@ -1,5 +1,5 @@
--- Deeds of two drives of which an upload breaks, as a kind of those that are played one after another: the server is told of a break right after the moment of the
--- operation.
+-- Deeds of two drives of which an upload breaks, as a kind of those that are played one after another: the server is told of a break right after the moment of
+-- the operation.
 use Rattle.std.proofs.Common.{◌≡◌, inl, ℕ, List, [], ◌∷◌, ◌++◌, refl, sym, ap, subst, ◌∙◌}
 use Rattle.std.specs.Prelude.{⊤}
 use Rattle.ftp_control.specs.Asking.{Reset}

@@ -133,7 +133,8 @@ module _ {before : List Turn} {at : Far} (b : Beginning) (first : Far) (op : Op 
   went : Went ClientGives (client_deeds p.turns) (near_in none_yet client_first []) (near_in lane n [])
   went = went_so moments op first client_first begun there (far_in none_yet v []) (near_in lane n []) does is all closing p
 
-  near_all : Went ClientGives (Other Closed ∷ Other (Left asked) ∷ Other (Report (Some said)) ∷ client_deeds p.turns) (near_in none_yet client_first []) near_done
+  near_all : Went ClientGives (Other Closed ∷ Other (Left asked) ∷ Other (Report (Some said)) ∷ client_deeds p.turns) (near_in none_yet client_first [])
+      near_done
   unfolding near_done
   near_all = (
     (

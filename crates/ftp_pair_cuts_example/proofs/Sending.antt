@@ -73,7 +73,8 @@ module _ (table : Table) (moments : ℕ → ℕ) (root : node_at table [] ≡ So
     (file : node_at (under table []) (example_name ∷ []) ≡ Some (File example_octets stamp))
     (room : nat_le 1 (room_at (under table []) (example_name ∷ [])) ≡ true) where
   -- one octet is written, the client is told of the break, and resets its data connection
-  breaks : Leads table moments [] (lies [] [] first_octet [] Has_lost Has) (far_in (one_stands [] []) (quiet (far_up table)) []) (near_in none_yet near_closed [])
+  breaks : Leads table moments [] (lies [] [] first_octet [] Has_lost Has) (far_in (one_stands [] []) (quiet (far_up table)) [])
+      (near_in none_yet near_closed [])
   unfolding near.wants near.data_fault
   breaks =
       let start = Starts table in
@@ -96,7 +97,8 @@ module _ (table : Table) (moments : ℕ → ℕ) (root : node_at table [] ≡ So
       (tt, refl) (near_is_closed near_given refl) refl left
 
   -- both octets are written, and the client ends its data connection
-  ends : Leads table moments [] (lies [] [] both_octets [] Has_ended Has) (far_in (one_stands [] []) (quiet (far_up table)) []) (near_in none_yet near_closed [])
+  ends : Leads table moments [] (lies [] [] both_octets [] Has_ended Has) (far_in (one_stands [] []) (quiet (far_up table)) [])
+      (near_in none_yet near_closed [])
   unfolding near.wants
   ends =
       let start = Starts table in

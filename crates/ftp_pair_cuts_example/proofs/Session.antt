@@ -1,4 +1,5 @@
--- The sessions in which an upload breaks, deed by deed: until the client gave all, and from where the server takes one octet and is told of the break.
+-- The sessions in which an upload breaks, deed by deed: until the client heard its 150, or gave all, and from where the server takes one octet and is told of
+-- the break.
 use Rattle.std.proofs.Common.{◌≡◌, inl, inr, ℕ, true, false, not, if◌then◌else◌, List, [], ◌∷◌, ◌++◌, Option, None, Some, is_some, nat_le, le-leb, leb-true, refl, sym, ap, ap₂, arith}
 use Rattle.ftp_command.specs.Line.{line_of}
 use Rattle.ftp_command.specs.declared.command.Command.TheVariants as command
@@ -50,24 +51,24 @@ use Rattle.ftp_pair_example.specs.Example.{example_name, example_octets}
 use Rattle.ftp_pair_example.proofs.Calling.{Dials, client_first, far_first, far_ready, near_first, quiet, reaches, starts_so, still}
 use Rattle.ftp_pair_example.proofs.Moves.{far_gets, far_takes, near_gives, near_shuts, steps}
 use Rattle.ftp_pair_example.proofs.Playing.{PlayedBy, can_take, far_does, far_in, far_obeys, far_says, far_turn, lies, near_in, near_is_told, near_turn, none_yet, one_stands, server_of, takes_only}
-use Rattle.ftp_pair_cuts_example.specs.Example.{Moment, Passes, both_octets, first_octet, put}
+use Rattle.ftp_pair_cuts_example.specs.Example.{Moment, Passes, both_octets, first_octet, last_octet, put}
 use Rattle.ftp_pair_cuts_example.proofs.Cutting.{began_one, cutting, from_here, one_more}
 use Rattle.ftp_pair_cuts_example.proofs.Ending.{both_over, did_so}
 
 -- it dials where it is told
-put_dials : Dials put
+pub put_dials : Dials put
 unfolding near.data_opened near.wants answered line_heard extended_value path_on_literals
 put_dials = record { logged = refl; called = refl; rest = refl }
 
 -- the operation is begun
-put_begins : Done (Other (Begun put)) (near_in none_yet client_first []) (near_in none_yet (near_first put) [])
+pub put_begins : Done (Other (Begun put)) (near_in none_yet client_first []) (near_in none_yet (near_first put) [])
 unfolding near.starts path_on_literals
 put_begins = (((refl, (((λ calm. refl), (λ moved. absurd (moved refl))), inl refl)), refl, tt), refl)
 
 -- ---- the client
 
 -- the transfer, once so much of it was answered, and these octets are left
-abbrev putting : Replied → List ℕ → Near
+abbrev pub putting : Replied → List ℕ → Near
 putting replied left = record client_first {
   standing = Standings.Entered;
   job = Transferring put (record { replied = replied; abort = Aborts.Unsent; flow = Sending left None });
@@ -77,7 +78,7 @@ putting replied left = record client_first {
 abbrev near_open : Near
 near_open = record (putting Replies.Nothing both_octets) { owed = written_line (line_of (command.Stor example_name)) }
 
-abbrev near_begun : Near
+abbrev pub near_begun : Near
 near_begun = putting Replies.Begun both_octets
 
 -- it gave all, and its data connection is closed
@@ -87,8 +88,12 @@ near_closed = record (putting Replies.Begun []) { connection = Links.Over Ending
 abbrev pub near_given : Near
 near_given = record near_closed { closing = true }
 
+-- it was told of the break while it had an octet to give
+abbrev pub near_lost : Near
+near_lost = record (putting Replies.Begun last_octet) { connection = Links.Over Endings.Broken }
+
 -- it reports that it broke
-abbrev near_over : Near
+abbrev pub near_over : Near
 near_over = record client_first { standing = Standings.Entered; job = Told (Broken [] None) }
 
 -- ---- the server
@@ -146,7 +151,7 @@ module _ (table : Table) where
   far_ended why moment =
       concluded (ends_by why moment (example_name ∷ []) (Keeps.First 0) first_octet Texts.Broken (disconnected far_taken.session)) (far_timed moment)
 
-  abbrev far_put : ℕ → Far
+  abbrev pub far_put : ℕ → Far
   far_put moment = far_ended None moment
 
   -- whatever comes of that, it holds that moment then
@@ -154,7 +159,7 @@ module _ (table : Table) where
   ended_then None moment = refl
   ended_then (Some why) moment = refl
 
-  told_then : (moment : ℕ) → (later (far.break_step (later (far.clock_step moment far_taken)))).footing.moment ≡ moment
+  pub told_then : (moment : ℕ) → (later (far.break_step (later (far.clock_step moment far_taken)))).footing.moment ≡ moment
   told_then moment = ended_then (end_refusal (example_name ∷ []) (Keeps.First 0) first_octet (disconnected far_taken.session)) moment
 
   -- where both begin
@@ -187,20 +192,26 @@ module _ (table : Table) (moments : ℕ → ℕ) where
         (λ read reads. reads_stated read (command.Stor example_name) reads tt refl) (rw file refl)
         (reaches (cutting [] (far_taken table) (moments 0)) (([], refl), tt) table moments put put_dials root)
 
-    -- 150 is said and heard, and the client gives both octets
-    pub given : Leads [] (lies [] [] [] [] Has Has) (far_in (one_stands [] []) (quiet (far_up table)) []) (near_in (one_stands both_octets []) near_given [])
-    unfolding near.starts near.wants near.data_opened near.gives_data answered line_heard extended_value path_on_literals can_take takes_only
-    given =
+    -- 150 is said and heard
+    pub begins : Leads [] (lies [] [] [] [] Has Has) (far_in (one_stands [] []) (quiet (far_up table)) []) (near_in (one_stands [] []) near_begun [])
+    unfolding near.starts near.wants near.data_opened answered line_heard extended_value path_on_literals can_take takes_only
+    begins =
         let start = Starts table in
         let up : Far = far_up table in
         let server = far_in (one_stands [] []) (quiet up) [] in
-        let both = lies [] [] [] [] Has Has in
         let opens = far_says moments start begun put 1 [] [] Has Has [] [] (one_stands [] []) up (near_in (one_stands [] []) (still near_open) []) refl
         obeys in
-        let told = near_is_told moments start begun put 1 [] [] Has Has [] up.owed server (one_stands [] []) (still near_open) refl refl opens in
-        near_turn moments start begun put (Other (Gave 2 both_octets Rests.Nothing)) (tt, tt) 1 both both server
+        near_is_told moments start begun put 1 [] [] Has Has [] up.owed server (one_stands [] []) (still near_open) refl refl opens
+
+    -- and the client gives both octets
+    pub given : Leads [] (lies [] [] [] [] Has Has) (far_in (one_stands [] []) (quiet (far_up table)) []) (near_in (one_stands both_octets []) near_given [])
+    unfolding near.wants near.gives_data
+    given =
+        let both = lies [] [] [] [] Has Has in
+        near_turn moments (Starts table) begun put (Other (Gave 2 both_octets Rests.Nothing)) (tt, tt) 1 both both
+        (far_in (one_stands [] []) (quiet (far_up table)) [])
         (near_in (one_stands [] []) near_begun []) (near_in (one_stands both_octets []) near_given []) (tt, refl)
-        (near_gives both_octets near_begun near_given refl refl refl refl) refl told
+        (near_gives both_octets near_begun near_given refl refl refl refl) refl begins
 
     -- what there is room for is within the limit of a file
     in_limit : nat_le 1 (file_limit (under table [])) ≡ true
@@ -224,46 +235,48 @@ module _ (table : Table) (moments : ℕ → ℕ) where
     is_put : (moment : ℕ) → far_put table moment ≡ later (far.break_step (far_timed table moment))
     is_put moment = sym (ap (λ why. far_ended table why moment) is_well)
 
-    -- the client has left its data connection, and these are on their way
+    -- these are on their way, whatever the client is at
+    module _ (hold : Hold) (more : List ℕ) (client : Stand client_side)
+        (p : Leads [] (lies [] [] (first_octet ++ more) [] hold Has) (far_in (one_stands [] []) (quiet (far_up table)) []) client) where
+      -- the server takes the octet, is told of the break, says 426, and resets its data connection
+      pub takes : Leads p.turns (lies [] (far_put table (moments 0)).owed more [] hold Has_lost) (far_in none_yet (quiet (far_put table (moments 0))) []) client
+      takes =
+          let start = Starts table in
+          let up : Far = far_up table in
+          let taken_up : Far = far_taken table in
+          let done : Far = far_put table (moments 0) in
+          let some = lies [] [] (first_octet ++ more) [] hold Has in
+          let none = lies [] [] more [] hold Has in
+          let lost = lies [] [] more [] hold Has_lost in
+          let said = lies [] done.owed more [] hold Has_lost in
+          let got = far_turn moments start begun put (Other (Got first_octet)) ((λ before. (refl, λ ports. ports)), λ old new done moment. tt) 1 some none
+          (far_in (one_stands [] []) (quiet up) []) (far_in (one_stands [] first_octet) (quiet up) []) client (tt, refl)
+          (far_gets first_octet (quiet up) refl) (refl, refl, refl) (from_here p) in
+          let taken = far_turn moments start begun put (Other (Received first_octet 1)) ((λ before. (refl, λ ports. ports)), λ old new done moment. tt) 1
+          none none (far_in (one_stands [] first_octet) (quiet up) []) (far_in (one_stands [] []) taken_up []) client (tt, refl)
+          (far_takes 97 (quiet up) taken_up refl refl is_taken) refl got in
+          let failed = far_does moments start begun put (Other Failed) ((λ before. (refl, λ ports. ports)), λ old new done moment. tt) 1 none none
+          (far_in (one_stands [] []) taken_up []) (far_in far_failed taken_up []) client ((tt, refl), tt) (reads_none taken_up) refl taken
+          (one_more (Server (Other Failed)) taken.resets.0, taken.resets.1) in
+          let told = far_does moments start begun put (Other Break) ((λ before. (refl, λ ports. ports)), λ old new done moment. tt) 1 none lost
+          (far_in far_failed taken_up []) (far_in far_broken done []) client ((inr (refl, refl, refl), refl), (refl, refl))
+          (breaks_then (moments 0) taken_up (far_timed table (moments 0)) done refl (is_put (moments 0))) (refl, refl) failed
+          (one_more (Server (Other Break)) {turns = failed.turns} failed.resets.0, (failed.resets.1, began_one failed)) in
+          let says = far_says moments start begun put 1 more [] hold Has_lost [] [] far_broken done client refl told in
+          far_turn moments start begun put (Other (Left (Reset None None))) ((λ before. (refl, λ ports. ports)), λ old new done moment. tt) 1 said said
+          (far_in far_broken (quiet done) []) (far_in none_yet (quiet done) []) client (tt, refl) (far_lets_go (quiet done)) (tt, refl) says
+
+    -- these are on their way, and the client has left its data connection
     module _ (hold : Hold) (more : List ℕ)
         (p : Leads [] (lies [] [] (first_octet ++ more) [] hold Has) (far_in (one_stands [] []) (quiet (far_up table)) []) (near_in none_yet near_closed []))
       where
-        -- the server takes the octet, is told of the break, says 426, and resets its data connection
-        takes : Leads p.turns (lies [] (far_put table (moments 0)).owed more [] hold Has_lost)
-            (far_in none_yet (quiet (far_put table (moments 0))) []) (near_in none_yet near_closed [])
-        takes =
-            let start = Starts table in
-            let up : Far = far_up table in
-            let taken_up : Far = far_taken table in
-            let done : Far = far_put table (moments 0) in
-            let client = near_in none_yet near_closed [] in
-            let some = lies [] [] (first_octet ++ more) [] hold Has in
-            let none = lies [] [] more [] hold Has in
-            let lost = lies [] [] more [] hold Has_lost in
-            let said = lies [] done.owed more [] hold Has_lost in
-            let got = far_turn moments start begun put (Other (Got first_octet)) ((λ before. (refl, λ ports. ports)), λ old new done moment. tt) 1 some none
-            (far_in (one_stands [] []) (quiet up) []) (far_in (one_stands [] first_octet) (quiet up) []) client (tt, refl)
-            (far_gets first_octet (quiet up) refl) (refl, refl, refl) (from_here p) in
-            let taken = far_turn moments start begun put (Other (Received first_octet 1)) ((λ before. (refl, λ ports. ports)), λ old new done moment. tt) 1
-            none none (far_in (one_stands [] first_octet) (quiet up) []) (far_in (one_stands [] []) taken_up []) client (tt, refl)
-            (far_takes 97 (quiet up) taken_up refl refl is_taken) refl got in
-            let failed = far_does moments start begun put (Other Failed) ((λ before. (refl, λ ports. ports)), λ old new done moment. tt) 1 none none
-            (far_in (one_stands [] []) taken_up []) (far_in far_failed taken_up []) client ((tt, refl), tt) (reads_none taken_up) refl taken
-            (one_more (Server (Other Failed)) taken.resets.0, taken.resets.1) in
-            let told = far_does moments start begun put (Other Break) ((λ before. (refl, λ ports. ports)), λ old new done moment. tt) 1 none lost
-            (far_in far_failed taken_up []) (far_in far_broken done []) client ((inr (refl, refl, refl), refl), (refl, refl))
-            (breaks_then (moments 0) taken_up (far_timed table (moments 0)) done refl (is_put (moments 0))) (refl, refl) failed
-            (one_more (Server (Other Break)) {turns = failed.turns} failed.resets.0, (failed.resets.1, began_one failed)) in
-            let says = far_says moments start begun put 1 more [] hold Has_lost [] [] far_broken done client refl told in
-            far_turn moments start begun put (Other (Left (Reset None None))) ((λ before. (refl, λ ports. ports)), λ old new done moment. tt) 1 said said
-            (far_in far_broken (quiet done) []) (far_in none_yet (quiet done) []) client (tt, refl) (far_lets_go (quiet done)) (tt, refl) says
-
-        -- the client hears 426
+        -- it hears 426
         hears : Leads p.turns (lies [] [] more [] hold Has_lost) (far_in none_yet (quiet (far_put table (moments 0))) []) (near_in none_yet near_over [])
         unfolding near.starts near.wants near.data_opened answered line_heard extended_value path_on_literals can_take takes_only
         hears =
             near_is_told moments (Starts table) begun put 1 more [] hold Has_lost [] (reply_octets (fixed_reply Texts.Broken))
-            (far_in none_yet (quiet (far_put table (moments 0))) []) none_yet near_closed refl refl takes
+            (far_in none_yet (quiet (far_put table (moments 0))) []) none_yet near_closed refl refl
+            (takes hold more (near_in none_yet near_closed []) p)
 
         -- so both are over, after that moment
         pub passes : (At : Moment) → At (lies [] [] (first_octet ++ more) [] hold Has) (near_in none_yet near_closed []) → Passes (example table) moments At
@@ -273,8 +286,8 @@ module _ (table : Table) (moments : ℕ → ℕ) where
             let middle = lies [] [] (first_octet ++ more) [] hold Has in
             let server = far_in (one_stands [] []) (quiet (far_up table)) [] in
             let client = near_in none_yet near_closed [] in
-            let over = both_over (example table) (far_first table) put (Broken [] None) client_first (near_first put) (quiet (far_put table (moments 0))) near_over
-            moments none_yet Shut there there (starts_so table moments put put_dials) put_begins (tt, refl) refl refl (told_then table) refl refl
+            let over = both_over (example table) (far_first table) put (Broken [] None) client_first (near_first put) (quiet (far_put table (moments 0)))
+            near_over moments none_yet Shut there there (starts_so table moments put put_dials) put_begins (tt, refl) refl refl (told_then table) refl refl
             (near_shuts (near.reports near_over) refl) (tt, refl) refl hears
             refl (record { wants = refl; running = refl; none_waits = refl }) refl in
             record {

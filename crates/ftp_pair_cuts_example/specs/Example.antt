@@ -104,3 +104,19 @@ ServerAloneIsOver = IsThere IsServerAlone
 
 abbrev pub ServerAloneAgrees : Type 0
 ServerAloneAgrees = OneAgrees IsServerAlone
+
+-- ---- the server is told first
+
+-- it took one octet, was told of the break, and has reset the data connection; the client, which gave and wrote that octet, has the other to give, and was not
+-- told
+pub record IsServerFirst (between : Between) (client : Stand client_side) : Type 0 where
+  pub near : between.near ≡ Has
+  pub far : between.far ≡ Has_lost
+  pub left : client.owner.end.view.job
+      ≡ Transferring put (record { replied = Replies.Begun; abort = Aborts.Unsent; flow = Sending last_octet None })
+
+abbrev pub ServerFirstIsOver : Type 0
+ServerFirstIsOver = IsThere IsServerFirst
+
+abbrev pub ServerFirstAgrees : Type 0
+ServerFirstAgrees = OneAgrees IsServerFirst
