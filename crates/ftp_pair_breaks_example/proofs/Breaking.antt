@@ -15,7 +15,7 @@ use Rattle.ftp_server_model.specs.Calls as far
 use Rattle.ftp_server_model.specs.Failing.{EndFails, GiveFails}
 use Rattle.ftp_server_model.specs.Machine.{later}
 use Rattle.ftp_server_model.specs.View.{View as Far}
-use Rattle.ftp_pair_breaks.specs.Deeds.{ClientSuffers, IsPeeking, IsYielding, ServerYields}
+use Rattle.ftp_pair_breaks.specs.Deeds.{ClientSuffers, IsPeeking, IsSuffering, IsYielding, ServerYields}
 use Rattle.ftp_pair_deeds.specs.Deeds.{IsMidst}
 use Rattle.ftp_pair_deeds.proofs.Along.{Went}
 use Rattle.ftp_pair_drives.specs.Between.{Between, Client, Server, Turn}
@@ -33,13 +33,18 @@ yields (Other Break) at is = absurd is
 yields deed at is = is
 
 -- so does a client in the midst of a drive
-pub suffers : (deed : Deed client_side) (at : Held NearEnd) → IsMidst deed → IsUnbroken deed → IsAsking deed at → IsPeeking deed at
+pub suffers : (deed : Deed client_side) (at : Held NearEnd) → IsMidst deed → IsUnbroken deed → IsAsking deed at → IsSuffering deed at
 suffers (Other (Aside (Starting op))) at midst unbroken is = absurd midst
 suffers (Other Failed) at midst unbroken is = tt
 suffers (Other Break) at midst unbroken is = absurd unbroken
 suffers (Other (Left (Reset left written))) at midst unbroken is = is.1
 suffers (Other (Refused (NotConnected endpoint ∷ []))) at midst unbroken is = tt
 suffers deed at midst unbroken is = is
+
+-- where it begins nothing that is as where it may peek
+pub peeks : (deed : Deed client_side) (at : Held NearEnd) → IsMidst deed → IsSuffering deed at → IsPeeking deed at
+peeks (Other (Aside (Starting op))) at midst is = absurd midst
+peeks deed at midst is = is
 
 -- turns after these
 abbrev pub AreAfter : (first turns : List Turn) → Type 0
@@ -51,7 +56,7 @@ breaking first = record {
   Gives = ServerYields;
   Takes = ClientSuffers;
   gives = λ deed old new is. (yields deed old is.0, is.1);
-  takes = λ deed old new midst unbroken is. (suffers deed old midst unbroken is.0, is.1);
+  takes = λ deed old new midst unbroken is. (peeks deed old midst (suffers deed old midst unbroken is.0), is.1);
   Keeps = λ turns between happened. AreAfter first turns;
   far_keeps = λ deed at next gives before old new happened can after. (Server deed ∷ after.0, ap (λ l. Server deed ∷ l) after.1);
   near_keeps = λ deed unbroken before old new happened can after. (Client deed ∷ after.0, ap (λ l. Client deed ∷ l) after.1);
