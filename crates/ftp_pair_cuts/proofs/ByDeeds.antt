@@ -160,7 +160,8 @@ line_at heard v (Data.Transferring transfer) n is upload none at = by (is_abort 
     by : (aborts : Bool) → UpAt (connection_of (if aborts then aborted v else later waits).session) n
     by true = gone
     by false =
-        subst (λ (idle : Bool). UpAt (connection_of (if idle then obeyed heard (record v { waiting = None }) else waits).session) n) (sym (busy v (has_room waits) is)) at
+        let after_it : Bool → Far = λ idle. if idle then obeyed heard (record v { waiting = None }) else waits in
+        subst (λ idle. UpAt (connection_of (after_it idle).session) n) (sym (busy v (has_room waits) is)) at
 line_at heard v Data.Free n is upload none at = absurd (true≢false (sym upload))
 line_at heard v (Data.Asked verb) n is upload none at = absurd (true≢false (sym upload))
 line_at heard v (Data.Active endpoint) n is upload none at = absurd (true≢false (sym upload))
