@@ -11,7 +11,7 @@ use Rattle.ftp_ends.specs.declared.link.Wants.TheVariants as Want
 use Rattle.ftp_operation.specs.Answer.{Said}
 use Rattle.ftp_server_drive.specs.Side.{server_side}
 use Rattle.ftp_server_model.specs.Calls as far
-use Rattle.ftp_server_model.specs.Calls.{break_step, clock_step, is_upload}
+use Rattle.ftp_server_model.specs.Calls.{break_step, clock_step}
 use Rattle.ftp_server_model.specs.Machine.{Reading, later}
 use Rattle.ftp_server_model.specs.View.{View as Far}
 use Rattle.ftp_server_model.specs.declared.session.ServerLink.TheVariants as Data
@@ -127,7 +127,8 @@ module _ (read : Reading) (begun : List Order) (server : Stand server_side) (cli
 -- ---- both
 
 module _ (read : Reading) (begun : List Order) (old new : Stand server_side) (before now : Stand client_side) (reports : List Said) (w : World)
-    (serves : ServerServes old.owner) (sends : far.wants old.owner.end.server.view ≡ Want.Send) (known : Known w) (laden : Laden w.near) (link : w.link ≡ Opened) where
+    (serves : ServerServes old.owner) (sends : far.wants old.owner.end.server.view ≡ Want.Send) (known : Known w) (laden : Laden w.near)
+    (link : w.link ≡ Opened) where
   abbrev v : Far
   v = old.owner.end.server.view
 
@@ -189,7 +190,8 @@ module _ (read : Reading) (begun : List Order) (old new : Stand server_side) (be
     -- the client wants nothing of the world
     near_rests : rests (near.wants (data_closed then_near)) ≡ true
     near_rests =
-        ap (λ m. rests (near.wants (data_closed m))) then_told ∙ ap (λ m. rests (near.wants m)) (laden_closed w.near laden) ∙ ap rests (laden_rests w.near laden)
+        ap (λ m. rests (near.wants (data_closed m))) then_told ∙ ap (λ m. rests (near.wants m)) (laden_closed w.near laden)
+        ∙ ap rests (laden_rests w.near laden)
 
     -- the event leads there
     leads : LeadsOn read [] w (settled broken)

@@ -238,8 +238,10 @@ module _ (read : Reading) (reads : IsReading read) (moments : ℕ → ℕ) (time
         (level read (begun_at moments deeds) l.were were (reports_in deeds) w l.at.serves l.sends l.at.last l.at.ahead (behind p) count l.at.together)
         l.at.together in
         both_again read reads moments timed b fair deeds l.at (marked_last (Broken w.came) w.marks) ways first_far first
-        (both_broken read (begun_at moments deeds) l.were first_far were first (reports_in deeds) w l.at.serves l.sends known_now (loading_laden w.near (loading_of w.near g.loads g.unfinal)) g.link l.at.last (behind p) ways
-        count at_level l.moment refl near_was refl l.unread refl refl refl l.untold l.none (broken_lane old.owner.lane new.owner.lane lane) takes written)
+        (both_broken read (begun_at moments deeds) l.were first_far were first (reports_in deeds) w l.at.serves l.sends known_now
+        (loading_laden w.near (loading_of w.near g.loads g.unfinal)) g.link l.at.last
+        (behind p) ways count at_level l.moment refl near_was refl l.unread refl refl refl l.untold l.none
+        (broken_lane old.owner.lane new.owner.lane lane) takes written)
         (record { running = l.at.serves.running; none_waits = l.at.serves.none_waits }) first_sound
         (faulted_plain Whatever n (loads_of n loads) l.at.plain) (none_fresh refl)
 
@@ -401,13 +403,14 @@ module _ (read : Reading) (reads : IsReading read) (moments : ℕ → ℕ) (time
         subst (λ a. Together read (begun_at moments deeds) l.at.last a (unbroken p) count was before (reports_in deeds) w)
         (level read (begun_at moments deeds) was before (reports_in deeds) w l.at.serves is.0 l.at.last l.at.ahead (unbroken p) count l.at.together)
         l.at.together in
-        let there = none_there read (begun_at moments deeds) was (dried new) before client (reports_in deeds) w l.at.serves is.0 known_now (loading_laden w.near (loading_of w.near g.loads g.unfinal)) g.link l.at.last
-        (unbroken p) q count at_level in
+        let there = none_there read (begun_at moments deeds) was (dried new) before client (reports_in deeds) w l.at.serves is.0 known_now
+        (loading_laden w.near (loading_of w.near g.loads g.unfinal)) g.link l.at.last (unbroken p) q count at_level in
         let view : client.owner.end.view ≡ data_fault l.was.end.view = l.view ∙ sym (fault_told l.was.end.view l.loads) in
         let loads = loads_of l.was.end.view l.loads in
         both_again read reads moments timed b fair deeds l.at (marked_last (Broken w.came) w.marks) q (dried new) client
-        (both_broken read (begun_at moments deeds) was (dried new) before client (reports_in deeds) w l.at.serves is.0 known_now (loading_laden w.near (loading_of w.near g.loads g.unfinal)) g.link l.at.last
-        (unbroken p) q count at_level t.0 t.1 near_was view unread refl (ap (λ (m : Between). m.control) can.1)
+        (both_broken read (begun_at moments deeds) was (dried new) before client (reports_in deeds) w l.at.serves is.0 known_now
+        (loading_laden w.near (loading_of w.near g.loads g.unfinal)) g.link l.at.last (unbroken p) q count at_level t.0 t.1 near_was view unread refl
+        (ap (λ (m : Between). m.control) can.1)
         (ap (λ (m : Between). m.data_ways.to_server) can.1) (ap (λ (x : Lane). x.untold) far_lane ∙ there.0) dry_now l.lane.dry l.lane.takes l.lane.written)
         (record { running = (serves_now serves).running; none_waits = (serves_now serves).none_waits })
         (ap (λ (v : Near). is_sound v.standing) view ∙ ap is_sound (faulted l.was.end.view loads).standing ∙ l.at.sound)
@@ -452,8 +455,8 @@ module _ (read : Reading) (reads : IsReading read) (moments : ℕ → ℕ) (time
         subst (λ a. Together read (begun_at moments deeds) o.at.last a p count was client (reports_in deeds) w)
         (level read (begun_at moments deeds) was client (reports_in deeds) w o.at.serves is.0 o.at.last o.at.ahead p count o.at.together)
         o.at.together in
-        let there = none_there read (begun_at moments deeds) was (dried new) client client (reports_in deeds) w o.at.serves is.0 known_now (loading_laden w.near (loading_of w.near g.loads g.unfinal)) g.link o.at.last
-        p q count at_level in
+        let there = none_there read (begun_at moments deeds) was (dried new) client client (reports_in deeds) w o.at.serves is.0 known_now
+        (loading_laden w.near (loading_of w.near g.loads g.unfinal)) g.link o.at.last p q count at_level in
         let got = resplit deeds carried p (behind q) count was client (unaware client.owner.end.refusals n queue client.owner.lane) o.at refl
         (ap (λ (m : Between). m.control.to_server) can.1) (sym (append-nil queue)) (ap (λ (m : Between). m.data_ways) can.1) (sym can.0)
         (ap (λ (m : Between). m.near) can.1) in

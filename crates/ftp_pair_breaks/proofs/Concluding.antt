@@ -23,7 +23,7 @@ use Rattle.ftp_pair_transfers.specs.Deeds.{begun_at}
 use Rattle.ftp_pair_transfers.specs.Refusals.{HoldsMarked}
 use Rattle.ftp_pair_transfers.proofs.Ahead.{keeps}
 use Rattle.ftp_pair_breaks.specs.Claims.{BreaksAgree, BreaksPartingAgree}
-use Rattle.ftp_pair_breaks.proofs.Simulating.{breaks_are_of_worlds}
+use Rattle.ftp_pair_breaks.proofs.Suffering.{breaks_are_of_worlds}
 
 module _ (b : Beginning) (fair : IsFair b) (begun : List Order) (marks : List (List Mark)) (server : Stand server_side) (client : Stand client_side)
     (reports : List Said) (w : World) (leads : LeadsOn reading_exists.0 begun (world_of b) w) (s : HoldsMarked marks server client reports w)

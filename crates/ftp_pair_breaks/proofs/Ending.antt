@@ -93,8 +93,7 @@ answers_go (asked ∷ before) start now put none =
     let by = put.3 in
     let first = answers_go before start put.0 put.1 none in
     let drive : Went ClientSuffers (deeds_of_drive a.drove) a.begun now = (a.drove.did.sums.led, by.suffers) in
-    let begun : WentShort (Other (Begun asked.0) ∷ deeds_in before start put.0 put.1) start a.begun =
-    (
+    let begun : WentShort (Other (Begun asked.0) ∷ deeds_in before start put.0 put.1) start a.begun = (
       (put.0, first.0, a.begins),
       ((first.1.0, ((by.raised, none_to_close before start put.0 put.1 none), by.calm)), (first.1.1, inr tt)),
     ) in

@@ -3,7 +3,6 @@
 use Rattle.std.proofs.Common.{◌≡◌, ◌⊎◌, inl, inr, ℕ, Bool, true, false, true≢false, List, [], ◌∷◌, ◌++◌, length, None, refl, sym, ap, subst, ◌∙◌}
 use Rattle.ftp_client_model.specs.Calls as near
 use Rattle.ftp_client_model.specs.View.{Job, Transferring, View as Near}
-use Rattle.ftp_client_model.specs.declared.client.Abort.{Abort}
 use Rattle.ftp_client_model.specs.declared.client.Abort.TheVariants as Aborts
 use Rattle.ftp_client_model.specs.declared.client.ClientLink.{ClientLink as NearConnection}
 use Rattle.ftp_client_model.specs.declared.client.ClientLink.TheVariants as NearData
@@ -21,7 +20,7 @@ use Rattle.ftp_server_model.specs.declared.session.Pending.{Pending}
 use Rattle.ftp_server_model.specs.declared.session.Pending.TheVariants as Pendings
 use Rattle.ftp_server_model.specs.declared.session.ServerLink.{ServerLink}
 use Rattle.ftp_server_model.specs.declared.session.ServerLink.TheVariants as Data
-use Rattle.ftp_wire.specs.Decoder.{Decoder, decoder_of, is_whole, no_octets}
+use Rattle.ftp_wire.specs.Decoder.{Decoder, decoder_of, no_octets}
 use Rattle.ftp_endpoint.specs.declared.host.Host.{Host}
 use Rattle.ftp_pair_world.specs.Agreement.{Order, Single}
 use Rattle.ftp_pair_world.specs.Events.{ControlToClient, is_closed_by_near, pushed}
@@ -286,18 +285,18 @@ module _ (read : Reading) (state : State) (ask : Ask) (good : IsAsk ask) (sound 
             record {
               link = ap (λ (u : World). u.link) is ∙ h.link;
               gives = λ few. record {
-              loads = loading few came (replied_of (heard_by begun)) (near_form s.base w of _ _ h.near);
-              last = last;
-              read = came_read came h.came
-                  (few_read came (queue ++ octet ∷ more) h.fine.1 (few_now few came _ (near_form s.base w of _ _ h.near)) h.fine.0.2 h.ready.1 h.fine.0.0);
-              unfinal = begun_unfinal begun;
-              begun = begun;
-              base = s.base.near;
-              held = s.cut.held;
-              near = ap (λ (u : World). u.near) is ∙ ap (λ n. near.hears (calm n) s.cut.held) h.near;
-              row = subst (λ (u : World). FlowsRow (replies_in (Giving begun octet more)) s.cut.held (u.control_to_client ++ u.far.owed)) (sym is) fits;
-              link = ap (λ (u : World). u.link) is ∙ h.link;
-              quiet = ap (λ (u : World). u.control_to_server) is;
+                loads = loading few came (replied_of (heard_by begun)) (near_form s.base w of _ _ h.near);
+                last = last;
+                read = came_read came h.came
+                    (few_read came (queue ++ octet ∷ more) h.fine.1 (few_now few came _ (near_form s.base w of _ _ h.near)) h.fine.0.2 h.ready.1 h.fine.0.0);
+                unfinal = begun_unfinal begun;
+                begun = begun;
+                base = s.base.near;
+                held = s.cut.held;
+                near = ap (λ (u : World). u.near) is ∙ ap (λ n. near.hears (calm n) s.cut.held) h.near;
+                row = subst (λ (u : World). FlowsRow (replies_in (Giving begun octet more)) s.cut.held (u.control_to_client ++ u.far.owed)) (sym is) fits;
+                link = ap (λ (u : World). u.link) is ∙ h.link;
+                quiet = ap (λ (u : World). u.control_to_server) is;
               };
             }
         by_course (Given heard true) came queue h = none _ _ _ h.session refl

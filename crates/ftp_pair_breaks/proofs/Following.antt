@@ -9,7 +9,7 @@ use Rattle.ftp_control.specs.declared.whole.Fate.{Fate}
 use Rattle.ftp_control.specs.declared.whole.Fate.TheVariants as Fates
 use Rattle.ftp_client_drive.specs.Side.{Reporting, Starting, client_side, is_under_way}
 use Rattle.ftp_client_model.specs.Calls as near
-use Rattle.ftp_client_model.specs.Calls.{gives_control, hears, is_busy, is_sound, may_hear, receives, report_of}
+use Rattle.ftp_client_model.specs.Calls.{hears, is_sound, may_hear, receives}
 use Rattle.ftp_client_model.specs.Plan.{count_of}
 use Rattle.ftp_client_model.specs.View.{View as Near}
 use Rattle.ftp_client_model.proofs.RepliesInFlight.{in_pieces}
@@ -148,7 +148,8 @@ module _ (read : Reading) (reads : IsReading read) (moments : ℕ → ℕ) (time
 
       -- it holds the same
       stays : new.owner.end.view ≡ c → new.owner.lane ≡ client.owner.lane → behind next ≡ behind between
-          → new.unheard ++ next.control.to_client ≡ client.unheard ++ between.control.to_client → reported_by deed ≡ [] → P (Then deed client.owner Are) (deed ∷ deeds) next count server new
+          → new.unheard ++ next.control.to_client ≡ client.unheard ++ between.control.to_client → reported_by deed ≡ []
+          → P (Then deed client.owner Are) (deed ∷ deeds) next count server new
       stays view lane same queue reports =
           goes_on n p.queue p.heard (idles lane same reports) p.unsent (view ∙ p.view) (p.split ∙ ap (λ o. p.heard ++ o) (sym queue)) p.late
 

@@ -1,6 +1,6 @@
 -- A client whose download is under way over a link that is open, ABOR sent or not, and which waits for a reply: once it is told of the break of that link it is
 -- the same, but for the link.
-use Rattle.std.proofs.Common.{◌≡◌, ℕ, true, false, List, Option, None, refl, sym, ap, ◌∙◌}
+use Rattle.std.proofs.Common.{◌≡◌, ℕ, true, false, List, Option, None, sym, ap, ◌∙◌}
 use Rattle.std.specs.Prelude.{drop}
 use Rattle.ftp_ends.specs.declared.link.Wants.TheVariants as Want
 use Rattle.ftp_operation.specs.declared.op.Op.{Op}

@@ -21,9 +21,9 @@ abbrev is_none : List Order → Bool
 is_none [] = true
 is_none orders = false
 
-abbrev behind : List Order → List Order
-behind [] = []
-behind (order ∷ orders) = orders
+abbrev others : List Order → List Order
+others [] = []
+others (order ∷ orders) = orders
 
 -- it was begun last, after these
 pub record IsLast (begun : List Order) (op : Op (List ℕ)) : Type 0 where
@@ -43,17 +43,17 @@ same_last [] [] op second moment at is = ap (λ l. counts l) is
     counts : List Order → Option ℕ
     counts (Single op moment ∷ orders) = count_of op
     counts orders = None
-same_last [] (order ∷ other) op second moment at is = absurd (none_after other (ap behind is))
+same_last [] (order ∷ other) op second moment at is = absurd (none_after other (ap others is))
   where
     none_after : (other : List Order) → [] ≡ other ++ Single second at ∷ [] → ⊥
     none_after [] is = true≢false (ap is_none is)
     none_after (order ∷ other) is = true≢false (ap is_none is)
-same_last (order ∷ one) [] op second moment at is = absurd (none_after one (ap behind is))
+same_last (order ∷ one) [] op second moment at is = absurd (none_after one (ap others is))
   where
     none_after : (one : List Order) → one ++ Single op moment ∷ [] ≡ [] → ⊥
     none_after [] is = true≢false (ap is_none (sym is))
     none_after (order ∷ one) is = true≢false (ap is_none (sym is))
-same_last (order ∷ one) (next ∷ other) op second moment at is = same_last one other op second moment at (ap behind is)
+same_last (order ∷ one) (next ∷ other) op second moment at is = same_last one other op second moment at (ap others is)
 
 -- so it is of deeds that say so
 pub deeds_all : (moments : ℕ → ℕ) (deeds : List (Deed client_side)) → AsksAll deeds → LastAll (begun_at moments deeds)

@@ -188,8 +188,8 @@ module _ (op : Op (List ℕ)) where
       cut enough = if enough then content_answer op (settled_of flow) else Some (broken_answer flow)
 
       by : (refusal none broke : Bool) → (answer : Said) ×
-          ((if refusal then (if none then Some Unopened else (if broke then cut (has_settled (count_of op) flow) else Some (Refused code))) else cut (has_settled (count_of op) flow))
-          ≡ Some answer)
+          ((if refusal then (if none then Some Unopened else (if broke then cut (has_settled (count_of op) flow) else Some (Refused code)))
+          else cut (has_settled (count_of op) flow)) ≡ Some answer)
       by false none broke = (broken_answer flow, ap cut few)
       by true true broke = (Unopened, refl)
       by true false true = (broken_answer flow, ap cut few)
@@ -357,7 +357,8 @@ module _ (op : Op (List ℕ)) where
           next = g.next;
           last = g.last;
           stays = g.stays;
-          breaks = λ d few mark. ap (λ before. line_taken (line_heard before text) (lost replied d mark n)) (lost_gathered replied d few mark n) ∙ g.breaks d few mark;
+          breaks = λ d few mark. ap (λ before. line_taken (line_heard before text) (lost replied d mark n)) (lost_gathered replied d few mark n)
+              ∙ g.breaks d few mark;
         })
       ]
   event_turns too_long replied n = inl (λ d few mark. record { told = refl; late = refl })
@@ -425,9 +426,13 @@ module _ (op : Op (List ℕ)) (all : count_of op ≡ None) where
       → near.receives_octet (down op replied d mark n) octet ≡ down op replied (decoded_octet d octet) (last_mark mark (octet_says d octet)) n
   takes_one Replies.Nothing d mark n octet = refl
   takes_one Replies.Begun d mark n octet =
-      ap (λ k. aborting op (has_settled k (Receiving (decoded_octet d octet) (last_mark mark (octet_says d octet)))) Replies.Begun (decoded_octet d octet) (last_mark mark (octet_says d octet)) n) all
+      let next = decoded_octet d octet in
+      let said = last_mark mark (octet_says d octet) in
+      ap (λ enough. aborting op enough Replies.Begun next said n) (all_few op all next said)
   takes_one (Replies.Final code) d mark n octet =
-      ap (λ k. aborting op (has_settled k (Receiving (decoded_octet d octet) (last_mark mark (octet_says d octet)))) (Replies.Final code) (decoded_octet d octet) (last_mark mark (octet_says d octet)) n) all
+      let next = decoded_octet d octet in
+      let said = last_mark mark (octet_says d octet) in
+      ap (λ enough. aborting op enough (Replies.Final code) next said n) (all_few op all next said)
 
   pub takes : (came : List ℕ) (replied : Replied) (d : Decoder) (mark : Option ℕ) (n : View)
       → receives (down op replied d mark n) came ≡ down op replied (decoder_after op d came) (mark_after op d mark came) n
@@ -444,7 +449,8 @@ hears_late op all replied d mark n heard came takes_on =
     elim (hears_turns op heard replied n) [
       | inl stops ↦ absurd (over_takes (hears (downloading op replied d mark n) heard) (stops d few mark) takes_on)
       | inr g ↦ ap (λ v. receives v came) (g.stays d few mark) ∙ takes op all came g.next d mark g.last
-          ∙ sym (g.stays (decoder_after op d came) (all_few op all (decoder_after op d came)) (mark_after op d mark came)) ∙ ap (λ v. hears v heard) (sym (takes op all came replied d mark n))
+          ∙ sym (g.stays (decoder_after op d came) (all_few op all (decoder_after op d came)) (mark_after op d mark came))
+          ∙ ap (λ v. hears v heard) (sym (takes op all came replied d mark n))
     ]
 
 pub breaks_late : BreaksLate

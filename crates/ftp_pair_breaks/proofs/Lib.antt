@@ -13,6 +13,9 @@ pub mod Untold
 pub mod Steps
 pub mod Laden
 pub mod Lagging
+pub mod Aborted
+pub mod Dropping
+pub mod DropsTold
 pub mod BothBroken
 pub mod Unaware
 pub mod Preceding
@@ -20,5 +23,7 @@ pub mod Following
 pub mod BothTold
 pub mod Unbroken
 pub mod Simulating
+pub mod Peeking
+pub mod Suffering
 pub mod Concluding
 pub mod Ending

@@ -106,8 +106,8 @@ module _ (read : Reading) (reads : IsReading read) (moments : ℕ → ℕ) (time
         pushed_gives read reads (state_of b) (begun_at moments deeds) carried x
         (runs read reads moments timed b fair deeds between count server client _ o carried)
         o.together.beside.control o.together.beside.unready 0
-        (sends_far read (begun_at moments deeds) server client (reports_in deeds) x o.serves sends o.last o.ahead between count o.together) world_few world_unsent
-        world_few world_unsent
+        (sends_far read (begun_at moments deeds) server client (reports_in deeds) x o.serves sends o.last o.ahead between count o.together)
+        world_few world_unsent world_few world_unsent
 
     -- the client takes octets
     pub near_at : x.near ≡ v

@@ -1,6 +1,6 @@
 -- A client of a download hears a 150 and the 426 after it, in any pieces: it takes octets still, and owes nothing. So it is of one whose world's server gives,
 -- and of all that such a server says once it is told of a break.
-use Rattle.std.proofs.Common.{◌≡◌, inl, inr, ℕ, Bool, true, false, List, [], ◌∷◌, ◌++◌, Option, None, refl, sym, ap, subst, ◌∙◌, append_assoc, append-nil}
+use Rattle.std.proofs.Common.{◌≡◌, inl, inr, ℕ, Bool, true, false, List, [], ◌∷◌, ◌++◌, Option, refl, sym, ap, subst, ◌∙◌, append_assoc, append-nil}
 use Rattle.ftp_ends.specs.Reply.{Reply, IsWritten, reply_octets}
 use Rattle.ftp_operation.specs.declared.op.Op.{Op}
 use Rattle.ftp_wire.specs.Decoder.{Decoder}

@@ -1,5 +1,6 @@
 -- Two drives of which a download's data connection breaks, as a list of a world's events: deed by deed.
-use Rattle.std.proofs.Common.{◌≡◌, ◌⊎◌, inl, inr, ℕ, true, false, true≢false, List, [], ◌∷◌, ◌++◌, Option, refl, sym, ap, subst, ◌∙◌, append-nil}
+use Rattle.std.specs.Prelude.{⊤}
+use Rattle.std.proofs.Common.{◌≡◌, ◌⊎◌, inl, inr, ℕ, true, false, true≢false, List, [], ◌∷◌, Option, refl, sym, ap, subst, ◌∙◌, append-nil}
 use Rattle.ftp_control.specs.Asking.{Reset}
 use Rattle.ftp_control.specs.Deeds.{Calls, Deed, Done, Led, Other, Stand}
 use Rattle.ftp_control.specs.Lane.{Lane, with_fate}
@@ -13,52 +14,43 @@ use Rattle.ftp_ends.specs.declared.link.Wants.TheVariants as Want
 use Rattle.ftp_operation.specs.declared.op.Op.{Op}
 use Rattle.ftp_server_drive.specs.Side.{server_side}
 use Rattle.ftp_server_model.specs.Calls as far
-use Rattle.ftp_server_model.specs.Calls.{break_step, clock_step}
 use Rattle.ftp_server_model.specs.Machine.{IsReading, Reading}
-use Rattle.ftp_server_model.specs.View.{View as Far}
-use Rattle.ftp_pair_world.specs.Agreement.{Order}
 use Rattle.ftp_pair_world.specs.Claims.{Beginning, IsFair}
 use Rattle.ftp_pair_world.specs.World.{Broken, Mark, World, marked_last}
 use Rattle.ftp_pair_drives.specs.Alone.{ServerIsCalm, begun_by, reports_in}
-use Rattle.ftp_pair_drives.specs.Between.{Between, Can, CanTurn, Client, Far as TheServer, Happened, Has, Has_lost, Near as TheClient, Server, Turn, client_deeds, nothing_yet, server_deeds, with_hold}
-use Rattle.ftp_pair_drives.specs.Claims.{Begins}
-use Rattle.ftp_pair_drives.specs.Touches.{ToldBreak, touch_in}
-use Rattle.ftp_pair_drives.proofs.Taken.{reports_is}
+use Rattle.ftp_pair_drives.specs.Between.{Between, Can, CanTurn, Client, Far as TheServer, Has, Has_lost, Near as TheClient, with_hold}
+use Rattle.ftp_pair_drives.specs.Touches.{ToldBreak}
 use Rattle.ftp_pair_deeds.specs.Deeds.{ArePorts, listened_in}
 use Rattle.ftp_pair_deeds.proofs.FarForms.{no_close}
 use Rattle.ftp_pair_deeds.proofs.Fresh.{Fresh}
 use Rattle.ftp_pair_deeds.proofs.Holding.{both, is_called, is_had}
 use Rattle.ftp_pair_deeds.proofs.Plain.{IsPlainBy, IsPlainly}
 use Rattle.ftp_pair_deeds.proofs.Stands.{ClientFetches}
-use Rattle.ftp_pair_transfers.specs.Deeds.{AreMoments, AreToldAt, IsToldAt, begun_at, last_of, number_in}
+use Rattle.ftp_pair_transfers.specs.Deeds.{AreMoments, IsToldAt, begun_at, last_of, number_in}
 use Rattle.ftp_pair_transfers.specs.Refusals.{ClientTries, marked_by}
 use Rattle.ftp_pair_transfers.proofs.Called.{BreaksNone, StaysFresh}
 use Rattle.ftp_pair_transfers.proofs.ClientGiving.{gave_by}
 use Rattle.ftp_pair_transfers.proofs.ClientRefused.{refused_plain}
 use Rattle.ftp_pair_transfers.proofs.ClientStays.{client_resets}
 use Rattle.ftp_pair_transfers.proofs.Known.{AreCarried, Known, both_carried, is_near_held}
-use Rattle.ftp_pair_transfers.proofs.Lost.{IsSeen, near_done, seen_itself, with_lost}
-use Rattle.ftp_pair_transfers.proofs.Reaching.{earlier, starts_so}
+use Rattle.ftp_pair_transfers.proofs.Lost.{with_lost}
 use Rattle.ftp_pair_transfers.proofs.Simulating.{asks, known, never}
-use Rattle.ftp_pair_breaks.specs.Claims.{AreSame, BreaksAreOfWorlds, IsClientFirst, IsServerFirst, ReportAlike, SufferingIsOfWorld}
 use Rattle.ftp_server_model.specs.declared.session.ServerLink.TheVariants as Data
-use Rattle.ftp_pair_breaks.specs.Deeds.{AreAfter, AreMarks, AreShort, AsksAll, ClientSuffers, HasTaken, IsToldAfter, IsToldShort, Marks, ServerYields, SuffersAlong, YieldsAlong}
-use Rattle.ftp_pair_breaks.proofs.BothBroken.{broke, broke_step}
+use Rattle.ftp_pair_breaks.specs.Deeds.{AsksAll, ClientSuffers, HasTaken, IsShort, IsToldAfter, Marks, ServerYields, SuffersAlong}
 use Rattle.ftp_pair_breaks.proofs.BothTold.{told_after, told_first, told_last}
 use Rattle.ftp_pair_breaks.proofs.ClientBroken.{broken_closing, broken_lane, broken_plain, broken_sound, client_broken, closing_by, closing_plain, closing_sound}
-use Rattle.ftp_pair_breaks.proofs.Drained.{BreaksNot, IsLone, dried, dried_none, dried_step, dried_told}
+use Rattle.ftp_pair_breaks.proofs.Drained.{BreaksNot, IsLone, dried, dried_step, dried_told}
 use Rattle.ftp_pair_breaks.proofs.Faults.{Loads, faulted_plain, loads_taken}
 use Rattle.ftp_pair_breaks.proofs.Feeding.{Feeding, is_final}
 use Rattle.ftp_pair_breaks.proofs.Following.{follows}
 use Rattle.ftp_pair_breaks.proofs.Lagging.{Lags, Leftover, OfMarks, Then, Whole, beside, feeding_few, feeds, is_failed, lag_step, leaves, unbroken}
 use Rattle.ftp_pair_breaks.proofs.Last.{AreFew, deeds_all, last_few, short_few}
-use Rattle.ftp_pair_breaks.proofs.Preceding.{Precedes, behind, gives_now, opened_at, asks_none, precede_server, steady_here, steady_now, unaware}
-use Rattle.ftp_pair_breaks.proofs.Steps.{Again, At, again, client_step, idle_again, server_step, told_late}
-use Rattle.ftp_pair_breaks.proofs.Unaware.{steady_alike}
-use Rattle.ftp_pair_breaks.proofs.Seen.{IsTold, Sees, dropped, far_sees, sees_fresh}
+use Rattle.ftp_pair_breaks.proofs.Preceding.{Precedes, opened_at, asks_none, precede_server}
+use Rattle.ftp_pair_breaks.proofs.Steps.{Again, again, client_step, idle_again, server_step, told_late}
+use Rattle.ftp_pair_breaks.proofs.Seen.{IsTold, Sees, dropped, sees_fresh}
 use Rattle.ftp_pair_breaks.proofs.Unbroken.{sees_unbroken}
 use Rattle.ftp_pair_breaks.proofs.Unsent.{Unsent, near_unsent, reset_fresh}
-use Rattle.ftp_pair_breaks.proofs.Untold.{Loading, fault_told, loading_of, loads_of, told_alike}
+use Rattle.ftp_pair_breaks.proofs.Untold.{Loading, fault_told, loading_of, loads_of}
 
 -- ---- what was begun
 
@@ -68,22 +60,27 @@ by_carried moment (Other (Aside (Starting op))) old new is = (is.0.0.0, tt)
 by_carried moment deed old new is = tt
 
 -- so all deeds do
-in_carried : (moments : ℕ → ℕ) (deeds : List (Deed client_side)) (start now : Stand client_side) (led : Led deeds start now)
+pub in_carried : (moments : ℕ → ℕ) (deeds : List (Deed client_side)) (start now : Stand client_side) (led : Led deeds start now)
     → SuffersAlong deeds start now led → AreCarried (begun_at moments deeds)
 in_carried moments [] start now led gives = tt
 in_carried moments (deed ∷ before) start now led gives =
     both_carried (begun_at moments before) (begun_by (moments (number_in before)) deed) (in_carried moments before start led.0 led.1 gives.0)
     (by_carried (moments (number_in before)) deed led.0.owner now.owner gives.1)
 
+-- a client is told of a break before it sent ABOR, or as it is to close
+abbrev pub IsShortStill : Deed client_side → client_side.End → Type 0
+IsShortStill (Other Break) at = IsShort at.end.view.job ⊎ (at.end.view.closing ≡ true)
+IsShortStill deed at = ⊤
+
 -- what a client, and a server, of a Peek is told
 abbrev pub ToldShort : Deed client_side → List (Deed client_side) → client_side.End → Type 0
-ToldShort deed deeds at = AsksAll deeds ⊎ IsToldShort deed at
+ToldShort deed deeds at = AsksAll deeds ⊎ IsShortStill deed at
 
 abbrev pub ToldAfter : Deed server_side → List (Deed client_side) → Between → server_side.End → Type 0
 ToldAfter deed deeds between at = AsksAll deeds ⊎ IsToldAfter deed between at
 
 -- as a world sees what lies between
-seen_after : (deed : Deed server_side) (deeds : List (Deed client_side)) (at : server_side.End) (between seen : Between) → seen.near ≡ between.near
+pub seen_after : (deed : Deed server_side) (deeds : List (Deed client_side)) (at : server_side.End) (between seen : Between) → seen.near ≡ between.near
     → ToldAfter deed deeds between at → ToldAfter deed deeds seen at
 seen_after deed deeds at between seen same (inl asks) = inl asks
 seen_after (Other Break) deeds at between seen same (inr (inl lost)) = inr (inl (same ∙ lost))
@@ -120,8 +117,8 @@ module _ (read : Reading) (reads : IsReading read) (moments : ℕ → ℕ) (time
 
   -- ---- a deed of the client, where a world is beside both
 
-  module _ {Are : OfMarks} (deeds : List (Deed client_side)) (carried : AreCarried (begun_at moments deeds)) (p q : Between) (count : ℕ) (server : Stand server_side)
-      (old new : Stand client_side) (o : W Are deeds p count server old) where
+  module _ {Are : OfMarks} (deeds : List (Deed client_side)) (carried : AreCarried (begun_at moments deeds)) (p q : Between) (count : ℕ)
+      (server : Stand server_side) (old new : Stand client_side) (o : W Are deeds p count server old) where
     abbrev w : World
     w = o.at.world
 
@@ -152,7 +149,7 @@ module _ (read : Reading) (reads : IsReading read) (moments : ℕ → ℕ) (time
         endpoint o.at.last o.at.ahead p count refused Unsent) did
 
     -- it resets what it has
-    resets_on : (left written : Option (List ℕ)) → ClientSuffers (Other (Left (Reset left written))) old.owner new.owner
+    pub resets_on : (left written : Option (List ℕ)) → ClientSuffers (Other (Left (Reset left written))) old.owner new.owner
         → CanTurn (Client (Other (Left (Reset left written)))) p q
         → Done (Other (Left (Reset left written))) old new → W (Then (Other (Left (Reset left written))) old.owner Are)
         (Other (Left (Reset left written)) ∷ deeds) q count server new
@@ -263,7 +260,8 @@ module _ (read : Reading) (reads : IsReading read) (moments : ℕ → ℕ) (time
         ]
       ]
         where
-          by : near.wants v ≡ Want.Receive → (w.near ≡ v) × Feeding (begun_at moments deeds) w → Lone (Then (Other Break) old.owner Are) (Other Break ∷ deeds) q count server new
+          by : near.wants v ≡ Want.Receive → (w.near ≡ v) × Feeding (begun_at moments deeds) w
+              → Lone (Then (Other Break) old.owner Are) (Other Break ∷ deeds) q count server new
           by wants f =
               let there = subst Loads f.0 f.1.loads in
               let taken : HasTaken v.job w.came = subst (λ (n : Near). HasTaken n.job w.came) f.0 (loads_taken w.near f.1.loads w.came f.1.read) in
@@ -274,7 +272,8 @@ module _ (read : Reading) (reads : IsReading read) (moments : ℕ → ℕ) (time
                     inr (breaks_early (loading_of v loads.0 loads.1))
               ]
 
-          on_few : near.wants v ≡ Want.Receive → AreFew (begun_at moments deeds) v.job → Lone (Then (Other Break) old.owner Are) (Other Break ∷ deeds) q count server new
+          on_few : near.wants v ≡ Want.Receive → AreFew (begun_at moments deeds) v.job
+              → Lone (Then (Other Break) old.owner Are) (Other Break ∷ deeds) q count server new
           on_few wants few = by wants (feeding_few read reads moments timed b fair deeds carried p count server old o.at few o.unsent wants)
 
     -- as where none breaks
@@ -286,7 +285,7 @@ module _ (read : Reading) (reads : IsReading read) (moments : ℕ → ℕ) (time
         (client_step read reads moments timed b fair deed unbroken old new tries deeds carried p q can count server o.at did)
         (stays_unsent deed unbroken is did)
 
-    whole_step : (deed : Deed client_side) → ToldShort deed deeds old.owner → ClientSuffers deed old.owner new.owner → CanTurn (Client deed) p q
+    pub whole_step : (deed : Deed client_side) → ToldShort deed deeds old.owner → ClientSuffers deed old.owner new.owner → CanTurn (Client deed) p q
         → Done deed old new → Lone (Then deed old.owner Are) (deed ∷ deeds) q count server new
     whole_step (Other (Left (Reset left written))) short is can did = inl (resets_on left written is can did)
     whole_step (Other Break) short is can did = breaks_on is can did short
@@ -366,7 +365,8 @@ module _ (read : Reading) (reads : IsReading read) (moments : ℕ → ℕ) (time
       let there = sees_unbroken deed old is p q l.hold can in
       let got = server_step read reads moments timed b fair deed old new is calm deeds carried before ports (unbroken p)
       (unbroken q) there.0 (beside l.was client) l.at did told in
-      lags_still deeds carried p q (listened_in before) (listened_in (deed ∷ before)) old new client l got there.1 (sees_fresh deed old is p q client l.fresh can)
+      lags_still deeds carried p q (listened_in before) (listened_in (deed ∷ before)) old new client l got there.1
+      (sees_fresh deed old is p q client l.fresh can)
 
   -- one that is told of the break of what is to close
   lone_late : {Are : OfMarks} (deeds : List (Deed client_side)) → AreCarried (begun_at moments deeds) → (before : List (Deed server_side)) (p : Between)
@@ -462,149 +462,3 @@ module _ (read : Reading) (reads : IsReading read) (moments : ℕ → ℕ) (time
   spare_now {Are} deeds between count server client (inl (inl o)) = o.at.together.serves.spare
   spare_now {Are} deeds between count server client (inl (inr l)) = l.at.together.serves.spare
   spare_now {Are} deeds between count server client (inr p) = λ e. p.none
-
-  -- so it is as a world sees what lies between
-  record Stood (Are : OfMarks) (deeds : List (Deed client_side)) (between : Between) (count : ℕ) (server : Stand server_side)
-      (client : Stand client_side) : Type 0 where
-    seen : Between
-    is_seen : IsSeen between seen
-    suffered : Suffered Are deeds seen count server client
-
-  -- deed by deed
-  reaches : (turns : List Turn) (between : Between) (happened : Happened turns between)
-      → (server_start server : Stand server_side) (client_start client : Stand client_side) → Begins b server_start client_start
-      → server_start.owner.lane.untold ≡ [] → client_start.owner.lane.unwritten ≡ []
-      → server_start.owner.lane.unwritten ≡ [] → client_start.owner.lane.untold ≡ []
-      → (server_led : Led (server_deeds turns) server_start server) (client_led : Led (client_deeds turns) client_start client)
-      → YieldsAlong (server_deeds turns) server_start server server_led → SuffersAlong (client_deeds turns) client_start client client_led
-      → ArePorts (server_deeds turns) → AreToldAt moments turns server_start server server_led
-      → AreShort (client_deeds turns) client_start client client_led → AreAfter turns between happened server_start server server_led
-      → Stood (AreMarks (client_deeds turns) client_start client client_led) (client_deeds turns) between (listened_in (server_deeds turns)) server client
-  reaches [] between happened server_start server client_start client begins untold unwritten far_unwritten near_untold server_led client_led takes gives
-      ports told short after =
-      let start = starts_so read reads moments timed b fair server_start client_start begins untold unwritten far_unwritten near_untold in
-      subst (λ (m : Between). Stood (λ marks. marks ≡ []) [] m 0 server client) (sym happened)
-      (subst (λ (s : Stand server_side). Stood (λ marks. marks ≡ []) [] nothing_yet 0 s client) (sym server_led)
-      (subst (λ (c : Stand client_side). Stood (λ marks. marks ≡ []) [] nothing_yet 0 server_start c) (sym client_led) (record {
-        seen = nothing_yet;
-        is_seen = seen_itself nothing_yet;
-        suffered = inl (subst (λ (s : Stand server_side). Lone (λ marks. marks ≡ []) [] nothing_yet 0 s client_start)
-            (sym (dried_none server_start far_unwritten)) (inl (record {
-              at = start.0;
-              marks = [];
-              are_marks = refl;
-              marked = start.1;
-              unsent = subst (IsPlainBy Unsent) (sym begins.client_view) (record { job = tt; port = refl; run = refl });
-            })));
-      })))
-  reaches (Server deed ∷ before) between happened server_start server client_start client begins untold unwritten far_unwritten near_untold server_led
-      client_led takes gives ports told short after =
-      let reached = reaches before happened.0 happened.1 server_start server_led.0 client_start client begins untold unwritten far_unwritten near_untold
-      server_led.1 client_led takes.0 gives (earlier deed (server_deeds before) ports) told.0 short after.0 in
-      let there = far_sees server_led.0 server happened.0 between reached.seen reached.is_seen
-      (spare_now (client_deeds before) reached.seen (listened_in (server_deeds before)) server_led.0 client reached.suffered) deed takes.1 happened.2 in
-      record {
-        seen = there.0;
-        is_seen = there.2;
-        suffered = server_turn deed (client_deeds before) (in_carried moments (client_deeds before) client_start client client_led gives)
-            (server_deeds before) ports reached.seen there.0 server_led.0 server client reached.suffered
-            (seen_after deed (client_deeds before) server_led.0.owner happened.0 reached.seen reached.is_seen.near after.1)
-            takes.1 there.1 server_led.2 told.1;
-      }
-  reaches (Client deed ∷ before) between happened server_start server client_start client begins untold unwritten far_unwritten near_untold server_led
-      client_led takes gives ports told short after =
-      let reached = reaches before happened.0 happened.1 server_start server client_start client_led.0 begins untold unwritten far_unwritten near_untold
-      server_led client_led.1 takes gives.0 ports told short.0 after in
-      let there = near_done happened.0 between reached.seen reached.is_seen (touch_in deed) happened.2 in
-      record {
-        seen = there.after;
-        is_seen = there.is_seen;
-        suffered = client_turn deed (client_deeds before) (in_carried moments (client_deeds before) client_start client_led.0 client_led.1 gives.0)
-            (server_deeds before) ports reached.seen there.after server client_led.0 client reached.suffered short.1 gives.1 there.can client_led.2;
-      }
-
--- events of a world lead to what both drives hold, or held before one of them was told
-pub breaks_are_of_worlds : BreaksAreOfWorlds
-breaks_are_of_worlds read reads b fair moments timed turns between server client did =
-    let stood = reaches read reads moments timed b fair turns between did.happened did.server_start server did.client_start client did.begins did.untold
-    did.unwritten did.server_unwritten did.client_untold did.server_led did.client_led did.takes did.suffers did.ports did.told did.short did.after in
-    by stood.seen stood.suffered
-  where
-    -- those of the deeds
-    are_marks : List (List Mark) → Type 0
-    are_marks marks = AreMarks (client_deeds turns) did.client_start client did.client_led marks
-
-    of_world : (were : Stand server_side) (was : Stand client_side) (m : Between)
-        → AreSame server were client was ⊎ (IsClientFirst server were client was ⊎ IsServerFirst server were client was)
-        → ReportAlike client.owner.end.view was.owner.end.view
-        → server.owner.end.server.view.session.table ≡ were.owner.end.server.view.session.table
-        → (o : At read reads moments timed b fair (client_deeds turns) m (listened_in (server_deeds turns)) were was) (marks : List (List Mark))
-        → are_marks marks → o.world.marks ≡ marks → SufferingIsOfWorld read b moments turns between server client did
-    of_world were was m is alike table o marks are marked =
-        let s = o.together.beside in
-        record {
-          events = o.leads.events;
-          timed = o.leads.timed;
-          world = o.world;
-          leads = o.leads.leads;
-          marks = marks;
-          are_marks = are;
-          were = were;
-          was = was;
-          is = is;
-          alike = alike;
-          table = table;
-          both = record {
-            moment = o.last;
-            ahead = o.ahead;
-            fits = s.fits;
-            near = inl (s.near ∙ ap near.data_closed (sym (reports_is was.owner.end.view)));
-            far = s.far;
-            reported = s.reported;
-            control = s.control;
-            marked = marked;
-            cutoff = s.cutoff;
-          };
-          near = s.near ∙ ap near.data_closed (sym (reports_is was.owner.end.view));
-        }
-
-    -- what was begun can be carried
-    carried : AreCarried (begun_at moments (client_deeds turns))
-    carried = in_carried moments (client_deeds turns) did.client_start client did.client_led did.suffers
-
-    -- the server was told first
-    first : (m : Between) → Precedes read reads moments timed b fair are_marks (client_deeds turns) m (listened_in (server_deeds turns)) server client
-        → SufferingIsOfWorld read b moments turns between server client did
-    first m p =
-        let were : Far = p.were.owner.end.server.view in
-        let broken : break_step (clock_step p.moment were) ≡ clock_step p.moment (broke were) = broke_step p.were p.at.serves p.sends p.moment in
-        let loads = (gives_now read reads moments timed b fair (client_deeds turns) carried m (listened_in (server_deeds turns)) server client p).loads in
-        of_world p.were (unaware p.refusals p.near p.queue client.owner.lane) (behind m)
-        (inr (inr (record {
-          moment = p.moment;
-          said = p.said;
-          left = p.left;
-          far = p.far_is ∙ ap (λ (f : Far). record f { owed = p.left }) (sym broken);
-          whole = ap (λ (f : Far). f.owed) broken ∙ p.whole;
-          heard = p.heard;
-          more = (heard_front p.queue p.said p.heard (client.unheard ++ m.control.to_client) p.split p.late).0;
-          front = (heard_front p.queue p.said p.heard (client.unheard ++ m.control.to_client) p.split p.late).1;
-          near = p.view;
-        })))
-        (steady_alike loads.op loads.decoder loads.mark client.owner.end.view p.near
-        (steady_now read reads moments timed b fair (client_deeds turns) carried m (listened_in (server_deeds turns)) server client p)
-        (steady_here read reads moments timed b fair (client_deeds turns) carried m (listened_in (server_deeds turns)) server client p))
-        (ap (λ (f : Far). f.session.table) p.far_is) p.at p.marks p.are_marks p.marked
-      where
-        heard_front : (queue said heard rest : List ℕ) → queue ++ said ≡ heard ++ rest → (heard ≡ []) ⊎ (queue ≡ [])
-            → (more : List ℕ) × (said ≡ heard ++ more)
-        heard_front queue said heard rest split (inl none) = (said, ap (λ o. o ++ said) (sym none))
-        heard_front queue said heard rest split (inr empty) = (rest, ap (λ o. o ++ said) (sym empty) ∙ split)
-
-    by : (m : Between) → Suffered read reads moments timed b fair are_marks (client_deeds turns) m (listened_in (server_deeds turns)) server client
-        → SufferingIsOfWorld read b moments turns between server client did
-    by m (inl (inl o)) = of_world (dried server) client m (inl (refl, refl)) (refl, refl) refl o.at o.marks o.are_marks o.marked
-    by m (inl (inr l)) =
-        of_world (dried server) (beside l.was client) (unbroken m) (inr (inl (refl, l.view ∙ sym (fault_told l.was.end.view l.loads))))
-        (subst (λ (v : Near). ReportAlike v l.was.end.view) (sym l.view) (told_alike l.was.end.view l.loads)) refl l.at l.marks l.are_marks l.marked
-    by m (inr p) = first m p

@@ -38,7 +38,7 @@ use Rattle.ftp_pair_transfers.proofs.Called.{BreaksNone, StaysFresh, transferred
 use Rattle.ftp_pair_transfers.proofs.Known.{AreCarried}
 use Rattle.ftp_wire.specs.Decoder.{decoder_of}
 use Rattle.ftp_pair_breaks.specs.Deeds.{AsksAll, ClientSuffers, IsPeeking, IsSuffering}
-use Rattle.ftp_pair_breaks.proofs.Last.{FewOf, IsLast, LastAll}
+use Rattle.ftp_pair_breaks.proofs.Last.{FewOf, LastAll}
 
 -- ---- deeds
 
@@ -142,7 +142,7 @@ received_unsent (octet ∷ octets) n p = received_unsent octets (receives_octet 
         record { job = (plain, unsent_kept.aborts n.connection op transfer plain unsent is); port = p.port; run = p.run }
     by_abort op transfer plain unsent false is = record { job = (plain, unsent); port = p.port; run = p.run }
 
-    -- behind ABOR none is added
+    -- after ABOR none is added
     heard : (op : Op (List ℕ)) (abort : Abort) (flow : Flow) → (has_enough op flow ≡ false → abort ≡ Aborts.Unsent)
         → has_enough op (heard_flow abort flow octet) ≡ false → abort ≡ Aborts.Unsent
     heard op Aborts.Unsent flow unsent few = refl

@@ -9,6 +9,7 @@ use Rattle.ftp_pair_drives.specs.Alone.{reports_in}
 use Rattle.ftp_pair_drives.specs.Between.{Between, Happened, Turn, client_deeds, server_deeds}
 use Rattle.ftp_pair_drives.specs.Claims.{Begins}
 use Rattle.ftp_pair_deeds.specs.Deeds.{ArePorts}
+use Rattle.ftp_pair_transfers.specs.Claims.{IsToldEnd}
 use Rattle.ftp_pair_transfers.specs.Deeds.{AreMoments, AreToldAt, begun_at}
 use Rattle.ftp_pair_transfers.specs.Refusals.{HoldsMarked}
 use Rattle.ftp_pair_world.specs.Agreement.{Agrees, Leads}
@@ -64,6 +65,10 @@ pub record IsServerFirst (server were : Stand server_side) (client was : Stand c
   pub front : said ≡ heard ++ more
   pub near : client.owner.end.view ≡ hears was.owner.end.view heard
 
+-- the client of a Peek that sent ABOR was told that its link broke, and a world's that it ended: that is all the same to its answer
+abbrev pub IsEndThere : (server were : Stand server_side) (client was : Stand client_side) → Type 0
+IsEndThere server were client was = (were.owner.end ≡ server.owner.end) × IsToldEnd was.owner.end.view client.owner.end.view
+
 -- Events of a world lead from the beginning to one that holds what the server holds and what the client holds, or what both held before one of them was told of
 -- a break that a world tells later: once the server has let the data connection go, or the other was told, too. It has marks of these deeds; they began the
 -- same operations at these moments.
@@ -77,7 +82,8 @@ pub record SufferingIsOfWorld (read : Reading) (b : Beginning) (moments : ℕ �
   pub are_marks : AreMarks (client_deeds turns) did.client_start client did.client_led marks
   pub were : Stand server_side
   pub was : Stand client_side
-  pub is : AreSame server were client was ⊎ (IsClientFirst server were client was ⊎ IsServerFirst server were client was)
+  pub is : AreSame server were client was
+      ⊎ (IsClientFirst server were client was ⊎ (IsServerFirst server were client was ⊎ IsEndThere server were client was))
   pub alike : ReportAlike client.owner.end.view was.owner.end.view
   pub table : server.owner.end.server.view.session.table ≡ were.owner.end.server.view.session.table
   pub both : HoldsMarked marks were was (reports_in (client_deeds turns)) world

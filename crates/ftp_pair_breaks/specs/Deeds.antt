@@ -11,8 +11,11 @@ use Rattle.ftp_client_model.specs.Failing.{Client}
 use Rattle.ftp_client_model.specs.Octets.{has_enough}
 use Rattle.ftp_client_model.specs.Plan.{count_of}
 use Rattle.ftp_client_model.specs.View.{Flow, Job, Receiving, Sending, Transferring}
+use Rattle.ftp_client_model.specs.declared.client.Abort.{Abort}
+use Rattle.ftp_client_model.specs.declared.client.Abort.TheVariants as Aborts
 use Rattle.ftp_ends.specs.declared.link.Wants.TheVariants as Want
 use Rattle.ftp_mode.specs.Reading.{Place, going}
+use Rattle.ftp_pair_data.specs.Unaborted.{is_unaborted}
 use Rattle.ftp_pair_deeds.specs.Deeds.{Along}
 use Rattle.ftp_pair_drives.specs.Alone.{ClientIsCalm, ServerIsCalm}
 use Rattle.ftp_pair_drives.specs.Between.{Between, Client as ByClient, Happened, Has_lost, Server as ByServer, Turn, client_deeds, server_deeds}
@@ -76,9 +79,9 @@ abbrev pub IsShort : Job → Type 0
 IsShort (Transferring op transfer) = has_enough op transfer.flow ≡ false
 IsShort job = ⊤
 
--- the client of a Peek is told of a break only where less came than was asked for, or where it is to close
+-- the client of a Peek is told of a break only where less came than was asked for, or after it sent ABOR, or where it is to close
 abbrev pub IsToldShort : Deed client_side → Held Client → Type 0
-IsToldShort (Other Break) at = IsShort at.end.view.job ⊎ (at.end.view.closing ≡ true)
+IsToldShort (Other Break) at = IsShort at.end.view.job ⊎ ((at.end.view.closing ≡ true) ⊎ (is_unaborted at.end.view.job ≡ false))
 IsToldShort deed at = ⊤
 
 -- so it is of each deed of which a Peek was begun last
@@ -91,6 +94,7 @@ abbrev pub IsToldAfter : Deed server_side → Between → Held Timed → Type 0
 IsToldAfter (Other Break) between at = (between.near ≡ Has_lost) ⊎ (at.end.server.view.session.closing ≡ true)
 IsToldAfter deed between at = ⊤
 
+-- so it is of each turn of which a Peek was begun last
 abbrev pub AreAfter : (turns : List Turn) (between : Between) → Happened turns between → (start now : Stand server_side) → Led (server_deeds turns) start now
     → Type 0
 AreAfter [] between happened start now led = ⊤
@@ -109,9 +113,14 @@ abbrev pub HasBrought : Flow → ℕ → Type 0
 HasBrought (Receiving decoder mark) came = HasRead decoder came
 HasBrought (Sending left mark) came = ⊥
 
--- so many octets were taken of the download that is under way
+-- so many were taken of it; after ABOR, where those that come are dropped, how many is left open
+abbrev pub TakenBy : Abort → Flow → ℕ → Type 0
+TakenBy Aborts.Unsent flow came = HasBrought flow came
+TakenBy abort flow came = ⊤
+
+-- of the download that is under way
 abbrev pub HasTaken : Job → ℕ → Type 0
-HasTaken (Transferring op transfer) came = HasBrought transfer.flow came
+HasTaken (Transferring op transfer) came = TakenBy transfer.abort transfer.flow came
 HasTaken job came = ⊥
 
 -- a break may mark the operation that was begun last: it broke after as many octets as the client had taken of it as it was told

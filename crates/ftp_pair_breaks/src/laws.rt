@@ -11,7 +11,8 @@ pub fn downloads_break_late()
 {}
 
 /// One server's drive and drives of one client, of which downloads and listings break, for the client while it takes octets, for the server while it gives or
-/// after it gave all, or for both, in either order, leave what a list of the world's events leads to from the beginning, with marks of these breaks.
+/// after it gave all, or for both, in either order, and Peeks for the client first, leave what a list of the world's events leads to from the beginning, with
+/// marks of these breaks.
 pub fn breaks_are_of_worlds()
     ensures { BreaksAreOfWorlds }
 {}

@@ -274,12 +274,14 @@ module _ (read : Reading) (reads : IsReading read) (moments : ℕ → ℕ) (time
     leave_step (Heard octets) is can did =
         let none : no_lane None ≡ seen (near.wants v) (no_lane None) = seen_none (near.wants v) not_sends in
         inl (on (Heard octets)
-        (steps_on read reads moments timed b fair deeds carried (lost p) (lost q) count server (gone old) (gone new) o (Heard octets) tt (tt, is.1) (tt, is.1) refl
+        (steps_on read reads moments timed b fair deeds carried (lost p) (lost q) count server (gone old) (gone new) o (Heard octets) tt (tt, is.1)
+        (tt, is.1) refl
         (ap lost can) (record { hears = (did.hears.0, none, did.hears.2); next = did.next; left = did.left; written = did.written }))
         (ap (λ (x : Lane). x.stands) did.hears.1) (ap (λ (m : Between). is_left m.far) can ∙ l.far))
     leave_step (Says octets) is can did =
         inl (on (Says octets)
-        (steps_on read reads moments timed b fair deeds carried (lost p) (lost q) count server (gone old) (gone new) o (Says octets) tt (tt, is.1) (tt, is.1) refl
+        (steps_on read reads moments timed b fair deeds carried (lost p) (lost q) count server (gone old) (gone new) o (Says octets) tt (tt, is.1)
+        (tt, is.1) refl
         (ap lost can) (record {
           gives = record { count = did.gives.count; owed = did.gives.owed; gave = did.gives.gave; lane = refl };
           wrote = did.wrote;
@@ -288,7 +290,8 @@ module _ (read : Reading) (reads : IsReading read) (moments : ℕ → ℕ) (time
         })) (ap (λ (x : Lane). x.stands) did.gives.lane) (ap (λ (m : Between). is_left m.far) can ∙ l.far))
     leave_step (Read octets) is can did =
         inl (on (Read octets)
-        (steps_on read reads moments timed b fair deeds carried (lost p) (lost q) count server (gone old) (gone new) o (Read octets) tt (tt, is.1) (tt, is.1) refl
+        (steps_on read reads moments timed b fair deeds carried (lost p) (lost q) count server (gone old) (gone new) o (Read octets) tt (tt, is.1)
+        (tt, is.1) refl
         (can.0, ap lost can.1) (record {
           due = did.due;
           owner = ap gone_held did.owner;
