@@ -4,12 +4,13 @@ use Rattle.std.specs.Prelude.{⊤, if◌then◌else◌}
 use Rattle.ftp_client_drive.specs.Side.{Reporting, client_machine, client_side}
 use Rattle.ftp_client_model.specs.Calls as near
 use Rattle.ftp_client_model.specs.Dialogue.{sends_abort}
+use Rattle.ftp_client_model.specs.Failing.{Client}
 use Rattle.ftp_client_model.specs.Octets.{flow_octet, has_settled}
 use Rattle.ftp_client_model.specs.Plan.{count_of}
 use Rattle.ftp_client_model.specs.View.{Doing, Flow, Idle, Job, Receiving, Sending, Told, Transfer, Transferring, View as Near, Waiting}
 use Rattle.ftp_client_model.specs.declared.client.Abort.TheVariants as Aborts
 use Rattle.ftp_control.specs.Deeds.{Deed, Done, Heard, Led, Other, Read, Said as Says, Stand}
-use Rattle.ftp_control.specs.Machine.{Aside, Failed, Got, Received, Waited, Wrote}
+use Rattle.ftp_control.specs.Machine.{Aside, Failed, Got, Held, Received, Waited, Wrote}
 use Rattle.ftp_ends.specs.Ear.{ear_step}
 use Rattle.ftp_ends.proofs.EventLemmas.{out_one}
 use Rattle.ftp_mode.specs.Said.{Said, marker, says}
@@ -32,7 +33,7 @@ use Rattle.ftp_server_model.specs.declared.session.Transfer.TheVariants as Trans
 use Rattle.ftp_server_model.proofs.LinesDecided.{reading_exists}
 use Rattle.ftp_wire.specs.Decoder.{Decoder, fault_of, octet_says, read_on, with_sign}
 use Rattle.ftp_wire.proofs.DecoderLemmas.{decodes}
-use Rattle.ftp_pair_breaks.specs.Deeds.{HasBrought, HasTaken}
+use Rattle.ftp_pair_breaks.specs.Deeds.{HasRead, HasTaken}
 use Rattle.ftp_pair_breaks.specs.Late.{downloading}
 use Rattle.ftp_pair_breaks.proofs.Counting.{IsAt, step_reads}
 use Rattle.ftp_pair_breaks.proofs.Late.{Turns, all_few, down, hears_turns, is_told}
@@ -430,29 +431,18 @@ module _ (start : Stand client_side) (n : ℕ) (loading : IsLoading start.owner)
         subst (JobAt now.owner.end.view.job) sum (step_job led.0 now (n + length told) deed loads.1 there.0 led.2 there.1),
       )
 
-taken_at : (job : Job) (n : ℕ) → HasTaken job (counted n) → JobAt job n
-taken_at (Transferring op transfer) n has = by transfer.flow has
-  where
-    by : (flow : Flow) → HasBrought flow (counted n) → FlowAt flow n
-    by (Receiving d mark) has = subst (λ r. IsAt r n) (sym has.1) refl
-    by (Sending left mark) has = tt
-taken_at Idle n has = tt
-taken_at (Told answer) n has = tt
-taken_at (Waiting op) n has = tt
-taken_at (Doing op step) n has = tt
+-- what a client of a download had taken, by its decoder
+taken_at : (at : Held Client) (l : IsLoading at) (n : ℕ) → HasTaken at.end.view.job (counted n) → JobAt at.end.view.job n
+taken_at at l n has =
+    let here : HasRead l.3 (counted n) = subst (λ (v : Near). HasTaken v.job (counted n)) l.5 has in
+    subst (λ (v : Near). JobAt v.job n) (sym l.5) (subst (λ r. IsAt r n) (sym here.1) refl)
 
-at_taken : (job : Job) (n after : ℕ) → JobAt job n → HasTaken job after → after ≡ counted n
-at_taken (Transferring op transfer) n after at has = by transfer.flow at has
-  where
-    by : (flow : Flow) → FlowAt flow n → HasBrought flow after → after ≡ counted n
-    by (Receiving d mark) at has = subst (λ r. IsAt r n) has.1 at
-    by (Sending left mark) at has = absurd has
-at_taken Idle n after at has = absurd has
-at_taken (Told answer) n after at has = absurd has
-at_taken (Waiting op) n after at has = absurd has
-at_taken (Doing op step) n after at has = absurd has
+at_taken : (at : Held Client) (l : IsLoading at) (n after : ℕ) → JobAt at.end.view.job n → HasTaken at.end.view.job after → after ≡ counted n
+at_taken at l n after is has =
+    let here : HasRead l.3 after = subst (λ (v : Near). HasTaken v.job after) l.5 has in
+    subst (λ r. IsAt r n) here.1 (subst (λ (v : Near). JobAt v.job n) l.5 is)
 
 pub downloads_are_counted : DownloadsAreCounted
 downloads_are_counted deeds start now led loading loads before after had has =
-    let there = all_job start before loading (taken_at start.owner.end.view.job before had) deeds now led loads in
-    at_taken now.owner.end.view.job (before + length (told_in {machine = client_machine} deeds)) after there.1 has
+    let there = all_job start before loading (taken_at start.owner loading before had) deeds now led loads in
+    at_taken now.owner there.0 (before + length (told_in {machine = client_machine} deeds)) after there.1 has
