@@ -117,7 +117,6 @@ module _ (read : Reading) (reads : IsReading read) (moments : ℕ → ℕ) (time
       moment = t.moment;
       at_moment = t.at_moment ∙ ap (last_of moments) (sym number);
       were_untold = t.were_untold;
-      were_written = t.were_written;
       running = t.running;
       none_waits = t.none_waits;
       unshut = t.unshut;

@@ -148,7 +148,6 @@ module _ (read : Reading) (reads : IsReading read) (moments : ℕ → ℕ) (time
     pub moment : ℕ
     pub at_moment : moment ≡ last_of moments (number_in deeds)
     pub were_untold : lane.untold ≡ []
-    pub were_written : lane.unwritten ≡ []
     pub running : were.session.life ≡ Lives.Running
     pub none_waits : were.waiting ≡ None
     pub unshut : were.session.closing ≡ false
@@ -308,7 +307,6 @@ module _ (read : Reading) (reads : IsReading read) (moments : ℕ → ℕ) (time
           moment = t.moment;
           at_moment = t.at_moment;
           were_untold = t.were_untold;
-          were_written = t.were_written;
           running = t.running;
           none_waits = t.none_waits;
           unshut = t.unshut;

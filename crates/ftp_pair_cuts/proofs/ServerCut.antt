@@ -38,6 +38,7 @@ use Rattle.ftp_pair_transfers.proofs.Beside.{GoesTo, Takes, Together, is_taking}
 use Rattle.ftp_pair_transfers.proofs.FarForms.{Takes as TakesUpload, is_receive, receives_upload, upload_takes}
 use Rattle.ftp_pair_transfers.proofs.Known.{is_near_held}
 use Rattle.ftp_pair_transfers.proofs.Settling.{far_held}
+use Rattle.ftp_pair_breaks.proofs.Drained.{dried, dry as dry_lane}
 use Rattle.ftp_pair_cuts.proofs.Concluded.{LetsGo, break_lets}
 
 -- ---- the client that is left beside
@@ -80,7 +81,7 @@ module _ (read : Reading) (begun : List Order) (old new : Stand server_side) (cl
   module _ (moment : ℕ) (between next : Between) (told : ℕ) (did : Calls {side = server_side} Break old new) (wants : far.wants v ≡ Want.Receive)
       (timed : is_upload w.far.session.connection ≡ true → w.far.footing.moment ≡ did.0.0.0)
       (t : Together read begun moment Level between told old client reports w) (r : Remains w client after between next)
-      (none_untold : old.owner.lane.untold ≡ []) (none_unwritten : old.owner.lane.unwritten ≡ []) where
+      (none_untold : old.owner.lane.untold ≡ []) where
     unclosed : v.session.closing ≡ false
     unclosed = no_close v Want.Receive wants refl
 
@@ -149,8 +150,8 @@ module _ (read : Reading) (begun : List Order) (old new : Stand server_side) (cl
     untold : new.owner.lane.untold ≡ []
     untold = ap (λ (l : Lane). l.untold) lane_then ∙ none_untold
 
-    unwritten : new.owner.lane.unwritten ≡ []
-    unwritten = ap (λ (l : Lane). l.unwritten) lane_then ∙ none_unwritten
+    unwritten : (dry_lane new.owner.lane).unwritten ≡ []
+    unwritten = ap (λ (l : Lane). (dry_lane l).unwritten) lane_then
 
     held_not : is_near_held (settled now).link ≡ true → ⊥
     held_not e = true≢false (sym (far_held now r.unclosed e))
@@ -158,7 +159,7 @@ module _ (read : Reading) (begun : List Order) (old new : Stand server_side) (cl
     unheld : is_near_held (settled now).link ≡ false
     unheld = is_false (is_near_held (settled now).link) held_not
 
-    pub server_cut : GoesTo read [] begun next told new after reports (marked_last (Broken w.came) w.marks) w
+    pub server_cut : GoesTo read [] begun next told (dried new) after reports (marked_last (Broken w.came) w.marks) w
     server_cut =
         let b = t.beside in
         record {
@@ -199,20 +200,20 @@ module _ (read : Reading) (begun : List Order) (old new : Stand server_side) (cl
           };
         }
 
-    pub cut_serves : ServerServes new.owner
+    pub cut_serves : ServerServes (dried new).owner
     cut_serves = record { running = runs.running; none_waits = runs.none_waits }
 
   -- a server that takes octets is ahead by nothing
   pub cut_at : (moment : ℕ) (ahead : Ahead) (between next : Between) (told : ℕ) (did : Calls {side = server_side} Break old new)
       → far.wants v ≡ Want.Receive
       → (is_upload w.far.session.connection ≡ true → w.far.footing.moment ≡ did.0.0.0) → Together read begun moment ahead between told old client reports w
-      → Remains w client after between next → old.owner.lane.untold ≡ [] → old.owner.lane.unwritten ≡ []
-      → GoesTo read [] begun next told new after reports (marked_last (Broken w.came) w.marks) w × ServerServes new.owner
-  cut_at moment Level between next told did wants timed t r none_untold none_unwritten = (
-    server_cut moment between next told did wants timed t r none_untold none_unwritten,
-    cut_serves moment between next told did wants timed t r none_untold none_unwritten,
+      → Remains w client after between next → old.owner.lane.untold ≡ []
+      → GoesTo read [] begun next told (dried new) after reports (marked_last (Broken w.came) w.marks) w × ServerServes (dried new).owner
+  cut_at moment Level between next told did wants timed t r none_untold = (
+    server_cut moment between next told did wants timed t r none_untold,
+    cut_serves moment between next told did wants timed t r none_untold,
   )
-  cut_at moment Opens between next told did wants timed t r none_untold none_unwritten = absurd (both t.beside.fits (takes_form wants).alone)
-  cut_at moment (Listens other) between next told did wants timed t r none_untold none_unwritten = absurd (both t.beside.fits (takes_form wants).unasked)
-  cut_at moment (Parted accepted) between next told did wants timed t r none_untold none_unwritten =
+  cut_at moment Opens between next told did wants timed t r none_untold = absurd (both t.beside.fits (takes_form wants).alone)
+  cut_at moment (Listens other) between next told did wants timed t r none_untold = absurd (both t.beside.fits (takes_form wants).unasked)
+  cut_at moment (Parted accepted) between next told did wants timed t r none_untold =
       absurd (both (takes_octets wants) (left_rests accepted v.session.connection t.beside.fits).0)

@@ -43,6 +43,7 @@ use Rattle.ftp_pair_transfers.proofs.FarForms.{is_receive, receives_upload, uplo
 use Rattle.ftp_pair_transfers.proofs.Known.{AreCarried, Known, is_giving, is_near_held}
 use Rattle.ftp_pair_transfers.proofs.Running.{world_timed}
 use Rattle.ftp_pair_transfers.proofs.Simulating.{asks, known, runs}
+use Rattle.ftp_pair_breaks.proofs.Drained.{dried}
 use Rattle.ftp_pair_breaks.proofs.Lagging.{Lags, OfMarks, Whole, beside, feeds, unbroken}
 use Rattle.ftp_pair_breaks.proofs.Steps.{Again, At, idle_again}
 use Rattle.ftp_pair_breaks.proofs.Unsent.{AskAll, Unsent, all_carried}
@@ -183,21 +184,21 @@ module _ (read : Reading) (reads : IsReading read) (moments : ℕ → ℕ) (time
 
     module _ (next : Between) (after : Stand client_side) (did : Calls {side = server_side} Break old new)
         (wants : far.wants old.owner.end.server.view ≡ Want.Receive) (told : did.0.0.0 ≡ last_of moments (number_in deeds)) (r : Remains w client after p next)
-        (untold : old.owner.lane.untold ≡ []) (unwritten : old.owner.lane.unwritten ≡ []) where
+        (untold : old.owner.lane.untold ≡ []) where
       -- a world is beside both again, and its link is broken
       pub cut_there : is_sound after.owner.end.view.standing ≡ true → IsPlainly after.owner.end.view → StaysFresh next after
-          → Again read reads moments timed b fair deeds next count new after (marked_last (Broken w.came) w.marks)
+          → Again read reads moments timed b fair deeds next count (dried new) after (marked_last (Broken w.came) w.marks)
       cut_there sound plain fresh =
           let t = o.together in
           let went = cut_at read (begun_at moments deeds) old new client after (reports_in deeds) w calm o.serves o.last o.ahead p next count did wants
           (λ takes. world_timed read reads (state_of b) moments deeds carried w
           (runs read reads moments timed b fair deeds p count old client (reports_in deeds) o carried)
-          t.beside.control t.beside.unready takes ∙ sym told) t r untold unwritten in
-          again_cut deeds o (marked_last (Broken w.came) w.marks) next new after went.0 went.1 sound plain fresh
+          t.beside.control t.beside.unready takes ∙ sym told) t r untold in
+          again_cut deeds o (marked_last (Broken w.came) w.marks) next (dried new) after went.0 went.1 sound plain fresh
 
       -- a break marks
       pub cut_again : is_sound after.owner.end.view.standing ≡ true → IsPlainly after.owner.end.view → StaysFresh next after
-          → Again read reads moments timed b fair (Other Break ∷ deeds) next count new after (marked_last (Broken w.came) w.marks)
+          → Again read reads moments timed b fair (Other Break ∷ deeds) next count (dried new) after (marked_last (Broken w.came) w.marks)
       cut_again sound plain fresh =
           let got = cut_there sound plain fresh in
           let idle = idle_again read reads moments timed b fair (Other Break) deeds got.0 refl refl in
@@ -266,7 +267,7 @@ module _ (read : Reading) (reads : IsReading read) (moments : ℕ → ℕ) (time
     -- ---- it is told of the break
 
     module _ (did : Calls {side = server_side} Break old new) (told : did.0.0.0 ≡ last_of moments (number_in deeds)) (untold : old.owner.lane.untold ≡ [])
-        (unwritten : old.owner.lane.unwritten ≡ []) (after : Stand client_side) (next : Between) (out : Out client after p next) where
+        (after : Stand client_side) (next : Between) (out : Out client after p next) where
       fresh : StaysFresh next after
       fresh called = absurd (both called (ap is_called out.lost))
 
@@ -275,7 +276,8 @@ module _ (read : Reading) (reads : IsReading read) (moments : ℕ → ℕ) (time
 
       -- where a world is beside both: its client alone has closed the link
       pub whole_cut : {Are : OfMarks} → (o : Whole read reads moments timed b fair Are deeds p count old client) → is_near_held o.at.world.link ≡ false
-          → Whole read reads moments timed b fair (cut_marks Want.Receive (HasCome old.owner client.owner) Are) (Other Break ∷ deeds) next count new after
+          → Whole read reads moments timed b fair (cut_marks Want.Receive (HasCome old.owner client.owner) Are) (Other Break ∷ deeds) next count (dried new)
+          after
       whole_cut {Are} o not_held =
           let w : World = o.at.world in
           let t = o.at.together in
@@ -301,7 +303,7 @@ module _ (read : Reading) (reads : IsReading read) (moments : ℕ → ℕ) (time
             dry = out.dry;
             lost = out.lost;
           } in
-          let got = cut_again deeds puts p count old new client calm o.at next after did wants told r untold unwritten (sound_then o.at.sound)
+          let got = cut_again deeds puts p count old new client calm o.at next after did wants told r untold (sound_then o.at.sound)
           (subst IsPlainly (sym out.view) o.at.plain) fresh in
           record {
             at = got.0;
@@ -368,13 +370,13 @@ module _ (read : Reading) (reads : IsReading read) (moments : ℕ → ℕ) (time
             remains there.near (ap (λ k. broken_by k (lends_none there)) link) (ap is_gone link) (near_there ∙ closes_alike n u l.lifts closes)
 
         pub lag_cut : Whole read reads moments timed b fair (cut_marks Want.Receive (HasCome old.owner client.owner) Are) (Other Break ∷ deeds) next count
-            new after
+            (dried new) after
         lag_cut =
             let got = cut_again deeds puts (unbroken p) count old new (beside l.was client) calm l.at next after did wants told
             (elim l.lifts.kind [
               | inl gives ↦ still_gives gives
               | inr closes ↦ has_closed closes
-            ]) untold unwritten (sound_then (lifts_sound n u l.lifts))
+            ]) untold (sound_then (lifts_sound n u l.lifts))
             (subst IsPlainly (sym out.view) (plainly read reads moments timed b fair deeds puts p count old client l)) fresh in
             record {
               at = got.0;

@@ -1,9 +1,9 @@
 -- Two drives of which data connections break, those of uploads too, as a list of a world's events: deed by deed.
 use Rattle.std.proofs.Common.{◌≡◌, ◌⊎◌, inl, inr, ℕ, Bool, true, false, true≢false, List, [], ◌∷◌, refl, sym, ap, subst, ◌∙◌}
 use Rattle.ftp_control.specs.Asking.{Reset}
-use Rattle.ftp_control.specs.Deeds.{Calls, Deed, Done, Led, Other, Stand}
-use Rattle.ftp_control.specs.Lane.{Lane}
-use Rattle.ftp_control.specs.Machine.{Break, Left}
+use Rattle.ftp_control.specs.Deeds.{Calls, Deed, Done, Led, Other, Stand, with_owner}
+use Rattle.ftp_control.specs.Machine.{Break, IsBroken, Left}
+use Rattle.ftp_control.specs.declared.whole.Fate.{Fate}
 use Rattle.ftp_control.specs.declared.whole.Fate.TheVariants as Fates
 use Rattle.ftp_client_drive.specs.Side.{client_side}
 use Rattle.ftp_client_model.specs.Calls as near
@@ -30,7 +30,7 @@ use Rattle.ftp_pair_transfers.proofs.Lost.{IsSeen, far_done, near_done, seen_its
 use Rattle.ftp_pair_transfers.proofs.Reaching.{earlier, starts_so}
 use Rattle.ftp_pair_breaks.specs.Deeds.{IsSuffering, IsYielding}
 use Rattle.ftp_pair_breaks.proofs.BothBroken.{sends_far}
-use Rattle.ftp_pair_breaks.proofs.Drained.{BreaksNot, dried, dried_none, dried_step, dried_told}
+use Rattle.ftp_pair_breaks.proofs.Drained.{BreaksNot, dried, dried_none, dried_step, dried_told, unless_broken}
 use Rattle.ftp_pair_breaks.proofs.Lagging.{Lags, OfMarks, Then, Whole, beside, unbroken}
 use Rattle.ftp_pair_breaks.proofs.Preceding.{far_nothing, gives_now, steady_now}
 use Rattle.ftp_pair_breaks.proofs.Simulating as breaking
@@ -60,6 +60,13 @@ left_hold : (hold : Hold) → (is_had hold ≡ true → ⊥) → is_called hold 
 left_hold Has none uncalled = absurd (none refl)
 left_hold Is_called none uncalled = absurd (true≢false uncalled)
 left_hold hold none uncalled = refl
+
+-- one that is told of a break was told of none before: it has what it did not write
+unbroken_so : (wants : Wants) (stands : Bool) (fate : Fate) (octets : List ℕ) → IsBroken wants stands fate → unless_broken fate octets ≡ octets
+unbroken_so wants stands Fates.Sound octets is = refl
+unbroken_so wants stands Fates.Failed octets is = refl
+unbroken_so wants stands Fates.Broken octets is = absurd is
+unbroken_so wants stands Fates.Over octets is = refl
 
 -- it has lost it
 abbrev is_lost : Hold → Bool
@@ -249,7 +256,7 @@ module _ (read : Reading) (reads : IsReading read) (moments : ℕ → ℕ) (time
 
     -- it is told of the break
     module _ (calm : ServerIsCalm old.owner new.owner) (wants : far.wants old.owner.end.server.view ≡ Want.Receive)
-        (did : Calls {side = server_side} Break old new) (untold : old.owner.lane.untold ≡ []) (unwritten : old.owner.lane.unwritten ≡ [])
+        (did : Calls {side = server_side} Break old new) (untold : old.owner.lane.untold ≡ [])
         (can : Can TheServer ToldBreak p q) (told : did.0.0.0 ≡ last_of moments (number_in deeds)) (h : Holding p client) where
       -- as many octets of the upload as came
       abbrev came_now : ℕ → Type 0
@@ -258,33 +265,30 @@ module _ (read : Reading) (reads : IsReading read) (moments : ℕ → ℕ) (time
       abbrev told_ports : ℕ
       told_ports = listened_in before
 
-      -- none is unwritten
+      -- it was told of none before
       old_dried : dried old ≡ old
-      old_dried = dried_none old unwritten
-
-      new_dried : dried new ≡ new
-      new_dried = dried_none new (ap (λ (x : Lane). x.unwritten) did.0.1 ∙ unwritten)
+      old_dried =
+          ap (λ o. with_owner (record old.owner { lane = record old.owner.lane { unwritten = o } }) old)
+          (unbroken_so (far.wants old.owner.end.server.view) old.owner.lane.stands old.owner.lane.fate old.owner.lane.unwritten did.0.2)
 
       lost_now : q.far ≡ Has_lost
       lost_now = ap (λ (m : Between). m.far) can.1
 
       -- a world sees what lies between lie dry
       beside_dry : {Are : OfMarks} → is_left p.near ≡ true → IsWritten client.owner.lane
-          → W Are (Other Break ∷ deeds) (dry q) told_ports new client → Cut Are (Other Break ∷ deeds) q told_ports new client
+          → W Are (Other Break ∷ deeds) (dry q) told_ports (dried new) client → Cut Are (Other Break ∷ deeds) q told_ports new client
       beside_dry {Are} left written w = inl (record {
         middle = dry q;
         seen = lost_dry q (ap (λ (m : Between). is_left m.near) can.1 ∙ left) lost_now;
         written = written;
-        suffered = inl (inl (subst (λ (s : Stand server_side). W Are (Other Break ∷ deeds) (dry q) told_ports s client)
-            (sym new_dried) w));
+        suffered = inl (inl w);
       })
 
       -- or is beside one that has left
-      beside_gone : {Are : OfMarks} → client.owner.lane.stands ≡ true → W Are (Other Break ∷ deeds) (lost q) told_ports new (gone client)
+      beside_gone : {Are : OfMarks} → client.owner.lane.stands ≡ true → W Are (Other Break ∷ deeds) (lost q) told_ports (dried new) (gone client)
           → Cut Are (Other Break ∷ deeds) q told_ports new client
       beside_gone {Are} stands w = inr (inr (inl (record {
-        whole = subst (λ (s : Stand server_side). W Are (Other Break ∷ deeds) (lost q) told_ports s (gone client))
-            (sym new_dried) w;
+        whole = w;
         stands = stands;
         far = ap is_left lost_now;
       })))
@@ -297,16 +301,16 @@ module _ (read : Reading) (reads : IsReading read) (moments : ℕ → ℕ) (time
               → Cut (cut_marks Want.Receive came_now Are) (Other Break ∷ deeds) q told_ports new client
           closed true is unheld =
               beside_gone is
-              (whole_cut read reads moments timed b fair deeds puts p q told_ports old new client calm wants did told untold unwritten (gone client)
+              (whole_cut read reads moments timed b fair deeds puts p q told_ports old new client calm wants did told untold (gone client)
               (lost q) (out_gone client p q can) w unheld)
           closed false is unheld =
               beside_dry (left_hold p.near (λ had. both (h.had had) is) h.uncalled) (λ e. w.at.together.gives.bare is)
-              (whole_cut read reads moments timed b fair deeds puts p q told_ports old new client calm wants did told untold unwritten client (dry q)
+              (whole_cut read reads moments timed b fair deeds puts p q told_ports old new client calm wants did told untold client (dry q)
               (out_left client p q can is w.at.together.takes (w.at.together.gives.bare is)) w unheld)
 
           by : (held : Bool) → is_near_held w.at.world.link ≡ held → Cut (cut_marks Want.Receive came_now Are) (Other Break ∷ deeds) q told_ports new client
           by true held =
-              inr (inr (inr (told_taking read reads moments timed b fair deeds puts p q told_ports old new client calm wants did told untold unwritten can
+              inr (inr (inr (told_taking read reads moments timed b fair deeds puts p q told_ports old new client calm wants did told untold can
               w held (h.had (w.at.together.keeping.had held)))))
           by false unheld = closed client.owner.lane.stands refl unheld
 
@@ -318,11 +322,11 @@ module _ (read : Reading) (reads : IsReading read) (moments : ℕ → ℕ) (time
           by : (stands : Bool) → client.owner.lane.stands ≡ stands → Cut (cut_marks Want.Receive came_now Are) (Other Break ∷ deeds) q told_ports new client
           by true is =
               beside_gone is
-              (lag_cut read reads moments timed b fair deeds puts p q told_ports old new client calm wants did told untold unwritten (gone client)
+              (lag_cut read reads moments timed b fair deeds puts p q told_ports old new client calm wants did told untold (gone client)
               (lost q) (out_gone client p q can) l)
           by false is =
               beside_dry (ap is_left l.hold) (λ e. l.lane.bare is)
-              (lag_cut read reads moments timed b fair deeds puts p q told_ports old new client calm wants did told untold unwritten client (dry q)
+              (lag_cut read reads moments timed b fair deeds puts p q told_ports old new client calm wants did told untold client (dry q)
               (out_left client p q can is l.lane.takes (l.lane.bare is)) l)
 
       by_suffered : {Are : OfMarks} → Suffered Are deeds p told_ports old client
@@ -419,7 +423,7 @@ module _ (read : Reading) (reads : IsReading read) (moments : ℕ → ℕ) (time
             record {
               view = there.after;
               is_seen = there.is_seen;
-              cut = cut_on deeds puts before o.view there.after old new client is.1 breaks.0 did breaks.1 breaks.2 there.can (cut breaks.0) holds o.cut;
+              cut = cut_on deeds puts before o.view there.after old new client is.1 breaks.0 did breaks.1 there.can (cut breaks.0) holds o.cut;
             })
       ]
       by deed ports is can did told cut = yields deed ports is.0 is.1 can did told

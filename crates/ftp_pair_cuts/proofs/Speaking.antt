@@ -126,7 +126,6 @@ module _ (read : Reading) (reads : IsReading read) (moments : ℕ → ℕ) (time
         moment = t.moment;
         at_moment = t.at_moment;
         were_untold = t.were_untold;
-        were_written = t.were_written;
         running = t.running;
         none_waits = t.none_waits;
         unshut = t.unshut;

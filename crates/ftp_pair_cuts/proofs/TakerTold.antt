@@ -77,7 +77,7 @@ module _ (read : Reading) (reads : IsReading read) (moments : ℕ → ℕ) (time
       (old new : Stand server_side) (client : Stand client_side) (calm : ServerIsCalm old.owner new.owner)
       (wants : far.wants old.owner.end.server.view ≡ Want.Receive)
       (did : Calls {side = server_side} Break old new) (moment : did.0.0.0 ≡ last_of moments (number_in deeds)) (untold : old.owner.lane.untold ≡ [])
-      (unwritten : old.owner.lane.unwritten ≡ []) (can : Can TheServer ToldBreak p q)
+      (can : Can TheServer ToldBreak p q)
       (o : Whole read reads moments timed b fair Are deeds p count old client) (held : is_near_held o.at.world.link ≡ true)
       (stands : client.owner.lane.stands ≡ true) where
     abbrev v : Far
@@ -103,7 +103,6 @@ module _ (read : Reading) (reads : IsReading read) (moments : ℕ → ℕ) (time
           moment = did.0.0.0;
           at_moment = moment;
           were_untold = untold;
-          were_written = unwritten;
           running = serves.running;
           none_waits = serves.none_waits;
           unshut = unclosed;
@@ -186,7 +185,7 @@ module _ (read : Reading) (reads : IsReading read) (moments : ℕ → ℕ) (time
 
       -- its lane is of no matter any more
       abbrev then_lane : Lane
-      then_lane = with_fate Fates.Broken t.lane
+      then_lane = dry (with_fate Fates.Broken t.lane)
 
       -- so it stands
       abbrev told : Stand server_side
@@ -209,8 +208,9 @@ module _ (read : Reading) (reads : IsReading read) (moments : ℕ → ℕ) (time
         told_then : Again read reads moments timed b fair deeds ways count told (left_near view) (marked_last (Broken w.came) w.marks)
         told_then =
             let did = told_break t.were t.lane t.unheard t.moment t.ends t.none_waits t.takes t.due in
-            cut_there read reads moments timed b fair deeds puts (behind p) count were told (unaware refusals n queue lane) refl o ways (left_near view)
-            did.0 t.takes (did.1 ∙ t.at_moment) r t.were_untold t.were_written sound plain
+            cut_there read reads moments timed b fair deeds puts (behind p) count were (standing then_view (with_fate Fates.Broken t.lane) t.unheard)
+            (unaware refusals n queue lane) refl o ways (left_near view)
+            did.0 t.takes (did.1 ∙ t.at_moment) r t.were_untold sound plain
             (λ called. absurd (true≢false (sym called)))
 
         -- so a world is beside the drive's server, and a client that heard nothing of what it said since

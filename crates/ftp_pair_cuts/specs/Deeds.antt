@@ -21,11 +21,10 @@ use Rattle.ftp_server_model.specs.Calls as far
 
 -- ---- the server
 
--- while it takes octets it is told of a break, once it was told all that came, where it has nothing to write; else it does what it does where downloads alone
--- break
+-- while it takes octets it is told of a break, once it was told all that came; else it does what it does where downloads alone break
 abbrev pub IsLosing : Deed server_side → Held Timed → Type 0
 IsLosing (Other Break) at =
-    IsYielding (Other Break) at ⊎ ((far.wants at.end.server.view ≡ Want.Receive) × (at.lane.untold ≡ []) × (at.lane.unwritten ≡ []))
+    IsYielding (Other Break) at ⊎ ((far.wants at.end.server.view ≡ Want.Receive) × (at.lane.untold ≡ []))
 IsLosing deed at = IsYielding deed at
 
 -- so it does, and it was not refused memory, and no device of it failed or strayed

@@ -259,7 +259,7 @@ module _ (table : Table) (moments : ℕ → ℕ) where
           (far_in (one_stands [] []) taken_up []) (far_in far_failed taken_up []) client ((tt, refl), tt) (reads_none taken_up) refl taken
           (one_more (Server (Other Failed)) taken.resets.0, taken.resets.1) in
           let told = far_does moments start begun put (Other Break) ((λ before. (refl, λ ports. ports)), λ old new done moment. tt) 1 none lost
-          (far_in far_failed taken_up []) (far_in far_broken done []) client ((inr (refl, refl, refl), refl), (refl, refl))
+          (far_in far_failed taken_up []) (far_in far_broken done []) client ((inr (refl, refl), refl), (refl, refl))
           (breaks_then (moments 0) taken_up (far_timed table (moments 0)) done refl (is_put (moments 0))) (refl, refl) failed
           (one_more (Server (Other Break)) {turns = failed.turns} failed.resets.0, (failed.resets.1, began_one failed)) in
           let says = far_says moments start begun put 1 more [] hold Has_lost [] [] far_broken done client refl told in
