@@ -6,7 +6,7 @@ use Rattle.ftp_wire.specs.Decoder.{decoder_of}
 use Rattle.ftp_ends.specs.Reply.{Reply, reply_octets}
 use Rattle.ftp_operation.specs.declared.op.Op.{Op}
 use Rattle.ftp_direct.specs.declared.refusal.Refusal.{Refusal}
-use Rattle.ftp_direct.specs.Direct.{State}
+use Rattle.ftp_direct.specs.Direct.{State, part}
 use Rattle.ftp_client_model.specs.Calls as near
 use Rattle.ftp_client_model.specs.View.{View as Near, Sending}
 use Rattle.ftp_client_model.specs.declared.client.ClientLink.TheVariants as NearData
@@ -37,6 +37,8 @@ use Rattle.ftp_pair_agreement.proofs.FetchLink.{Leads, far_linked, fits_more, of
 use Rattle.ftp_pair_agreement.proofs.Sessions.{fixed}
 use Rattle.ftp_pair_agreement.proofs.UploadFates.{cut_off_fares, keep_few, overfull_fares, whole_over, within_limit}
 use Rattle.ftp_pair_agreement.proofs.UploadServer.{far_by, stored_far, stored_steady, text_by, upload_breaks, upload_far}
+use Rattle.ftp_tree.specs.Tree.{octets_or_none}
+use Rattle.ftp_pair_dialogues.proofs.Uploads.{kept_own}
 
 -- a link that broke breaks no more
 no_link_stands : (link : Link) → link ≡ Gone → is_gone link ≡ false → ⊥
@@ -131,7 +133,7 @@ module _ (read : Reading) (state : State) (ask : Ask) (good : IsAsk ask) (sound 
       serves b' is =
           ap (λ s. far.data_fault (record (still (far_linked s b.far)) { owed = c.owed })) g.session
           ∙ upload_breaks state rise b.near b.far g.steady g.known (λ content. g.upload.ends_so state content g.climbs.0.0)
-          past b' (decoder_of ask.settings came) c.owed (moment_is b past came coming mark notes g)
+          (kept_own (rise.keep state) (octets_or_none (part state) (rise.path state)) (g.upload.within state)) past b' (decoder_of ask.settings came) c.owed (moment_is b past came coming mark notes g)
           (λ e. sym is ∙ g.climbs.2 e) is
 
       -- a world placed behind it

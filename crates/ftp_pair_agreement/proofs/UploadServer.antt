@@ -16,8 +16,8 @@ use Rattle.ftp_direct.specs.declared.refusal.Refusal.{Refusal}
 use Rattle.ftp_client_model.specs.View.{View as Near}
 use Rattle.ftp_server_model.specs.Calls as far
 use Rattle.ftp_server_model.specs.Calls.{takes_all, takes_octet}
-use Rattle.ftp_server_model.specs.Keep.{kept_count, kept_of, lacks}
-use Rattle.ftp_server_model.specs.Machine.{Ending, at_break, concluded, end_refusal, ends_by, is_over, later, put_in}
+use Rattle.ftp_server_model.specs.Keep.{kept_count, kept_of, lacks, is_overtaken}
+use Rattle.ftp_server_model.specs.Machine.{Ending, at_break, concluded, end_refusal, ends_by, is_over, later, put_in, breaks_off}
 use Rattle.ftp_server_model.specs.Replies.{fixed_reply}
 use Rattle.ftp_server_model.specs.View.{View as Far, Session, Transfer}
 use Rattle.ftp_server_model.specs.declared.reply.FixedReply.{FixedReply}
@@ -363,13 +363,15 @@ module _ (state : State) (rise : Rise) (n : Near) (f : Far) (steady : IsSteady s
       ap (λ s. record (still (far_linked s f)) { owed = owed ++ reply_octets (fixed_reply text) }) (put_is content timed)
 
   -- a break: what came is installed, where no limit is passed
-  pub upload_breaks : EndsSo → (past b : Bool) (d : Decoder) (owed : List ℕ) → rise.moment ≡ f.footing.moment → (past ≡ true → b ≡ true) → is_some (over rise state (length d.content)) ≡ b
+  pub upload_breaks : EndsSo → is_overtaken keep ≡ false → (past b : Bool) (d : Decoder) (owed : List ℕ) → rise.moment ≡ f.footing.moment → (past ≡ true → b ≡ true) → is_some (over rise state (length d.content)) ≡ b
       → far.data_fault (record (still (upload_far (held past path keep d) f)) { owed = owed })
       ≡ record (still (far_by b d.content)) { owed = owed ++ reply_octets (fixed_reply (text_by b Texts.Broken)) }
   unfolding far.data_fault
-  upload_breaks so true b d owed timed past is = ap (λ b. record (still (far_by b d.content)) { owed = owed ++ reply_octets (fixed_reply (text_by b Texts.Broken)) }) (sym (past refl))
-  upload_breaks so false b d owed timed past is =
-      ap (λ ending. concluded ending (record (still (upload_far (held false path keep d) f)) { owed = owed })) (ending_is so b d.content Texts.Broken is)
+  upload_breaks so own true b d owed timed past is = ap (λ b. record (still (far_by b d.content)) { owed = owed ++ reply_octets (fixed_reply (text_by b Texts.Broken)) }) (sym (past refl))
+  upload_breaks so own false b d owed timed past is =
+      ap (λ (late : Bool). concluded (breaks_off late f.footing.moment path keep d (session_with FarData.Free)) (record (still (upload_far (held false path keep d) f)) { owed = owed }))
+      own
+      ∙ ap (λ ending. concluded ending (record (still (upload_far (held false path keep d) f)) { owed = owed })) (ending_is so b d.content Texts.Broken is)
       ∙ ends_with b d.content Texts.Broken (held false path keep d) owed timed
 
   -- the client's close behind the whole text: the file is installed, where no limit is passed

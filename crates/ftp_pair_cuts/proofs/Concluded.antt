@@ -1,6 +1,6 @@
 -- What a server that takes octets of an upload holds once it was told of the break of its data connection: what came is installed or refused, and a reply that
 -- refuses is owed.
-use Rattle.std.proofs.Common.{◌≡◌, ℕ, true, false, true≢false, List, ◌++◌, Option, Some, None, refl, sym, ap, ap₂, ◌∙◌}
+use Rattle.std.proofs.Common.{◌≡◌, ℕ, Bool, true, false, true≢false, List, ◌++◌, Option, Some, None, refl, sym, ap, ap₂, ◌∙◌}
 use Rattle.std.specs.Prelude.{if◌then◌else◌}
 use Rattle.ftp_client_model.specs.Replies.{Negative, verdict_of}
 use Rattle.ftp_direct.specs.declared.refusal.Refusal.{Refusal}
@@ -8,7 +8,7 @@ use Rattle.ftp_direct.specs.declared.refusal.Refusal.TheVariants as Refusals
 use Rattle.ftp_ends.specs.Reply.{reply_octets}
 use Rattle.ftp_path.specs.Path.{Names}
 use Rattle.ftp_server_model.specs.Calls.{break_step, breaks, is_upload}
-use Rattle.ftp_server_model.specs.Machine.{at_break, end_refusal, ends_by}
+use Rattle.ftp_server_model.specs.Machine.{at_break, end_refusal, ends_by, breaks_off}
 use Rattle.ftp_server_model.specs.Replies.{fixed_reply}
 use Rattle.ftp_server_model.specs.Texts.{code_of}
 use Rattle.ftp_server_model.specs.View.{Session, Transfer, View as Far}
@@ -20,6 +20,7 @@ use Rattle.ftp_server_model.specs.declared.session.ServerLink.{ServerLink}
 use Rattle.ftp_server_model.specs.declared.session.ServerLink.TheVariants as Data
 use Rattle.ftp_server_model.specs.declared.session.Transfer.TheVariants as Transfers
 use Rattle.ftp_wire.specs.Decoder.{broken}
+use Rattle.ftp_server_model.specs.Keep.{is_overtaken}
 
 -- what came is installed or refused: no other data connection is had, and the session runs as before
 ends_shut : (why : Option Refusal) (moment : ℕ) (path : Names) (keep : Keep) (octets : List ℕ) (text : FixedReply) (s : Session)
@@ -32,15 +33,19 @@ ends_shut None moment path keep octets text s = (refl, refl, refl)
 pub transfer_shut : (moment : ℕ) (transfer : Transfer) (s : Session)
     → ((at_break moment transfer s).0.connection ≡ s.connection) × ((at_break moment transfer s).0.life ≡ s.life)
     × ((at_break moment transfer s).0.closing ≡ s.closing)
-transfer_shut moment (Transfers.Upload path keep d) s =
-    ends_shut (end_refusal path keep (broken d).content s) moment path keep (broken d).content Texts.Broken s
+transfer_shut moment (Transfers.Upload path keep d) s = by (is_overtaken keep)
+  where
+    by : (late : Bool) → let e : Session × FixedReply = breaks_off late moment path keep d s in
+        (e.0.connection ≡ s.connection) × (e.0.life ≡ s.life) × (e.0.closing ≡ s.closing)
+    by true = (refl, refl, refl)
+    by false = ends_shut (end_refusal path keep (broken d).content s) moment path keep (broken d).content Texts.Broken s
 transfer_shut moment Transfers.OverLimit s = (refl, refl, refl)
 transfer_shut moment (Transfers.Download rest) s = (refl, refl, refl)
 transfer_shut moment (Transfers.Listing rest) s = (refl, refl, refl)
 
 -- such a reply refuses
 transfer_refuses : (moment : ℕ) (transfer : Transfer) (s : Session) → verdict_of (code_of (at_break moment transfer s).1) ≡ Negative
-transfer_refuses moment (Transfers.Upload path keep d) s = by (end_refusal path keep (broken d).content s)
+transfer_refuses moment (Transfers.Upload path keep d) s = off (is_overtaken keep)
   where
     by_why : (why : Refusal) → verdict_of (code_of (refusal_text why)) ≡ Negative
     by_why Refusals.LocalFault = refl
@@ -56,6 +61,10 @@ transfer_refuses moment (Transfers.Upload path keep d) s = by (end_refusal path 
     by : (why : Option Refusal) → verdict_of (code_of (ends_by why moment path keep (broken d).content Texts.Broken s).1) ≡ Negative
     by None = refl
     by (Some why) = by_why why
+
+    off : (late : Bool) → verdict_of (code_of (breaks_off late moment path keep d s).1) ≡ Negative
+    off true = refl
+    off false = by (end_refusal path keep (broken d).content s)
 transfer_refuses moment Transfers.OverLimit s = refl
 transfer_refuses moment (Transfers.Download rest) s = refl
 transfer_refuses moment (Transfers.Listing rest) s = refl

@@ -24,7 +24,7 @@ use Rattle.ftp_direct.specs.Direct.{State, barred_put, done, file_of, limited, n
 use Rattle.ftp_direct.proofs.PlaceLemmas.{led}
 use Rattle.ftp_client_model.specs.Octets.{upload_text}
 use Rattle.ftp_client_model.specs.Plan.{count_of}
-use Rattle.ftp_server_model.specs.Keep.{kept_count, kept_of as kept_octets, lacks}
+use Rattle.ftp_server_model.specs.Keep.{kept_count, kept_of as kept_octets, lacks, is_overtaken}
 use Rattle.ftp_server_model.specs.Transfer.{misplaced, transfer_starts}
 use Rattle.ftp_server_model.specs.View.{direct_of, how_in_force}
 use Rattle.ftp_server_model.specs.declared.session.Keep.{Keep}
@@ -113,15 +113,28 @@ installs table path count room few = ap (λ r. or_else r (octets_refusal table p
 lacks_none : (keep : Keep) (octets : List ℕ) → IsKept keep octets → lacks keep octets ≡ false
 lacks_none (Keeps.First count) octets within = ap not (le-leb count (length octets) within)
 lacks_none (Keeps.All count) octets same = refl
+lacks_none (Keeps.FirstOvertaken count) octets none = absurd none
+lacks_none (Keeps.AllOvertaken count) octets none = absurd none
 
 -- it is as long as it is counted, and no longer than the file
 pub kept_as_counted : (keep : Keep) (octets : List ℕ) → IsKept keep octets → length (kept_octets keep octets) ≡ kept_count keep
 kept_as_counted (Keeps.First count) octets within = length-take-le count octets within
 kept_as_counted (Keeps.All count) octets same = same
+kept_as_counted (Keeps.FirstOvertaken count) octets none = absurd none
+kept_as_counted (Keeps.AllOvertaken count) octets none = absurd none
 
 pub kept_within : (keep : Keep) (octets : List ℕ) → IsKept keep octets → kept_count keep ≤ length octets
 kept_within (Keeps.First count) octets within = within
 kept_within (Keeps.All count) octets same = omega (arith, same)
+kept_within (Keeps.FirstOvertaken count) octets none = absurd none
+kept_within (Keeps.AllOvertaken count) octets none = absurd none
+
+-- it was not overtaken
+pub kept_own : (keep : Keep) (octets : List ℕ) → IsKept keep octets → is_overtaken keep ≡ false
+kept_own (Keeps.First count) octets within = refl
+kept_own (Keeps.All count) octets same = refl
+kept_own (Keeps.FirstOvertaken count) octets none = absurd none
+kept_own (Keeps.AllOvertaken count) octets none = absurd none
 
 -- what came behind it makes it so much longer
 pub kept_long : (keep : Keep) (octets content : List ℕ) → IsKept keep octets → length (kept_octets keep octets ++ content) ≡ kept_count keep + length content

@@ -406,10 +406,12 @@ end_why rise state content =
     (or_refused (refused_name (whenever (lacks (rise.keep state) (octets_or_none (part state) (rise.path state))) Faults.BadOffset))
     (put_refusal state (rise.path state) (length (kept_of rise state ++ content))))
 
--- what is kept stands there: so many octets at least, or all of them, which are as many
+-- what is kept stands there: so many octets at least, or all of them, which are as many; and nobody else changed it
 abbrev pub IsKept : Keep → List ℕ → Type 0
 IsKept (Keeps.First count) octets = count ≤ length octets
 IsKept (Keeps.All count) octets = length octets ≡ count
+IsKept (Keeps.FirstOvertaken count) octets = ⊥
+IsKept (Keeps.AllOvertaken count) octets = ⊥
 
 -- the one text of octets in some settings: plain, or with restart markers, which count octets from a start (RFC 959, section 3.5)
 abbrev pub IsTextOf : Representation → List ℕ → List ℕ → Type 0

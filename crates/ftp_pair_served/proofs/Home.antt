@@ -1,13 +1,13 @@
 -- Whatever a server hears whose accounts have one root logs nobody in elsewhere.
-use Rattle.std.proofs.Common.{◌≡◌, ℕ, List, [], ◌∷◌, Bool, true, false, Option, Some, None}
+use Rattle.std.proofs.Common.{ℕ, List, [], ◌∷◌, Bool, true, false, Option, Some, None}
 use Rattle.std.proofs.lemmas.Bool.{cond_both}
 use Rattle.ftp_direct.specs.declared.refusal.Refusal.{Refusal}
 use Rattle.ftp_ends.specs.Ear.{ear_out, ear_step}
 use Rattle.ftp_nvt.specs.Lines.{NvtEvent, line, too_long, owed}
 use Rattle.ftp_path.specs.Path.{Names}
-use Rattle.ftp_wire.specs.Decoder.{Decoder, broken}
+use Rattle.ftp_wire.specs.Decoder.{broken}
 use Rattle.ftp_server_model.specs.Act.{decided}
-use Rattle.ftp_server_model.specs.Machine.{Reading, abort_said, aborted, aborts, at_break, completed, end_refusal, ends_by, given_out, heard_event, heard_events, heard_line, hears, hears_octet, is_abort, is_idle, later, obeyed, turned, waited}
+use Rattle.ftp_server_model.specs.Machine.{Reading, abort_said, aborted, aborts, at_break, end_refusal, ends_by, given_out, heard_event, heard_events, heard_line, hears, hears_octet, is_abort, is_idle, later, obeyed, turned, waited, breaks_off}
 use Rattle.ftp_server_model.specs.View.{Session, Transfer, View, line_limit}
 use Rattle.ftp_server_model.specs.declared.heard.HeardLine.{HeardLine}
 use Rattle.ftp_server_model.specs.declared.heard.HeardLine.TheVariants.{TooLong}
@@ -20,6 +20,7 @@ use Rattle.ftp_server_model.specs.declared.session.ServerLink.TheVariants as Dat
 use Rattle.ftp_server_model.specs.declared.session.Transfer.TheVariants as Transfers
 use Rattle.ftp_pair_served.specs.Rooted.{AccountsAt, AccountsStayAt}
 use Rattle.ftp_pair_served.proofs.HomeTurns.{Home, decided_home}
+use Rattle.ftp_server_model.specs.Keep.{is_overtaken}
 
 module _ (root : Names) where
   -- each account has this root, and so has who is logged in
@@ -62,9 +63,13 @@ module _ (root : Names) where
   ends_home None moment path keep octets text s k = k
 
   break_home : (moment : ℕ) (transfer : Transfer) (s : Session) → Home root s → Home root (at_break moment transfer s).0
-  break_home moment (Transfers.Upload path keep d) s k =
-      let octets : List ℕ = (broken d).content in
-      ends_home (end_refusal path keep octets s) moment path keep octets Texts.Broken s k
+  break_home moment (Transfers.Upload path keep d) s k = by (is_overtaken keep)
+    where
+      by : (late : Bool) → Home root (breaks_off late moment path keep d s).0
+      by true = k
+      by false =
+          let octets : List ℕ = (broken d).content in
+          ends_home (end_refusal path keep octets s) moment path keep octets Texts.Broken s k
   break_home moment Transfers.OverLimit s k = k
   break_home moment (Transfers.Download rest) s k = k
   break_home moment (Transfers.Listing rest) s k = k

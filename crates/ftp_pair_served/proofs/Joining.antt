@@ -1,5 +1,5 @@
 -- Turns of a session, each of which finds the tree that the one before it left, put together.
-use Rattle.std.proofs.Common.{◌≡◌, ◌∙◌, ◌+◌, ℕ, Bool, true, List, [], ◌∷◌, ◌++◌, Result, Ok, Err, refl, sym, ap, subst, arith}
+use Rattle.std.proofs.Common.{◌≡◌, ◌+◌, ℕ, Bool, true, List, [], ◌∷◌, ◌++◌, Result, Ok, Err, refl, sym, ap, subst, arith}
 use Rattle.std.specs.Prelude.{⊤}
 use Rattle.ftp_control.proofs.Courses.{carries}
 use Rattle.ftp_control.proofs.Idling.{carrier, stood_so}
@@ -12,9 +12,10 @@ use Rattle.ftp_control_drive.specs.declared.drive.Turned.{Turned}
 use Rattle.ftp_control_drive.specs.declared.drive.Turned.TheVariants as Turns
 use Rattle.ftp_server_drive.specs.Driving.{BrokeOff, Drove, Finishes, GivesUp, MakesTurns}
 use Rattle.ftp_server_drive.specs.Side.{server_machine, server_side}
-use Rattle.ftp_server_lent.specs.Lending.{Holding, with_tree_at}
+use Rattle.ftp_server_lent.specs.Lending.{found_at, with_tree_at}
 use Rattle.ftp_server_lent.specs.Turning.{AllGoOn, AreTurns, TakesTurn, Turn, goes_on}
 use Rattle.ftp_pair_served.specs.Alone.{DrivesBy, FindWhatWasLeft, TurnsAreOwnDrive, deeds_by, deeds_in, lent_first, whole}
+use Rattle.ftp_pair_served.proofs.Staying.{begins_there, stays_so, still_whole}
 
 -- ---- turns that go on
 
@@ -31,11 +32,9 @@ goes_by most failed old now (Ok Turns.More) on makes = makes.leads.led
 goes_by most failed old now (Ok (Turns.Over over)) on makes = absurd (cc)
 goes_by most failed old now (Err cause) on makes = absurd (cc)
 
--- where a turn leaves the tree that the next one is lent, that one begins where it ended
-begins_there : (turn last : Turn) (old now : Stand server_side) → turn.lent ≡ last.left → (takes : TakesTurn last old now)
-    → with_tree_at turn.lent now ≡ takes.mid
-begins_there turn last old now found takes =
-    ap (with_tree_at turn.lent) takes.own ∙ ap (λ (t : Holding). with_tree_at t takes.mid) (found ∙ takes.leaves)
+-- where what stood at the path of an upload still stands there, a turn begins with the tree that is lent, and nothing else is another
+pub finds_it : (turn : Turn) (old : Stand server_side) → turn.stays ≡ true → with_tree_at turn.lent old ≡ with_tree_at turn.lent (found_at turn.stays old)
+finds_it turn old stays = ap (λ (b : Bool). with_tree_at turn.lent (found_at b old)) (sym stays)
 
 -- all of the turns before it led there
 pub leads_to : (turn : Turn) (before : List Turn) (start mid : Stand server_side) → AllGoOn before → FindWhatWasLeft whole (turn ∷ before)
@@ -43,9 +42,10 @@ pub leads_to : (turn : Turn) (before : List Turn) (start mid : Stand server_side
 leads_to turn [] start mid on found are = ap (with_tree_at turn.lent) are
 leads_to turn (last ∷ before) start mid on found are =
     let takes : TakesTurn last are.0 mid = are.2 in
-    let there : Stand server_side = with_tree_at last.lent are.0 in
+    let there : Stand server_side = with_tree_at last.lent (found_at last.stays are.0) in
     let from : Stand server_side = with_tree_at (lent_first last before) start in
-    let first = leads_to last before start are.0 on.0 found.0 are.1 in
+    let stays = stays_so last before are.0 mid takes are.3 (still_whole last before start are.0 found.0 are.1) in
+    let first = subst (Led (deeds_in before start are.0 are.1) from) (finds_it last are.0 stays) (leads_to last before start are.0 on.0 found.0 are.1) in
     let then_on = goes_by last.most last.failed there takes.mid last.went on.1 takes.turned in
     subst (λ (s : Stand server_side). Led (deeds_in (last ∷ before) start mid are) from s) (sym (begins_there turn last are.0 mid found.1 takes))
     (led_then (deeds_by last.most last.failed there takes.mid last.went takes.turned) (deeds_in before start are.0 are.1) from there takes.mid first then_on)
@@ -127,9 +127,10 @@ pub turns_are_own_drive : TurnsAreOwnDrive
 turns_are_own_drive turn before start now unwritten untold on found are =
     let takes : TakesTurn turn are.0 now = are.2 in
     let from : Stand server_side = with_tree_at (lent_first turn before) start in
-    let there : Stand server_side = with_tree_at turn.lent are.0 in
+    let there : Stand server_side = with_tree_at turn.lent (found_at turn.stays are.0) in
+    let stays = stays_so turn before are.0 now takes are.3 (still_whole turn before start are.0 found are.1) in
+    let first = subst (Led (deeds_in before start are.0 are.1) from) (finds_it turn are.0 stays) (leads_to turn before start are.0 on found are.1) in
     record {
-      drives = drives_by (deeds_in before start are.0 are.1) from there unwritten untold (leads_to turn before start are.0 on found are.1) turn.most
-          turn.failed takes.mid turn.went takes.turned;
+      drives = drives_by (deeds_in before start are.0 are.1) from there unwritten untold first turn.most turn.failed takes.mid turn.went takes.turned;
       leaves = takes.leaves;
     }

@@ -1,3 +1,4 @@
+pub mod Staying
 pub mod Joining
 pub mod Seats
 pub mod Waiting

@@ -9,7 +9,7 @@ use Rattle.ftp_control_drive.specs.declared.drive.Turned.TheVariants as Turns
 use Rattle.ftp_path.specs.Path.{Names}
 use Rattle.ftp_server_drive.specs.Driving.{MakesTurns}
 use Rattle.ftp_server_drive.specs.Side.{server_side}
-use Rattle.ftp_server_lent.specs.Lending.{Holding, with_tree_at}
+use Rattle.ftp_server_lent.specs.Lending.{Holding, found_at, with_tree_at}
 use Rattle.ftp_server_lent.specs.Turning.{AllGoOn, AreTurns, TakesTurn, Turn}
 use Rattle.ftp_server_model.specs.Failing.{Counts}
 use Rattle.ftp_server_model.specs.Play.{only_at}
@@ -17,8 +17,9 @@ use Rattle.ftp_server_several.specs.Company.{IsSeated}
 use Rattle.ftp_tree.specs.Tree.{Table}
 use Rattle.ftp_pair_served.specs.Alone.{DrivesBy, FindWhatWasLeft, deeds_by, deeds_in, lent_first, part_at}
 use Rattle.ftp_pair_served.specs.Rooted.{TurnStaysAt, TurnsAreOwnDriveBut, TurnsStayAt, stand_but}
-use Rattle.ftp_pair_served.proofs.Joining.{drives_by, goes_by, led_then}
+use Rattle.ftp_pair_served.proofs.Joining.{drives_by, finds_it, goes_by, led_then}
 use Rattle.ftp_pair_served.proofs.Seeing.{led_but}
+use Rattle.ftp_pair_served.proofs.Staying.{StillStands, stays_so, still_rooted}
 
 module _ (root : Names) (counts : Counts) where
   -- what a turn made, with this map in place of that which it was lent
@@ -56,12 +57,13 @@ module _ (root : Names) (counts : Counts) where
       }
   makes_but table most failed old now (Err cause) same seated makes stays = absurd stays
 
-  -- where the next turn begins, with a map of which the same stands there as of that which it is lent
+  -- where the next turn begins, with a map of which the same stands there as of that which it is lent, and in that what stood at the path of an upload
   record Begins (from : Stand server_side) (turn : Turn) (turns : List Turn) (start mid : Stand server_side) (are : AreTurns turns start mid) : Type 0 where
     map : Table
     led : Led (deeds_in turns start mid are) from (stand_but map counts mid)
     same : only_at root map ≡ only_at root turn.lent.table
     seated : IsSeated root mid.owner.end.server.view
+    still : StillStands turns turn.lent.table mid.owner.end.server.view
 
   begins_but : (turn : Turn) (before : List Turn) (start mid : Stand server_side) → IsSeated root start.owner.end.server.view → AllGoOn before
       → FindWhatWasLeft (part_at root) (turn ∷ before) → (are : AreTurns before start mid) → TurnsStayAt root before start mid are
@@ -71,18 +73,22 @@ module _ (root : Names) (counts : Counts) where
     led = ap (stand_but turn.lent.table counts) are;
     same = refl;
     seated = subst (λ (s : Stand server_side). IsSeated root s.owner.end.server.view) (sym are) seated;
+    still = refl;
   }
   begins_but turn (last ∷ before) start mid seated on found are stay =
       let old : Stand server_side = are.0 in
       let takes : TakesTurn last old mid = are.2 in
-      let there : Stand server_side = with_tree_at last.lent old in
+      let there : Stand server_side = with_tree_at last.lent (found_at last.stays old) in
       let from : Stand server_side = stand_but (lent_first last before).table counts start in
       let first = begins_but last before start old seated on.0 found.0 are.1 stay.0 in
-      let at : IsSeated root there.owner.end.server.view = record { known = first.seated.known; held = first.seated.held } in
+      let finds = finds_it last old (stays_so last before old mid takes are.3 first.still) in
+      let at : IsSeated root there.owner.end.server.view = subst (λ (s : Stand server_side). IsSeated root s.owner.end.server.view) finds
+      (record { known = first.seated.known; held = first.seated.held }) in
+      let led = subst (λ (s : Stand server_side). Led (deeds_in before start old are.1) from (stand_but first.map counts s)) finds first.led in
       let one = makes_but first.map last.most last.failed there takes.mid last.went first.same at takes.turned stay.1 in
       let then_on = goes_by last.most last.failed (stand_but first.map counts there) (stand_but one.map counts takes.mid) last.went on.1 one.its in
       let did = deeds_by last.most last.failed (stand_but first.map counts there) (stand_but one.map counts takes.mid) last.went one.its in
-      let all = led_then did (deeds_in before start old are.1) from (stand_but first.map counts old) (stand_but one.map counts takes.mid) first.led then_on in
+      let all = led_then did (deeds_in before start old are.1) from (stand_but first.map counts there) (stand_but one.map counts takes.mid) led then_on in
       let named = subst (λ (d : List (Deed server_side)). Led (d ++ deeds_in before start old are.1) from (stand_but one.map counts takes.mid)) one.deeds all in
       record {
         map = one.map;
@@ -90,6 +96,7 @@ module _ (root : Names) (counts : Counts) where
         same = one.same ∙ ap (λ (t : Holding). only_at root t.table) (sym takes.leaves) ∙ sym found.1;
         seated = subst (λ (s : Stand server_side). IsSeated root s.owner.end.server.view) (sym takes.own)
             (record { known = one.seated.known; held = one.seated.held });
+        still = still_rooted root last before turn.lent.table old mid takes found.1 one.seated;
       }
 
 -- all of them are one drive so
@@ -99,11 +106,14 @@ turns_are_own_drive_but root turn before start now unwritten untold seated on fo
     let takes : TakesTurn turn mid now = are.2 in
     let from : Stand server_side = with_tree_at (lent_first turn before) start in
     let counts : Counts = from.owner.end.server.counts in
-    let there : Stand server_side = with_tree_at turn.lent mid in
+    let there : Stand server_side = with_tree_at turn.lent (found_at turn.stays mid) in
     let first = begins_but root counts turn before start mid seated on found are.1 stay.0 in
-    let at : IsSeated root there.owner.end.server.view = record { known = first.seated.known; held = first.seated.held } in
+    let finds = finds_it turn mid (stays_so turn before mid now takes are.3 first.still) in
+    let at : IsSeated root there.owner.end.server.view = subst (λ (s : Stand server_side). IsSeated root s.owner.end.server.view) finds
+    (record { known = first.seated.known; held = first.seated.held }) in
+    let led = subst (λ (s : Stand server_side). Led (deeds_in before start mid are.1) from (stand_but first.map counts s)) finds first.led in
     let one = makes_but root counts first.map turn.most turn.failed there takes.mid turn.went first.same at takes.turned stay.1 in
-    let drives = drives_by (deeds_in before start mid are.1) from (stand_but first.map counts mid) unwritten untold first.led turn.most turn.failed
+    let drives = drives_by (deeds_in before start mid are.1) from (stand_but first.map counts there) unwritten untold led turn.most turn.failed
     (stand_but one.map counts takes.mid) turn.went one.its in
     record {
       left = stand_but one.map counts takes.mid;

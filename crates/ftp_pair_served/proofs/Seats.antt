@@ -9,7 +9,7 @@ use Rattle.ftp_server_drive.specs.Side.{server_side}
 use Rattle.ftp_server_several.proofs.SeatLemmas.{get-set_other, get-set_same}
 use Rattle.ftp_server_lent.specs.Lending.{Holding}
 use Rattle.ftp_server_lent.specs.Sharing.{Event, Happened, Looks, Shared, Turns, TurnsIn, turns_in}
-use Rattle.ftp_server_lent.specs.Turning.{AreTurns, Turn}
+use Rattle.ftp_server_lent.specs.Turning.{AreTurns, Turn, told_by}
 use Rattle.ftp_pair_served.specs.Alone.{AreLeftAlone, EachIsLeftAlone, FindWhatWasLeft, LeavesIt, OthersLeaveIt, lent_first, part_at, whole}
 
 module _ {X : Type 0} (part : Holding → X) (seat : ℕ) where
@@ -22,8 +22,8 @@ module _ {X : Type 0} (part : Holding → X) (seat : ℕ) where
 
   -- it takes a turn more
   same_seat : (other : ℕ) (turn : Turn) (turns : List Turn) (first : Stand server_side) (start mid now : Shared) → other ≡ seat
-      → Sits turns first start mid → TurnsIn other turn mid now → Sits (turn ∷ turns) first start now
-  same_seat other turn turns first start mid now same so turned =
+      → turn.stood ≡ told_by turns → Sits turns first start mid → TurnsIn other turn mid now → Sits (turn ∷ turns) first start now
+  same_seat other turn turns first start mid now same told so turned =
       let at : slice_get mid.seats seat ≡ Some turned.before = ap (slice_get mid.seats) (sym same) ∙ turned.sits in
       let is : so.last ≡ turned.before = ap (λ (found : Option (Stand server_side)). unwrap_or found so.last) (sym so.sits ∙ at) in
       let this = so.found turn (ap part turned.found) in
@@ -32,7 +32,7 @@ module _ {X : Type 0} (part : Holding → X) (seat : ℕ) where
         sits = ap (λ (seats : List (Stand server_side)). slice_get seats seat) turned.others
             ∙ ap (λ n. slice_get (slice_set mid.seats n turned.after) seat) same
             ∙ get-set_same mid.seats seat turned.before turned.after at;
-        are = (turned.before, subst (λ (s : Stand server_side). AreTurns turns first s) is so.are, turned.takes);
+        are = (turned.before, subst (λ (s : Stand server_side). AreTurns turns first s) is so.are, turned.takes, told);
         found = λ next lent. ((this.0, lent ∙ ap part turned.left), this.1);
       }
 
@@ -48,12 +48,13 @@ module _ {X : Type 0} (part : Holding → X) (seat : ℕ) where
 
   -- one of both
   either_seat : (other : ℕ) (turn : Turn) (turns : List Turn) (first : Stand server_side) (start mid now : Shared) → LeavesIt part seat (Turns other turn) mid
-      → Sits turns first start mid → TurnsIn other turn mid now → ((eqb other seat ≡ true) × (other ≡ seat)) ⊎ ((eqb other seat ≡ false) × (other ≢ seat))
+      → (other ≡ seat → turn.stood ≡ told_by turns) → Sits turns first start mid → TurnsIn other turn mid now
+      → ((eqb other seat ≡ true) × (other ≡ seat)) ⊎ ((eqb other seat ≡ false) × (other ≢ seat))
       → Sits (if eqb other seat then turn ∷ turns else turns) first start now
-  either_seat other turn turns first start mid now leaves so turned (inl same) =
+  either_seat other turn turns first start mid now leaves told so turned (inl same) =
       subst (λ (b : Bool). Sits (if b then turn ∷ turns else turns) first start now) (sym same.0)
-      (same_seat other turn turns first start mid now same.1 so turned)
-  either_seat other turn turns first start mid now leaves so turned (inr differ) =
+      (same_seat other turn turns first start mid now same.1 (told same.1) so turned)
+  either_seat other turn turns first start mid now leaves told so turned (inr differ) =
       subst (λ (b : Bool). Sits (if b then turn ∷ turns else turns) first start now) (sym differ.0)
       (other_seat other turn turns first start mid now differ.1 (leaves differ.0) so turned)
 
@@ -76,7 +77,8 @@ module _ {X : Type 0} (part : Holding → X) (seat : ℕ) where
       }
   all_sit (Turns other turn ∷ before) start now first happened leave at =
       let so = all_sit before start happened.0 first happened.1 leave.0 at in
-      either_seat other turn (turns_in seat before) first start happened.0 now leave.1 so happened.2 (eqb_tells other seat)
+      either_seat other turn (turns_in seat before) first start happened.0 now leave.1
+      (λ (same : other ≡ seat). happened.3 ∙ ap (λ n. told_by (turns_in n before)) same) so happened.2 (eqb_tells other seat)
 
 -- so its turns follow one another
 are_left_alone : {X : Type 0} (part : Holding → X) → AreLeftAlone part

@@ -1,12 +1,14 @@
 -- Sessions of several beside the drives of their client.
-use Rattle.std.proofs.Common.{◌≡◌, ◌∙◌, false, List, [], ◌∷◌, suc, length, Ok, refl, sym, ap}
+use Rattle.std.proofs.Common.{◌≡◌, ◌∙◌, true, false, List, [], ◌∷◌, suc, length, Ok, refl, sym, ap}
 use Rattle.ftp_control.specs.Deeds.{Deed, Led, Other, Stand}
 use Rattle.ftp_control.specs.Machine.{Left}
 use Rattle.ftp_control_drive.specs.declared.drive.Turned.TheVariants as Turns
 use Rattle.ftp_path.specs.Path.{Names}
 use Rattle.ftp_server_drive.specs.Side.{server_side}
 use Rattle.ftp_server_lent.specs.Lending.{Holding, tree_of, with_tree_at}
-use Rattle.ftp_server_lent.specs.Turning.{AllGoOn, AreTurns, TakesTurn, Turn}
+use Rattle.ftp_server_lent.specs.Turning.{AllGoOn, AreTurns, TakesTurn, Turn, told_by}
+use Rattle.ftp_server_model.proofs.StandingLemmas.{stands_still}
+use Rattle.ftp_server_model.specs.Standing.{standing_of, still_stands}
 use Rattle.ftp_pair_drives.proofs.Theorems.{drives_agree, drives_over_are_the_direct_run, drives_that_quit_are_the_direct_run, parting_agrees}
 use Rattle.ftp_pair_transfers.proofs.Concluding.{transfers_agree, transfers_parting_agree}
 use Rattle.ftp_pair_transfers.proofs.Ending.{transfers_over_are_the_direct_run}
@@ -78,7 +80,7 @@ turns_are_served = record {
 -- what finds all of the tree finds each part
 found_part : (root : Names) (turns : List Turn) → FindWhatWasLeft whole turns → FindWhatWasLeft (part_at root) turns
 found_part root [] found = tt
-found_part root (turn ∷ []) found = tt
+found_part root (turn ∷ []) found = found
 found_part root (turn ∷ last ∷ before) found = (found_part root (last ∷ before) found.0, ap (part_at root) found.1)
 
 module _ (own : Holding) (from : Stand server_side) where
@@ -89,6 +91,7 @@ module _ (own : Holding) (from : Stand server_side) where
     on : AllGoOn turns
     did : deeds_in turns (with_tree_at own from) (with_tree_at own now) are ≡ deeds
     many : length turns ≡ length deeds
+    told : still_stands (told_by turns) (standing_of now.owner.end.server.view.session) ≡ true
     found : (turn : Turn) → turn.lent ≡ tree_of now.owner.end → FindWhatWasLeft whole (turn ∷ turns) × (lent_first turn turns ≡ tree_of from.owner.end)
     stays : (root : Names) → Along (StaysAt root) deeds from now led → TurnsStayAt root turns (with_tree_at own from) (with_tree_at own now) are
 
@@ -99,6 +102,7 @@ module _ (own : Holding) (from : Stand server_side) where
     on = tt;
     did = refl;
     many = refl;
+    told = refl;
     found = λ turn lent. (tt, lent ∙ ap (λ (s : Stand server_side). tree_of s.owner.end) led);
     stays = λ root along. tt;
   }
@@ -106,16 +110,33 @@ module _ (own : Holding) (from : Stand server_side) where
       let mid : Stand server_side = led.0 in
       let first = cut_up before mid led.1 in
       let turn : Turn =
-      record { most = 1; lent = tree_of mid.owner.end; left = tree_of now.owner.end; failed = false; went = Ok Turns.Later } in
+      record {
+        most = 1;
+        lent = tree_of mid.owner.end;
+        stood = told_by first.turns;
+        stays = true;
+        left = tree_of now.owner.end;
+        stands = standing_of now.owner.end.server.view.session;
+        failed = false;
+        went = Ok Turns.Later;
+      } in
       let takes : TakesTurn turn (with_tree_at own mid) (with_tree_at own now) =
-      record { mid = now; turned = record { deeds = deed ∷ []; led = (mid, refl, led.2) }; leaves = refl; own = refl } in
+      record {
+        mid = now;
+        stays = sym first.told;
+        turned = record { deeds = deed ∷ []; led = (mid, refl, led.2) };
+        leaves = refl;
+        stands = refl;
+        own = refl;
+      } in
       let this = first.found turn refl in
       record {
         turns = turn ∷ first.turns;
-        are = (with_tree_at own mid, first.are, takes);
+        are = (with_tree_at own mid, first.are, takes, refl);
         on = (first.on, refl);
         did = ap (λ (d : List (Deed server_side)). deed ∷ d) first.did;
         many = ap suc first.many;
+        told = stands_still turn.stands;
         found = λ next lent. ((this.0, lent), this.1);
         stays = λ root along. (first.stays root along.0, (tt, along.1));
       }
@@ -127,9 +148,25 @@ drives_are_cut_up own from there drove =
     let mid : Stand server_side = led.0 in
     let cut = cut_up own from drove.did.deeds mid led.1 in
     let turn : Turn =
-    record { most = 1; lent = tree_of mid.owner.end; left = tree_of there.owner.end; failed = false; went = Ok (Turns.Over tt) } in
+    record {
+      most = 1;
+      lent = tree_of mid.owner.end;
+      stood = told_by cut.turns;
+      stays = true;
+      left = tree_of there.owner.end;
+      stands = standing_of there.owner.end.server.view.session;
+      failed = false;
+      went = Ok (Turns.Over tt);
+    } in
     let takes : TakesTurn turn (with_tree_at own mid) (with_tree_at own there) =
-    record { mid = there; turned = record { deeds = []; asked = drove.asked; led = (mid, refl, led.2); over = drove.over }; leaves = refl; own = refl } in
+    record {
+      mid = there;
+      stays = sym cut.told;
+      turned = record { deeds = []; asked = drove.asked; led = (mid, refl, led.2); over = drove.over };
+      leaves = refl;
+      stands = refl;
+      own = refl;
+    } in
     let this = cut.found turn refl in
     record {
       turn = turn;
@@ -139,7 +176,7 @@ drives_are_cut_up own from there drove =
         now = with_tree_at own there;
         on = cut.on;
         found = this.0;
-        are = (with_tree_at own mid, cut.are, takes);
+        are = (with_tree_at own mid, cut.are, takes, refl);
         from_is = ap (λ (tree : Holding). with_tree_at tree from) (sym this.1);
         deeds_are = ap (λ (d : List (Deed server_side)). Other (Left drove.asked) ∷ d) (sym cut.did);
         leaves = refl;

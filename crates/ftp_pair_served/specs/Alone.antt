@@ -10,7 +10,7 @@ use Rattle.ftp_control_drive.specs.declared.drive.Turned.{Turned}
 use Rattle.ftp_control_drive.specs.declared.drive.Turned.TheVariants as Turns
 use Rattle.ftp_server_drive.specs.Driving.{BrokeOff, Drove, MakesTurns}
 use Rattle.ftp_server_drive.specs.Side.{server_side}
-use Rattle.ftp_server_lent.specs.Lending.{Holding, tree_of, with_tree_at}
+use Rattle.ftp_server_lent.specs.Lending.{Holding, found_at, tree_of, with_tree_at}
 use Rattle.ftp_server_lent.specs.Sharing.{Event, Happened, Looks, Shared, Turns as TurnsOf, turns_in}
 use Rattle.ftp_server_lent.specs.Turning.{AllGoOn, AreTurns, Turn}
 use Rattle.ftp_path.specs.Path.{Names}
@@ -52,7 +52,7 @@ deeds_by most failed old now (Err cause) makes = makes.fails.leads.deeds
 abbrev pub deeds_in : (turns : List Turn) (start now : Stand server_side) → AreTurns turns start now → List (Deed server_side)
 deeds_in [] start now are = []
 deeds_in (turn ∷ before) start now are =
-    deeds_by turn.most turn.failed (with_tree_at turn.lent are.0) are.2.mid turn.went are.2.turned ++ deeds_in before start are.0 are.1
+    deeds_by turn.most turn.failed (with_tree_at turn.lent (found_at turn.stays are.0)) are.2.mid turn.went are.2.turned ++ deeds_in before start are.0 are.1
 
 -- ---- one drive
 

@@ -12,7 +12,7 @@ use Rattle.ftp_control_drive.specs.declared.drive.Turned.TheVariants as Turns
 use Rattle.ftp_path.specs.Path.{Names}
 use Rattle.ftp_server_drive.specs.Driving.{MakesTurns}
 use Rattle.ftp_server_drive.specs.Side.{Timed, server_side}
-use Rattle.ftp_server_lent.specs.Lending.{with_tree_at}
+use Rattle.ftp_server_lent.specs.Lending.{found_at, with_tree_at}
 use Rattle.ftp_server_lent.specs.Turning.{AllGoOn, AreTurns, Turn}
 use Rattle.ftp_server_model.specs.Calls.{clock_step}
 use Rattle.ftp_server_model.specs.Failing.{Counts}
@@ -53,7 +53,7 @@ abbrev pub TurnsStayAt : (root : Names) (turns : List Turn) (start now : Stand s
 TurnsStayAt root [] start now are = ⊤
 TurnsStayAt root (turn ∷ before) start now are =
     TurnsStayAt root before start are.0 are.1
-    × TurnStaysAt root turn.most turn.failed (with_tree_at turn.lent are.0) are.2.mid turn.went are.2.turned
+    × TurnStaysAt root turn.most turn.failed (with_tree_at turn.lent (found_at turn.stays are.0)) are.2.mid turn.went are.2.turned
 
 -- ---- but for what stands elsewhere
 

@@ -10,7 +10,7 @@ use Rattle.ftp_path.specs.Path.{Names}
 use Rattle.ftp_wire.specs.Decoder.{broken, ended, fault_of, is_whole, octet_says, read_on}
 use Rattle.ftp_server_model.specs.Calls as far
 use Rattle.ftp_server_model.specs.Calls.{MayReceive, clock_step, connection_of, end_step, ends, is_upload, may_receive, receives, receives_octet, takes_all, takes_data, takes_octet, takes_said, wants_of}
-use Rattle.ftp_server_model.specs.Machine.{at_end, end_refusal, ends_by, is_transferring, waited}
+use Rattle.ftp_server_model.specs.Machine.{at_end, end_refusal, ends_by, is_transferring, waited, breaks_off}
 use Rattle.ftp_server_model.specs.View.{Session, Transfer, View as Far}
 use Rattle.ftp_server_model.specs.declared.reply.FixedReply.{FixedReply}
 use Rattle.ftp_server_model.specs.declared.reply.FixedReply.TheVariants as Texts
@@ -21,6 +21,7 @@ use Rattle.ftp_server_model.specs.declared.session.Transfer.TheVariants as Trans
 use Rattle.ftp_server_model.specs.declared.session.Way.TheVariants as Ways
 use Rattle.ftp_pair_data.specs.Ahead.{accepts, is_asked, is_open}
 use Rattle.ftp_pair_transfers.proofs.Known.{is_ready}
+use Rattle.ftp_server_model.specs.Keep.{is_overtaken}
 
 -- ---- what it wants
 
@@ -147,12 +148,16 @@ transfer_shut : (moment : ℕ) (transfer : Transfer) (s : Session)
     → ((at_end moment transfer s).0.connection ≡ s.connection) × ((at_end moment transfer s).0.closing ≡ s.closing)
 transfer_shut moment (Transfers.Upload path keep d) s = by (is_whole d)
   where
+    off : (late : Bool) → ((breaks_off late moment path keep d s).0.connection ≡ s.connection) × ((breaks_off late moment path keep d s).0.closing ≡ s.closing)
+    off true = (refl, refl)
+    off false = ends_shut (end_refusal path keep (broken d).content s) moment path keep (broken d).content Texts.Broken s
+
     by : (whole : Bool) → let e : Session × FixedReply = (if whole then ends_by (end_refusal path keep (ended d).content s) moment path keep
         (ended d).content Texts.Complete s
-        else ends_by (end_refusal path keep (broken d).content s) moment path keep (broken d).content Texts.Broken s) in
+        else breaks_off (is_overtaken keep) moment path keep d s) in
         (e.0.connection ≡ s.connection) × (e.0.closing ≡ s.closing)
     by true = ends_shut (end_refusal path keep (ended d).content s) moment path keep (ended d).content Texts.Complete s
-    by false = ends_shut (end_refusal path keep (broken d).content s) moment path keep (broken d).content Texts.Broken s
+    by false = off (is_overtaken keep)
 transfer_shut moment Transfers.OverLimit s = (refl, refl)
 transfer_shut moment (Transfers.Download rest) s = (refl, refl)
 transfer_shut moment (Transfers.Listing rest) s = (refl, refl)

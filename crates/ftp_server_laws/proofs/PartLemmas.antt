@@ -14,8 +14,8 @@ use Rattle.ftp_tree.specs.Tree.{Table, installed, node_at, octets_or_none, octet
 use Rattle.ftp_server_model.specs.Act.{decided, is_in}
 use Rattle.ftp_server_model.specs.Calls.{connection_of, listening_turn, unheard, port_opens_for, opens, refuses, takes_given, ends, breaks, control_end, clock_step, control_step, listening_step, no_port_step, opened_step, refused_step, end_step, break_step, close_step, given_step, grown, with_connection, takes_said, takes_all, takes_octet, takes_data}
 use Rattle.ftp_server_model.specs.Endpoint.{forgotten, disconnected}
-use Rattle.ftp_server_model.specs.Keep.{kept_count, kept_of}
-use Rattle.ftp_server_model.specs.Machine.{Ending, given_out, completed, obeyed, waited, later, is_idle, has_room, is_connection_busy, is_transferring, turned, replied, concluded, at_break, at_end, end_refusal, ends_by, installs, put_in, is_over, aborts, abort_said, with_session, owes}
+use Rattle.ftp_server_model.specs.Keep.{kept_count, kept_of, is_overtaken}
+use Rattle.ftp_server_model.specs.Machine.{Ending, given_out, completed, obeyed, waited, later, is_idle, has_room, is_connection_busy, is_transferring, turned, replied, concluded, at_break, at_end, end_refusal, ends_by, installs, put_in, is_over, aborts, abort_said, with_session, owes, breaks_off}
 use Rattle.ftp_server_model.specs.Play.{at_root, IsAt, no_nodes}
 use Rattle.ftp_server_model.specs.Replies.{Turn}
 use Rattle.ftp_server_model.specs.View.{Session, Transfer, View, seen}
@@ -218,7 +218,11 @@ installs_own moment path keep d text s =
     by_why (Some why) = unchanged s.root s (refusal_text why)
 
 break_own : (moment : ℕ) (transfer : Transfer) (s : Session) → EndAt s.root s (at_break moment transfer s) (at_break moment transfer (at s.root s))
-break_own moment (Transfers.Upload path keep d) s = installs_own moment path keep (broken d) Texts.Broken s
+break_own moment (Transfers.Upload path keep d) s = by (is_overtaken keep)
+  where
+    by : (late : Bool) → EndAt s.root s (breaks_off late moment path keep d s) (breaks_off late moment path keep d (at s.root s))
+    by true = unchanged s.root s Texts.Broken
+    by false = installs_own moment path keep (broken d) Texts.Broken s
 break_own moment Transfers.OverLimit s = unchanged s.root s Texts.TooMuch
 break_own moment (Transfers.Download rest) s = unchanged s.root s Texts.Broken
 break_own moment (Transfers.Listing rest) s = unchanged s.root s Texts.Broken

@@ -1,5 +1,5 @@
 -- What each line leaves short of a session, by what it does to the data connection and to the map; and how a transfer ends.
-use Rattle.std.proofs.Common.{◌≡◌, refl, sym, subst, ℕ, ◌+◌, ◌≤◌, List, Bool, Option, Some, None, arith, length}
+use Rattle.std.proofs.Common.{◌≡◌, refl, sym, subst, ℕ, ◌+◌, ◌≤◌, List, Bool, true, false, Option, Some, None, arith, length}
 use Rattle.std.proofs.lemmas.Bool.{cond_both}
 use Rattle.ftp_command.specs.declared.command.Command.{Command}
 use Rattle.ftp_wire.specs.Decoder.{Decoder, broken, ended, is_whole}
@@ -9,8 +9,8 @@ use Rattle.ftp_tree.specs.Tree.{Table, most_octets}
 use Rattle.ftp_server_model.specs.Act.{decided, forgets, is_transfer}
 use Rattle.ftp_server_model.specs.Endpoint.{forgotten, disconnected}
 use Rattle.ftp_server_model.specs.Held.{HasShortFiles}
-use Rattle.ftp_server_model.specs.Keep.{kept_count}
-use Rattle.ftp_server_model.specs.Machine.{Ending, end_refusal, ends_by, installs, put_together, at_break, at_end}
+use Rattle.ftp_server_model.specs.Keep.{kept_count, is_overtaken}
+use Rattle.ftp_server_model.specs.Machine.{Ending, end_refusal, ends_by, installs, put_together, at_break, at_end, breaks_off}
 use Rattle.ftp_server_model.specs.Replies.{Turn}
 use Rattle.ftp_server_model.specs.Transfer.{begin}
 use Rattle.ftp_server_model.specs.View.{Footing, Session, Transfer, direct_of}
@@ -108,7 +108,11 @@ installs_short moment path keep d text s k = by_why (end_refusal path keep d.con
     by_why (Some why) is = k
 
 pub break_short : (moment : ℕ) (transfer : Transfer) (s : Session) → IsShortSession s → IsShortSession (at_break moment transfer s).0
-break_short moment (Transfers.Upload path keep d) s k = installs_short moment path keep (broken d) Texts.Broken s k
+break_short moment (Transfers.Upload path keep d) s k = by (is_overtaken keep)
+  where
+    by : (late : Bool) → IsShortSession (breaks_off late moment path keep d s).0
+    by true = k
+    by false = installs_short moment path keep (broken d) Texts.Broken s k
 break_short moment Transfers.OverLimit s k = k
 break_short moment (Transfers.Download rest) s k = k
 break_short moment (Transfers.Listing rest) s k = k

@@ -42,7 +42,7 @@ down_called : (call : Call Own) (old new : Held Timed) → tree_by (Other call) 
     → Called server_machine (down_call call) old new
 unfolding down_call
 down_called (Aside Asks) old new none called = called
-down_called (Aside (Exchanged tree)) old new none called = absurd (cc)
+down_called (Aside (Exchanged exchange)) old new none called = absurd (cc)
 down_called (Listening port) old new none called = called
 down_called (Opened host asked at_first so_far rest) old new none called = called
 down_called (Refused asked) old new none called = called

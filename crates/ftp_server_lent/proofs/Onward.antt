@@ -12,8 +12,8 @@ use Rattle.ftp_server_drive.specs.Driving.{MakesTurns}
 use Rattle.ftp_server_drive.specs.Side.{server_side}
 use Rattle.ftp_server_lent.proofs.Raising.{Raised, raised, up_deed}
 use Rattle.ftp_server_lent.specs.Among.{LeadsAmong}
-use Rattle.ftp_server_lent.specs.Lending.{Exchanged, Holding, lent_at, lent_side, tree_by, tree_of, trees_in, with_tree_at}
-use Rattle.ftp_server_lent.specs.Turning.{AllGoOn, AreTurns, TakesTurn, Turn, goes_on, trees_of}
+use Rattle.ftp_server_lent.specs.Lending.{Exchange, Exchanged, Holding, found_at, lent_at, lent_side, own_again, tree_by, tree_of, trees_in, with_tree_at}
+use Rattle.ftp_server_lent.specs.Turning.{AllGoOn, AreTurns, TakesTurn, Turn, goes_on, lent_by, trees_of}
 
 -- deeds and then others
 pub led_append : (later before : List (Deed lent_side)) (a b c : Stand lent_side) → Led before a b → Led later b c → Led (later ++ before) a c
@@ -36,16 +36,16 @@ pub among_nowhere : (start : Stand lent_side) → LeadsAmong [] start start
 among_nowhere start = record { deeds = []; led = refl; brings = refl }
 
 -- its tree is exchanged
-pub among_exchange : (tree : Holding) (trees : List Holding) (start : Stand lent_side) (old : Stand server_side) → LeadsAmong trees start (lent_at old)
-    → LeadsAmong (tree ∷ trees) start (lent_at (with_tree_at tree old))
-among_exchange tree trees start old first = record {
-  deeds = Other (Aside (Exchanged tree)) ∷ first.deeds;
+pub among_exchange : (exchange : Exchange) (trees : List Exchange) (start : Stand lent_side) (old : Stand server_side) → LeadsAmong trees start (lent_at old)
+    → LeadsAmong (exchange ∷ trees) start (lent_at (with_tree_at exchange.tree (found_at exchange.stays old)))
+among_exchange exchange trees start old first = record {
+  deeds = Other (Aside (Exchanged exchange)) ∷ first.deeds;
   led = (lent_at old, first.led, ((refl, refl, tt), refl));
-  brings = ap (λ l. tree ∷ l) first.brings;
+  brings = ap (λ l. exchange ∷ l) first.brings;
 }
 
 -- deeds of a drive of its own follow
-pub among_deeds : (trees : List Holding) (start : Stand lent_side) (old new : Stand server_side) (deeds : List (Deed server_side)) → Led deeds old new
+pub among_deeds : (trees : List Exchange) (start : Stand lent_side) (old new : Stand server_side) (deeds : List (Deed server_side)) → Led deeds old new
     → LeadsAmong trees start (lent_at old) → LeadsAmong trees start (lent_at new)
 among_deeds trees start old new deeds led first =
     let more : Raised deeds old new = raised deeds old new led in
@@ -64,17 +64,18 @@ onward most failed old now (Ok (Turns.Over over)) on turned = absurd (cc)
 onward most failed old now (Err cause) on turned = absurd (cc)
 
 -- a turn that goes on: the tree that is lent, deeds, and its own tree
-pub takes_among : (turn : Turn) (trees : List Holding) (start : Stand lent_side) (old now : Stand server_side) → goes_on turn.went ≡ true
-    → TakesTurn turn old now → LeadsAmong trees start (lent_at old) → LeadsAmong (tree_of old.owner.end ∷ turn.lent ∷ trees) start (lent_at now)
+pub takes_among : (turn : Turn) (trees : List Exchange) (start : Stand lent_side) (old now : Stand server_side) → goes_on turn.went ≡ true
+    → TakesTurn turn old now → LeadsAmong trees start (lent_at old)
+    → LeadsAmong (own_again (tree_of old.owner.end) ∷ lent_by turn ∷ trees) start (lent_at now)
 takes_among turn trees start old now on takes first =
     let own : Holding = tree_of old.owner.end in
     let mid : Stand server_side = takes.mid in
-    let there : Stand server_side = with_tree_at turn.lent old in
+    let there : Stand server_side = with_tree_at turn.lent (found_at turn.stays old) in
     let leads : Leads there mid = onward turn.most turn.failed there mid turn.went on takes.turned in
-    let more : LeadsAmong (turn.lent ∷ trees) start (lent_at mid) =
-    among_deeds (turn.lent ∷ trees) start there mid leads.deeds leads.led (among_exchange turn.lent trees start old first) in
-    subst (λ (s : Stand server_side). LeadsAmong (own ∷ turn.lent ∷ trees) start (lent_at s)) (sym takes.own)
-    (among_exchange own (turn.lent ∷ trees) start mid more)
+    let more : LeadsAmong (lent_by turn ∷ trees) start (lent_at mid) =
+    among_deeds (lent_by turn ∷ trees) start there mid leads.deeds leads.led (among_exchange (lent_by turn) trees start old first) in
+    subst (λ (s : Stand server_side). LeadsAmong (own_again own ∷ lent_by turn ∷ trees) start (lent_at s)) (sym takes.own)
+    (among_exchange (own_again own) (lent_by turn ∷ trees) start mid more)
 
 -- it has its own tree again
 pub takes_own : (turn : Turn) (old now : Stand server_side) → TakesTurn turn old now → tree_of now.owner.end ≡ tree_of old.owner.end
@@ -95,9 +96,9 @@ goes (turn ∷ before) start now on turns =
     let mid : Stand server_side = turns.0 in
     let own : Holding = tree_of start.owner.end in
     let first : Goes before start mid = goes before start mid on.0 turns.1 in
-    let trees : List Holding = trees_of own before in
+    let trees : List Exchange = trees_of own before in
     record {
-      among = subst (λ (t : Holding). LeadsAmong (t ∷ turn.lent ∷ trees) (lent_at start) (lent_at now)) first.own
+      among = subst (λ (t : Holding). LeadsAmong (own_again t ∷ lent_by turn ∷ trees) (lent_at start) (lent_at now)) first.own
           (takes_among turn trees (lent_at start) mid now on.1 turns.2 first.among);
       own = takes_own turn mid now turns.2 ∙ first.own;
     }

@@ -15,10 +15,10 @@ use Rattle.ftp_server_drive.specs.Side.{server_side}
 use Rattle.ftp_server_lent.proofs.Onward.{Goes, among_deeds, among_exchange, goes, led_append, steps_append, trees_append}
 use Rattle.ftp_server_lent.proofs.Raising.{Raised, raised, up_breaks, up_deed, up_left}
 use Rattle.ftp_server_lent.specs.Among.{BrokeOffAmong, DrivesAmong, DroveAmong, IsOneDrive, LeadsAmong}
-use Rattle.ftp_server_lent.specs.Lending.{Holding, lent_at, lent_machine, lent_side, tree_of, trees_in, with_tree_at}
-use Rattle.ftp_server_lent.specs.Turning.{AllGoOn, AreTurns, TakesTurn, Turn, trees_of}
+use Rattle.ftp_server_lent.specs.Lending.{Exchange, Holding, found_at, lent_at, lent_machine, lent_side, tree_of, trees_in, with_tree_at}
+use Rattle.ftp_server_lent.specs.Turning.{AllGoOn, AreTurns, TakesTurn, Turn, lent_by, trees_of}
 
-module _ (trees : List Holding) (start : Stand lent_side) (unwritten : start.owner.lane.unwritten ≡ []) (untold : start.owner.lane.untold ≡ []) where
+module _ (trees : List Exchange) (start : Stand lent_side) (unwritten : start.owner.lane.unwritten ≡ []) (untold : start.owner.lane.untold ≡ []) where
   -- it is over
   pub drove_among : (old now : Stand server_side) → LeadsAmong trees start (lent_at old) → Finishes old now → DroveAmong trees start (lent_at now)
   drove_among old now first finishes =
@@ -102,12 +102,13 @@ one_drive turn before start now unwritten untold on turns =
     let mid : Stand server_side = turns.0 in
     let takes : TakesTurn turn mid now = turns.2 in
     let own : Holding = tree_of start.owner.end in
-    let trees : List Holding = trees_of own before in
+    let trees : List Exchange = trees_of own before in
     let first : Goes before start mid = goes before start mid on turns.1 in
     record {
       mid = takes.mid;
-      drives = makes_among (turn.lent ∷ trees) (lent_at start) unwritten untold turn.most turn.failed (with_tree_at turn.lent mid) takes.mid turn.went
-          (among_exchange turn.lent trees (lent_at start) mid first.among) takes.turned;
+      drives = makes_among (lent_by turn ∷ trees) (lent_at start) unwritten untold turn.most turn.failed
+          (with_tree_at turn.lent (found_at turn.stays mid)) takes.mid turn.went
+          (among_exchange (lent_by turn) trees (lent_at start) mid first.among) takes.turned;
       leaves = takes.leaves;
       own = takes.own ∙ ap (λ (t : Holding). with_tree_at t takes.mid) first.own;
     }

@@ -14,20 +14,20 @@ use Rattle.ftp_control_drive.specs.declared.drive.Turned.TheVariants as Turns
 use Rattle.ftp_server_model.specs.Calls.{wants}
 use Rattle.ftp_server_drive.specs.Driving.{Drives}
 use Rattle.ftp_server_drive.specs.Side.{Timed, server_side}
-use Rattle.ftp_server_lent.specs.Lending.{Holding, lent_at, lent_machine, lent_side, tree_of, trees_in, with_tree_at}
-use Rattle.ftp_server_lent.specs.Turning.{AllGoOn, AreTurns, Turn, trees_of}
+use Rattle.ftp_server_lent.specs.Lending.{Exchange, lent_at, lent_machine, lent_side, tree_of, trees_in, with_tree_at}
+use Rattle.ftp_server_lent.specs.Turning.{AllGoOn, AreTurns, Turn, lent_by, trees_of}
 
 -- ---- how a drive goes, with these trees brought by its deeds, the last one first; each is word for word what it is of a server of its own
 
 -- deeds led from here to there
-pub record LeadsAmong (trees : List Holding) (start now : Stand lent_side) : Type 0 where
+pub record LeadsAmong (trees : List Exchange) (start now : Stand lent_side) : Type 0 where
   pub deeds : List (Deed lent_side)
   pub led : Led deeds start now
   pub brings : trees_in deeds ≡ trees
 
 -- it is over: all that the server said was written, and it heard all that was read but for what is not heard yet; it is done with the control connection,
 -- and its data connection was left last
-pub record DroveAmong (trees : List Holding) (start now : Stand lent_side) : Type 0 where
+pub record DroveAmong (trees : List Exchange) (start now : Stand lent_side) : Type 0 where
   pub asked : Asked
   pub did : Did lent_machine (Other (Left asked) ∷ []) start now
   pub over : wants now.owner.end.server.view ≡ CloseAll
@@ -35,7 +35,7 @@ pub record DroveAmong (trees : List Holding) (start now : Stand lent_side) : Typ
 
 -- it broke off, for this cause, whether a read or a write failed or not: a beginning of what it said was written; then it was told that the control
 -- connection ended, and its data connection was left, by an end only where none was unwritten and it had no more to give
-pub record BrokeOffAmong (cause : Cause) (failed : Bool) (trees : List Holding) (start now : Stand lent_side) : Type 0 where
+pub record BrokeOffAmong (cause : Cause) (failed : Bool) (trees : List Exchange) (start now : Stand lent_side) : Type 0 where
   pub off : Stand lent_side
   pub breaks : BreaksOff lent_machine true cause failed start off
   pub stays : now ≡ with_owner now.owner off
@@ -48,7 +48,7 @@ pub record BrokeOffAmong (cause : Cause) (failed : Bool) (trees : List Holding) 
   pub brings : trees_in breaks.deeds ≡ trees
 
 -- one of these, as turns went that came last, where a read or a write of the control connection failed or not
-abbrev pub DrivesAmong : (failed : Bool) → (trees : List Holding) → (start now : Stand lent_side) → Result (Turned ⊤) Cause → Type 0
+abbrev pub DrivesAmong : (failed : Bool) → (trees : List Exchange) → (start now : Stand lent_side) → Result (Turned ⊤) Cause → Type 0
 DrivesAmong failed trees start now (Ok (Turns.Over over)) = DroveAmong trees start now
 DrivesAmong failed trees start now (Ok Turns.Later) = LeadsAmong trees start now
 DrivesAmong failed trees start now (Ok Turns.More) = LeadsAmong trees start now
@@ -60,7 +60,7 @@ DrivesAmong failed trees start now (Err cause) = BrokeOffAmong cause failed tree
 -- turn what the drive left of the tree is given back, and it has its own again
 pub record IsOneDrive (turn : Turn) (before : List Turn) (start now : Stand server_side) : Type 0 where
   pub mid : Stand server_side
-  pub drives : DrivesAmong turn.failed (turn.lent ∷ trees_of (tree_of start.owner.end) before) (lent_at start) (lent_at mid) turn.went
+  pub drives : DrivesAmong turn.failed (lent_by turn ∷ trees_of (tree_of start.owner.end) before) (lent_at start) (lent_at mid) turn.went
   pub leaves : turn.left ≡ tree_of mid.owner.end
   pub own : now ≡ with_tree_at (tree_of start.owner.end) mid
 

@@ -1,10 +1,10 @@
 -- Sessions that are driven over one tree, which is lent to the one whose turn it is (own choice).
-use Rattle.std.specs.Prelude.{◌≡◌, ℕ, eqb, List, [], ◌∷◌, Some, slice_get, slice_set, if◌then◌else◌}
+use Rattle.std.specs.Prelude.{◌≡◌, ⊤, ℕ, eqb, List, [], ◌∷◌, Some, slice_get, slice_set, if◌then◌else◌}
 use Rattle.ftp_control.specs.Deeds.{Stand}
 use Rattle.ftp_server_drive.specs.Side.{server_side}
 use Rattle.ftp_server_lent.specs.Among.{IsOneDrive}
 use Rattle.ftp_server_lent.specs.Lending.{Holding}
-use Rattle.ftp_server_lent.specs.Turning.{AllGoOn, TakesTurn, Turn}
+use Rattle.ftp_server_lent.specs.Turning.{AllGoOn, TakesTurn, Turn, told_by}
 
 -- the one tree, and the sessions in their seats
 pub record Shared : Type 0 where
@@ -31,16 +31,21 @@ abbrev pub Happens : Event → (old new : Shared) → Type 0
 Happens (Turns seat turn) old new = TurnsIn seat turn old new
 Happens (Looks tree) old new = new ≡ record old { tree = tree }
 
--- events, the last one first
-abbrev pub Happened : List Event → (start now : Shared) → Type 0
-Happened [] start now = now ≡ start
-Happened (event ∷ before) start now = (mid : Shared) × Happened before start mid × Happens event mid now
-
 -- the turns of the session in a seat, in the same order
 abbrev pub turns_in : ℕ → List Event → List Turn
 turns_in seat [] = []
 turns_in seat (Looks tree ∷ before) = turns_in seat before
 turns_in seat (Turns other turn ∷ before) = if eqb other seat then turn ∷ turns_in seat before else turns_in seat before
+
+-- a turn is told what the last one of the same session told, whatever happened since
+abbrev pub IsTold : Event → (before : List Event) → Type 0
+IsTold (Turns seat turn) before = turn.stood ≡ told_by (turns_in seat before)
+IsTold (Looks tree) before = ⊤
+
+-- events, the last one first
+abbrev pub Happened : List Event → (start now : Shared) → Type 0
+Happened [] start now = now ≡ start
+Happened (event ∷ before) start now = (mid : Shared) × Happened before start mid × Happens event mid now × IsTold event before
 
 -- Whatever the others do: all turns of a session are one drive, in which its tree is exchanged for the one that stands when it is its turn. It begins where
 -- no octets of a data connection are on their way or in hand, and takes no turn once its drive is over or broke off

@@ -23,7 +23,7 @@ use Rattle.ftp_reply.specs.Reply.{last_line}
 use Rattle.ftp_server_model.specs.Calls.{connection_of, listening_turn, unheard, port_opens_for, opens, refuses, takes_given, ends, breaks, clocked, gives_control, control_end, listening, listen_refused, data_opened, data_refused, gives_data, data_end, data_fault, data_closed, clock_step, control_step, listening_step, no_port_step, opened_step, refused_step, end_step, break_step, close_step, given_step}
 use Rattle.ftp_server_model.specs.Endpoint.{forgotten, disconnected}
 use Rattle.ftp_server_model.specs.Kept.{owed_limit, WaitingKeeps, ServerKeeps, StartKeeps, EachCallKeeps}
-use Rattle.ftp_server_model.specs.Machine.{Reading, IsReading, Ending, given_out, completed, obeyed, waited, later, is_idle, is_connection_busy, is_transferring, is_abort, has_room, turned, replied, concluded, end_refusal, ends_by, installs, at_break, at_end, aborts, abort_said, aborted, heard_line, heard_event, heard_events, hears_octet, may_hear, with_session}
+use Rattle.ftp_server_model.specs.Machine.{Reading, IsReading, Ending, given_out, completed, obeyed, waited, later, is_idle, is_connection_busy, is_transferring, is_abort, has_room, turned, replied, concluded, end_refusal, ends_by, installs, at_break, at_end, aborts, abort_said, aborted, heard_line, heard_event, heard_events, hears_octet, may_hear, with_session, breaks_off}
 use Rattle.ftp_server_model.specs.Replies.{Turn, said_octets, fixed_reply, passive_text, extended_text}
 use Rattle.ftp_server_model.specs.Texts.{text_of, code_of}
 use Rattle.ftp_server_model.specs.Told.{CanBeHeard, ConnectionKeeps, TransferKeeps, Keeps, IsBrief, TurnKeeps}
@@ -44,6 +44,7 @@ use Rattle.ftp_server_model.specs.declared.session.ServerLink.TheVariants as Dat
 use Rattle.ftp_server_model.specs.declared.session.Transfer.TheVariants as Transfers
 use Rattle.ftp_server_model.proofs.RepliesWritten.{lines_short, replies_have_room}
 use Rattle.ftp_server_model.proofs.TurnLemmas.{forgotten_keeps, connection_keeps, pending_keeps, line_keeps, read_can_be_heard}
+use Rattle.ftp_server_model.specs.Keep.{is_overtaken}
 
 -- ---- how many octets a short reply has
 
@@ -229,7 +230,11 @@ installs_keeps moment path keep d text s k = by_why (end_refusal path keep d.con
     by_why (Some why) = (k, refl)
 
 break_keeps : (moment : ℕ) (transfer : Transfer) (s : Session) → Keeps s → EndingKeeps s (at_break moment transfer s)
-break_keeps moment (Transfers.Upload path keep d) s k = installs_keeps moment path keep (broken d) Texts.Broken s k
+break_keeps moment (Transfers.Upload path keep d) s k = by (is_overtaken keep)
+  where
+    by : (late : Bool) → EndingKeeps s (breaks_off late moment path keep d s)
+    by true = unchanged s Texts.Broken k
+    by false = installs_keeps moment path keep (broken d) Texts.Broken s k
 break_keeps moment Transfers.OverLimit s k = unchanged s Texts.TooMuch k
 break_keeps moment (Transfers.Download rest) s k = unchanged s Texts.Broken k
 break_keeps moment (Transfers.Listing rest) s k = unchanged s Texts.Broken k

@@ -10,6 +10,7 @@ pub mod RowNumbers
 pub mod ServerBounds
 pub mod ServerRows
 pub mod ServerUploads
+pub mod StandingLemmas
 pub mod PathTexts
 pub mod TurnLemmas
 pub mod UploadLemmas

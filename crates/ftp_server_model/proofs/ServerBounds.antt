@@ -7,7 +7,7 @@ use Rattle.ftp_ends.specs.Link.{same_host}
 use Rattle.ftp_server_model.specs.Calls.{connection_of, given_by, to_give, listening_turn, unheard, port_opens_for, opens, refuses, takes_given, ends, breaks, control_end, clock_step, control_step, listening_step, no_port_step, opened_step, refused_step, end_step, break_step, close_step, given_step, with_connection}
 use Rattle.ftp_server_model.specs.Endpoint.{is_standing, disconnected}
 use Rattle.ftp_server_model.specs.Failing.{LineFails, WaitingFails, Late, InstallFails, install_lost, Ended, Given}
-use Rattle.ftp_server_model.specs.Machine.{given_out, completed, obeyed, waited, later, is_idle, turned, concluded, faulted, Ending, end_refusal, ends_by, installs, at_break, at_end}
+use Rattle.ftp_server_model.specs.Machine.{given_out, completed, obeyed, waited, later, is_idle, turned, concluded, faulted, Ending, end_refusal, ends_by, installs, at_break, at_end, breaks_off}
 use Rattle.ftp_server_model.specs.View.{Session, Transfer, View}
 use Rattle.ftp_server_model.specs.declared.session.Keep.{Keep}
 use Rattle.ftp_direct.specs.declared.refusal.Refusal.{Refusal}
@@ -24,6 +24,7 @@ use Rattle.ftp_server_model.specs.declared.session.ServerLink.TheVariants as Dat
 use Rattle.ftp_server_model.specs.declared.session.Transfer.TheVariants as Transfers
 use Rattle.ftp_server_model.specs.declared.session.Way.TheVariants as Ways
 use Rattle.ftp_ends.proofs.Counts.{one_if, one_close}
+use Rattle.ftp_server_model.specs.Keep.{is_overtaken}
 
 -- ---- steps one after another
 
@@ -208,7 +209,11 @@ installs_gone moment path keep d text s = by_why (end_refusal path keep d.conten
     by_why (Some why) = refl
 
 pub break_gone : (moment : ℕ) (transfer : Transfer) (s : Session) → (at_break moment transfer s).0.connection ≡ s.connection
-break_gone moment (Transfers.Upload path keep d) s = installs_gone moment path keep (broken d) Texts.Broken s
+break_gone moment (Transfers.Upload path keep d) s = by (is_overtaken keep)
+  where
+    by : (late : Bool) → (breaks_off late moment path keep d s).0.connection ≡ s.connection
+    by true = refl
+    by false = installs_gone moment path keep (broken d) Texts.Broken s
 break_gone moment Transfers.OverLimit s = refl
 break_gone moment (Transfers.Download rest) s = refl
 break_gone moment (Transfers.Listing rest) s = refl

@@ -13,6 +13,7 @@ pub mod Listing
 pub mod Transfer
 pub mod Act
 pub mod Machine
+pub mod Standing
 pub mod InFlight
 pub mod Told
 pub mod Calls

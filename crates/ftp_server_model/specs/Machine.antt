@@ -14,7 +14,7 @@ use Rattle.ftp_direct.specs.declared.refusal.Refusal.{Refusal}
 use Rattle.ftp_ends.specs.Ear.{ear_step, ear_out}
 use Rattle.ftp_wire.specs.Decoder.{Decoder, is_whole, ended, broken}
 use Rattle.ftp_server_model.specs.View.{Session, Transfer, View, direct_of, line_limit, seen, with_seen}
-use Rattle.ftp_server_model.specs.Keep.{kept_count, kept_of, lacks}
+use Rattle.ftp_server_model.specs.Keep.{is_overtaken, kept_count, kept_of, lacks}
 use Rattle.ftp_server_model.specs.Walk.{refusal_text}
 use Rattle.ftp_server_model.specs.declared.session.Keep.{Keep}
 use Rattle.ftp_server_model.specs.Replies.{Turn, fixed_reply, reply_octets, said_octets}
@@ -128,9 +128,15 @@ ends_by None moment path keep octets text s = (put_in moment path keep octets s,
 abbrev pub installs : (moment : ℕ) → Names → Keep → Decoder → FixedReply → Session → Ending
 installs moment path keep d text s = ends_by (end_refusal path keep d.content s) moment path keep d.content text s
 
--- the data connection broke, or the transfer is aborted: what was settled of an upload is kept (own choice)
+-- what was settled of an upload that broke is installed; where others changed what stands at its path since it began, nothing of it is, and the
+-- map is as it was
+abbrev pub breaks_off : (overtaken : Bool) → (moment : ℕ) → Names → Keep → Decoder → Session → Ending
+breaks_off true moment path keep d s = (s, Texts.Broken)
+breaks_off false moment path keep d s = installs moment path keep (broken d) Texts.Broken s
+
+-- the data connection broke, or the transfer is aborted: what was settled of an upload is kept, unless it was overtaken (own choice)
 abbrev pub at_break : (moment : ℕ) → Transfer → Session → Ending
-at_break moment (Transfers.Upload path keep d) s = installs moment path keep (broken d) Texts.Broken s
+at_break moment (Transfers.Upload path keep d) s = breaks_off (is_overtaken keep) moment path keep d s
 at_break moment Transfers.OverLimit s = (s, Texts.TooMuch)
 at_break moment (Transfers.Download rest) s = (s, Texts.Broken)
 at_break moment (Transfers.Listing rest) s = (s, Texts.Broken)

@@ -16,4 +16,4 @@ pub use far::{Far, SureFar};
 pub use heard::{Answered, HeardLine, TOLD_LIMIT};
 pub use reply::{FixedReply, ReplyKind};
 pub use room::{FREE_ROOM, OUTPUT_ROOM};
-pub use session::{Access, Keep, Life, PassiveVerb, Pending, ServerLink, Transfer, Way};
+pub use session::{Access, Keep, Life, PassiveVerb, Pending, ServerLink, Standing, Transfer, Way};

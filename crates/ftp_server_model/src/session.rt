@@ -65,13 +65,26 @@ pub enum ServerLink<J> {
     Transferring(J),
 }
 
-/// What an upload keeps of the file that stands at its path, in front of what comes.
+/// What an upload keeps of the file that stands at its path, in front of what comes; and whether others changed what stands there since it began.
 #[derive(Clone, Copy)]
 pub enum Keep {
     /// The octets before a place: none at 0.
     First(u64),
     /// All that stand there when it ends (APPE); so many stood when it began, which its restart markers count.
     All(u64),
+    /// As `First`, of an upload at whose path others changed what stands. It is put there only if it is whole.
+    FirstOvertaken(u64),
+    /// As `All`, of such an upload.
+    AllOvertaken(u64),
+}
+
+/// What stands at the path of an upload, as far as a change of it is seen.
+#[derive(Clone, Copy)]
+pub enum Standing {
+    Nothing,
+    Dir,
+    /// A file of so many octets, installed at a moment in seconds.
+    File { size: u64, moment: u64 },
 }
 
 /// A transfer; `D` is what came of an upload, `W` what is still to be given of a download, `L` of a listing.

@@ -4,6 +4,7 @@ ghost use Rattle.ftp_wire.specs.Decoder.{no_octets};
 ghost use Rattle.ftp_server_model.specs.Ask.{or_empty};
 ghost use Rattle.ftp_server_model.specs.Listing.{entry_lines, list_lines, listing_wire, name_lines};
 ghost use Rattle.ftp_server_model.specs.Machine.{at_break, at_end};
+ghost use Rattle.ftp_server_model.specs.Standing.{overtaken, standing_for};
 ghost use Rattle.ftp_server_model.specs.Transfer.{file_wire};
 ghost use Rattle.ftp_server_model.specs.View.{Session as Seen};
 ghost use Rattle.ftp_server_model.specs.declared.session.Transfer.TheVariants as Transfers;
@@ -19,7 +20,7 @@ use ftp_command::Argument;
 use ftp_facts::{Facts, Moment};
 use ftp_operation::Rights;
 use ftp_path::Path;
-use ftp_server_model::{FixedReply, Keep};
+use ftp_server_model::{FixedReply, Keep, Standing};
 use ftp_settings::{MARKER_LIMIT, Mode, Representation};
 use ftp_tree::Tree;
 use std::alloc::{AllocError, Allocator};
@@ -152,6 +153,14 @@ pub trait ServerTransfer<A: Allocator + Copy, T: Tree<A>>: Drop {
     /// Whether all is given.
     fn is_given_out(&self) -> bool
         ensures { result ≡ is_out (view self.now) };
+
+    /// What stands at the path of an upload; none of another transfer.
+    fn stands(&self, tree: &T, root: &Path<A>) -> Option<Standing>
+        ensures { result ≡ standing_for (view self.now) (under (T.table tree.now) root.now) };
+
+    /// Others changed what stands at the path of an upload: from now on it is put there only if it is whole. Another transfer stays as it is.
+    fn overtake(&mut self)
+        ensures { view self.new ≡ overtaken (view self.old) };
 
     /// The other end closed the data connection: what came of an upload is put into the tree, or refused there, by an account that
     /// may change so much. The reply that ends the transfer.

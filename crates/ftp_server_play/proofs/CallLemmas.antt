@@ -19,17 +19,6 @@ use Rattle.ftp_server_play.specs.declared.cue.Gift.{Gift as Given}
 pub by_cue : (cue arm : Cue) (gift : Gift) (old new : Server) → cue ≡ arm → Makes arm gift old new → Makes cue gift old new
 by_cue cue arm gift old new is makes = subst (λ k. Makes k gift old new) (sym is) makes
 
--- the same of an outcome
-pub on_cue : {A E : Type 0} (cue arm : Cue) (r : Result (Given A) E) (old new : Server) → cue ≡ arm → IfOk r (λ gift. MakesOnCourse arm (gift_of gift) old new)
-    → IfOk r (λ gift. MakesOnCourse cue (gift_of gift) old new)
-on_cue cue arm r old new is makes = subst (λ k. IfOk r (λ gift. MakesOnCourse k (gift_of gift) old new)) (sym is) makes
-
--- what is made is made so where the device did not stray
-pub made_on_course : {A E : Type 0} (cue : Cue) (r : Result (Given A) E) (old new : Server)
-    → IfOk r (λ gift. Makes cue (gift_of gift) old new) → IfOk r (λ gift. MakesOnCourse cue (gift_of gift) old new)
-made_on_course cue (Ok gift) old new makes = λ course. makes
-made_on_course cue (Err fault) old new makes = tt
-
 -- where the device did not stray
 pub on_course : {A E : Type 0} (cue : Cue) (r : Result (Given A) E) (old new : Server) → KeepsCourse old.counts new.counts
     → IfOk r (λ gift. MakesOnCourse cue (gift_of gift) old new) → IfOk r (λ gift. Makes cue (gift_of gift) old new)

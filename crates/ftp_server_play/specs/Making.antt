@@ -29,6 +29,23 @@ pub record GivesSome (count room : ℕ) (old new : Server) : Type 0 where
   pub now : Steps (GiveFails count) (given_step count) old new
   pub most : new.counts ≡ old.counts → count ≡ most_given room (to_give old.view)
 
+-- room for how many octets a call has
+abbrev pub room_of : Cue → ℕ
+room_of (ControlOut room) = room
+room_of (DataOut room) = room
+room_of (Clock moment) = 0
+room_of (Hear octets) = 0
+room_of ControlEnd = 0
+room_of (Listening port) = 0
+room_of ListenRefused = 0
+room_of (DataOpened host) = 0
+room_of DataRefused = 0
+room_of (DataHear octets) = 0
+room_of DataEnd = 0
+room_of DataFault = 0
+room_of DataClosed = 0
+room_of AsksWants = 0
+
 -- one call was made, and gave this
 abbrev pub Makes : Cue → Gift → (old new : Server) → Type 0
 Makes (Clock moment) gift old new = (gift ≡ Nothing) × Acts (clock_step moment) old new

@@ -5,6 +5,6 @@ mod calling;
 mod cue;
 mod playing;
 
-pub use calling::make;
+pub use calling::{make, make_into, room_for};
 pub use cue::{Cue, Gift, Played};
 pub use playing::{Plays, calm_after, is_same, keep};

@@ -4,20 +4,19 @@ use Rattle.std.specs.Option.{unwrap_or}
 use Rattle.std.specs.Prelude.{if◌then◌else◌}
 use Rattle.std.proofs.lemmas.List.{length-map, take-map}
 use Rattle.std.proofs.lemmas.Option.{slice_get-map}
-use Rattle.ftp_server_model.specs.Far.{Server}
 use Rattle.ftp_server_model.specs.Machine.{IsReading, Reading}
 use Rattle.ftp_server_model.specs.Play.{Gift, Nothing}
-use Rattle.ftp_server_model.specs.View.{View}
 use Rattle.ftp_server_model.specs.declared.counts.Counts.{Counts as Told}
 use Rattle.ftp_server_play.specs.Order.{OneMore}
 use Rattle.ftp_server_several.proofs.CompanyLemmas.{company_is_unseen}
 use Rattle.ftp_server_several.proofs.OwnLemmas.{each_is_server}
 use Rattle.ftp_server_several.proofs.SeatLemmas.{get-set_same}
 use Rattle.ftp_server_several.specs.Company.{given_to_us}
-use Rattle.ftp_server_several.specs.Several.{Several, Turn, called, called_as, given_to, left_by_all}
+use Rattle.ftp_server_several.specs.Several.{Seat, Several, Turn, called, called_as, given_to, left_by_all}
 use Rattle.ftp_server_seats.proofs.LentLemmas.{turned_gives}
 use Rattle.ftp_server_seats.specs.Playing.{AreTaken, EachIsOwn, IsCalm, KeepsCompany, PlaysSeveral, Takes, TakesSome, given_by, ours_of, told_at, turn_of, turns_of}
-use Rattle.ftp_server_seats.specs.Seats.{Seats, Turned, refusals_at, several_of}
+use Rattle.ftp_server_seats.specs.Lent.{Seated}
+use Rattle.ftp_server_seats.specs.Seats.{Seats, Turned, refusals_at, seat_of, several_of}
 use Rattle.ftp_server_seats.specs.declared.playing.Turn.{Turn as Held}
 
 -- a turn in which nothing failed is that of the definitions
@@ -25,10 +24,9 @@ takes_gives : (turn : Turn) (gift : Gift) (old new : Seats) → Takes turn gift 
     → (gift, several_of new) ≡ called read turn (several_of old)
 takes_gives turn gift old new (inl turned) calm read is = turned_gives turn gift old new turned calm.0 calm.1 read is
 takes_gives turn gift old new (inr nobody) calm read is =
-    let sees : Server → View = λ s. s.view in
-    let free : slice_get (map sees old.seats) turn.seat ≡ None = slice_get-map sees old.seats turn.seat ∙ ap (option_map sees) nobody.free in
+    let free : slice_get (map seat_of old.seats) turn.seat ≡ None = slice_get-map seat_of old.seats turn.seat ∙ ap (option_map seat_of) nobody.free in
     let here : ◌≡◌ {A = Gift × Several} (gift, several_of new) (called_as read turn.seat turn.cue None (several_of old)) = λ i. (nobody.none i, several_of (nobody.stays i)) in
-    here ∙ sym (ap (λ (who : Option View). called_as read turn.seat turn.cue who (several_of old)) free)
+    here ∙ sym (ap (λ (who : Option Seat). called_as read turn.seat turn.cue who (several_of old)) free)
 
 -- what a turn gave, and then the rest
 given_on : (read : Reading) (turn : Turn) (gift : Gift) (s t : Several) (gifts : List Gift) (turns : List Turn) → (gift, t) ≡ called read turn s → gifts ≡ given_by read turns t
@@ -140,13 +138,13 @@ somebody_takes turn gift old new before after was is is_calm turned kept told_ol
     count : Option ℕ → ℕ
     count found = unwrap_or found 0
 
-    refused : Server → ℕ
-    refused s = s.counts.refusals
+    refused : Seated → ℕ
+    refused s = s.server.counts.refusals
 
     sits_old : refusals_at turn.seat old ≡ Some (refused turned.before)
     sits_old = ap (option_map refused) turned.sits
 
     sits_new : refusals_at turn.seat new ≡ Some (refused turned.after)
     sits_new =
-        ap (λ (items : List Server). option_map refused (slice_get items turn.seat)) turned.left
+        ap (λ (items : List Seated). option_map refused (slice_get items turn.seat)) turned.left
         ∙ ap (option_map refused) (get-set_same old.seats turn.seat turned.before turned.after turned.sits)

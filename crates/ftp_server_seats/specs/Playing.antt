@@ -4,12 +4,11 @@ use Rattle.std.specs.Option.{unwrap_or}
 use Rattle.ftp_path.specs.Path.{Names}
 use Rattle.ftp_server_model.specs.Machine.{IsReading, Reading}
 use Rattle.ftp_server_model.specs.Play.{Gift, Nothing}
-use Rattle.ftp_server_model.specs.View.{View}
 use Rattle.ftp_server_model.specs.declared.counts.Counts.{Counts as Told}
 use Rattle.ftp_server_play.specs.Cues.{cue_of}
 use Rattle.ftp_server_play.specs.Order.{CalmFirst}
 use Rattle.ftp_server_several.specs.Company.{AreSeated, IsCompany, TurnsAreAt, alone, given_to_us, our_turns}
-use Rattle.ftp_server_several.specs.Several.{Several, Turn, called, calls_of, left_by_all, played_on}
+use Rattle.ftp_server_several.specs.Several.{Seat, Several, Turn, called, calls_of, left_by_all, played_on}
 use Rattle.ftp_server_seats.specs.Seats.{Seats, Turned, refusals_at, several_of}
 use Rattle.ftp_server_seats.specs.declared.playing.Turn.{Turn as Held}
 
@@ -73,7 +72,7 @@ ours_of ours (turn ∷ turns) (gift ∷ gifts) = if ours turn.seat then gift ∷
 -- Of the first turns: what a session was given is what a server of its own gives to its calls, whose map is exchanged before each
 abbrev pub EachIsOwn : (calm : ℕ) → List Turn → List Gift → Seats → Type 0
 EachIsOwn calm turns gifts old =
-    (read : Reading) (seat : ℕ) (v : View) → IsReading read → slice_get (several_of old).seats seat ≡ Some v
+    (read : Reading) (seat : ℕ) (v : Seat) → IsReading read → slice_get (several_of old).seats seat ≡ Some v
     → ours_of (λ other. eqb other seat) (take calm turns) (take calm gifts) ≡ played_on read (calls_of read seat (take calm turns) (several_of old)) v
 
 -- Of the first turns: what sessions below one root were given, beside others below roots that have no path with it in common, is what they are given without

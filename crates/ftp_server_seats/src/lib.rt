@@ -6,4 +6,4 @@ mod sessions;
 
 pub use ftp_server_play::{Cue, Gift, Played};
 pub use playing::Turn;
-pub use sessions::Sessions;
+pub use sessions::{Seated, Sessions};

@@ -82,7 +82,7 @@ impl<A: Allocator + Copy, T: SureTree<A>, F: Lends<A, T>> Sessions<A, T, F> {
         ensures { result ≡ told_at seat (seats_of T.table T.failures F.Far.server self.now) }
     {
         Counts {
-            refusals: self.seats[seat].counts().refusals,
+            refusals: self.seats[seat].server.counts().refusals,
             failures: self.tree.device_failures(),
         }
     }

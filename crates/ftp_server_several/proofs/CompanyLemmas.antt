@@ -14,8 +14,9 @@ use Rattle.ftp_server_laws.proofs.HeardLemmas.{heard_at, received_at}
 use Rattle.ftp_server_laws.proofs.TurnLemmas.{IsHeld}
 use Rattle.ftp_server_laws.proofs.SeenLemmas.{inside_at, outside_at}
 use Rattle.ftp_server_laws.proofs.PartLemmas.{StepAt, ViewAt, acts_at, break_at, clock_at, close_at, control_at, control_end_at, end_at, given_at, listening_at, no_port_at, opened_at, refused_step_at, stays}
-use Rattle.ftp_server_several.specs.Several.{Several, Turn, called, called_as, exchanged}
+use Rattle.ftp_server_several.specs.Several.{Seat, Several, Turn, called, called_as, exchanged, lent_to, seated_again}
 use Rattle.ftp_server_several.specs.Company.{AreSeated, CompanyIsUnseen, IsCompany, IsSeated, TurnIsAt, TurnsAreAt, alone, given_to_us, our_turns}
+use Rattle.ftp_server_several.proofs.LentLemmas.{lent_in_part, lent_seated, standing_in_part}
 use Rattle.ftp_server_several.proofs.LimitLemmas.{call_keeps}
 use Rattle.ftp_server_several.proofs.SeatLemmas.{get-set_same, get-set_other}
 
@@ -57,9 +58,13 @@ call_at read root DataClosed v before held known = acted root v (close_step v) (
 call_at read root AsksWants v before held known = record { gift = refl; is = stays root v held; known = known }
 
 -- of a session that is called with the map that stands
-seated_call : (read : Reading) (root : Names) (cue : Cue) (table : Table) (v : View) → IsSeated root v → CallIsAt read root cue (exchanged table v)
-    → CallAt root (exchanged table v) (call read cue (exchanged table v)) (call read cue (exchanged (only_at root table) v))
-seated_call read root cue table v seated known = call_at read root cue (exchanged table v) seated.known seated.held known
+seated_call : (read : Reading) (root : Names) (cue : Cue) (table : Table) (sits : Seat) → IsSeated root sits.view → CallIsAt read root cue (lent_to table sits)
+    → CallAt root (lent_to table sits) (call read cue (lent_to table sits)) (call read cue (lent_to (only_at root table) sits))
+seated_call read root cue table sits seated known =
+    let v : View = exchanged table sits.view in
+    let here : IsSeated root (lent_to table sits) = lent_seated root sits.stood v (record { known = seated.known; held = seated.held }) in
+    subst (λ (w : View). CallAt root (lent_to table sits) (call read cue (lent_to table sits)) (call read cue w)) (sym (lent_in_part root sits.stood v seated.held))
+    (call_at read root cue (lent_to table sits) here.known here.held known)
 
 -- ---- maps
 
@@ -76,33 +81,33 @@ same_part root table other limits same =
 
 -- ---- seats
 
-the_same : (one other : View) → Some one ≡ Some other → one ≡ other
-the_same one other is = ap (λ (found : Option View). unwrap_or found one) is
+the_same : (one other : Seat) → Some one ≡ Some other → one ≡ other
+the_same one other is = ap (λ (found : Option Seat). unwrap_or found one) is
 
 -- who was called is seated still
-called_seated : (read : Reading) (root : Names) (cue : Cue) (table : Table) (v : View) → IsSeated root v → CallIsAt read root cue (exchanged table v)
-    → IsSeated root (exchanged v.session.table (call read cue (exchanged table v)).1)
-called_seated read root cue table v seated known =
-    let c = seated_call read root cue table v seated known in
+called_seated : (read : Reading) (root : Names) (cue : Cue) (table : Table) (sits : Seat) → IsSeated root sits.view → CallIsAt read root cue (lent_to table sits)
+    → IsSeated root (seated_again sits.view.session.table (call read cue (lent_to table sits)).1).view
+called_seated read root cue table sits seated known =
+    let c = seated_call read root cue table sits seated known in
     record { known = c.known; held = c.is.held }
 
 -- so all are
 still_seated : (read : Reading) (roots : ℕ → Names) (turn : Turn) (s : Several) → AreSeated roots s.seats → TurnIsAt read roots turn s → AreSeated roots (called read turn s).1.seats
 still_seated read roots turn s seated at = by (slice_get s.seats turn.seat) refl
   where
-    by : (found : Option View) → slice_get s.seats turn.seat ≡ found → AreSeated roots (called_as read turn.seat turn.cue found s).1.seats
+    by : (found : Option Seat) → slice_get s.seats turn.seat ≡ found → AreSeated roots (called_as read turn.seat turn.cue found s).1.seats
     by None is = seated
     by (Some v) is = λ seat w sits. one seat w sits (eqb_tells turn.seat seat)
       where
-        left : View
-        left = exchanged v.session.table (call read turn.cue (exchanged s.table v)).1
+        left : Seat
+        left = seated_again v.view.session.table (call read turn.cue (lent_to s.table v)).1
 
-        one : (seat : ℕ) (w : View) → slice_get (slice_set s.seats turn.seat left) seat ≡ Some w
-            → ((eqb turn.seat seat ≡ true) × (turn.seat ≡ seat)) ⊎ ((eqb turn.seat seat ≡ false) × (turn.seat ≢ seat)) → IsSeated (roots seat) w
+        one : (seat : ℕ) (w : Seat) → slice_get (slice_set s.seats turn.seat left) seat ≡ Some w
+            → ((eqb turn.seat seat ≡ true) × (turn.seat ≡ seat)) ⊎ ((eqb turn.seat seat ≡ false) × (turn.seat ≢ seat)) → IsSeated (roots seat) w.view
         one seat w sits (inl same) =
             let is_left : left ≡ w = the_same left w (sym (get-set_same s.seats turn.seat v left is) ∙ ap (slice_get (slice_set s.seats turn.seat left)) same.1 ∙ sits) in
-            subst (λ (n : ℕ). IsSeated (roots n) w) same.1
-            (subst (IsSeated (roots turn.seat)) is_left (called_seated read (roots turn.seat) turn.cue s.table v (seated turn.seat v is) (at v is)))
+            subst (λ (n : ℕ). IsSeated (roots n) w.view) same.1
+            (subst (λ (who : Seat). IsSeated (roots turn.seat) who.view) is_left (called_seated read (roots turn.seat) turn.cue s.table v (seated turn.seat v is) (at v is)))
         one seat w sits (inr other) = seated seat w (sym (get-set_other s.seats turn.seat seat left other.1) ∙ sits)
 
 -- ---- with the others and without them
@@ -117,8 +122,8 @@ record GoesAlike (root : Names) (ours : ℕ → Bool) (one its : Gift × Several
   pub gift : one.0 ≡ its.0
   pub lone : IsLone root ours one.1 its.1
 
-our_turn : (read : Reading) (root : Names) (ours : ℕ → Bool) (turn : Turn) (s its : Several) (v : View) → IsLone root ours s its → slice_get s.seats turn.seat ≡ Some v
-    → slice_get its.seats turn.seat ≡ Some v → IsSeated root v → CallIsAt read root turn.cue (exchanged s.table v)
+our_turn : (read : Reading) (root : Names) (ours : ℕ → Bool) (turn : Turn) (s its : Several) (v : Seat) → IsLone root ours s its → slice_get s.seats turn.seat ≡ Some v
+    → slice_get its.seats turn.seat ≡ Some v → IsSeated root v.view → CallIsAt read root turn.cue (lent_to s.table v)
     → GoesAlike root ours (called_as read turn.seat turn.cue (Some v) s) (called_as read turn.seat turn.cue (Some v) its)
 our_turn read root ours turn s its v lone sits its_sits seated known = record {
   gift = sym c.gift ∙ ap (λ (r : Gift × View). r.0) e;
@@ -128,25 +133,35 @@ our_turn read root ours turn s its v lone sits its_sits seated known = record {
   };
 }
   where
-    c : CallAt root (exchanged s.table v) (call read turn.cue (exchanged s.table v)) (call read turn.cue (exchanged (only_at root s.table) v))
+    own : Table
+    own = v.view.session.table
+
+    c : CallAt root (lent_to s.table v) (call read turn.cue (lent_to s.table v)) (call read turn.cue (lent_to (only_at root s.table) v))
     c = seated_call read root turn.cue s.table v seated known
 
-    e : call read turn.cue (exchanged (only_at root s.table) v) ≡ call read turn.cue (exchanged its.table v)
-    e = ap (λ (t : Table). call read turn.cue (exchanged t v)) (sym lone.table)
+    e : call read turn.cue (lent_to (only_at root s.table) v) ≡ call read turn.cue (lent_to its.table v)
+    e = ap (λ (t : Table). call read turn.cue (lent_to t v)) (sym lone.table)
 
-    left : View
-    left = exchanged v.session.table (call read turn.cue (exchanged s.table v)).1
+    after : View
+    after = (call read turn.cue (lent_to s.table v)).1
 
-    its_left : View
-    its_left = exchanged v.session.table (call read turn.cue (exchanged its.table v)).1
+    left : Seat
+    left = seated_again own after
+
+    its_left : Seat
+    its_left = seated_again own (call read turn.cue (lent_to its.table v)).1
+
+    -- what stands at the path of an upload is the same in the part of the map
+    again : seated_again own (at_root root after) ≡ left
+    again = λ i. record { view = exchanged own after; stood = standing_in_part root after c.is.held i }
 
     lefts : its_left ≡ left
-    lefts = ap (λ (r : Gift × View). exchanged v.session.table r.1) (sym e) ∙ ap (exchanged v.session.table) c.is.same
+    lefts = ap (λ (r : Gift × View). seated_again own r.1) (sym e) ∙ ap (seated_again own) c.is.same ∙ again
 
     one : (seat : ℕ) → ours seat ≡ true → ((eqb turn.seat seat ≡ true) × (turn.seat ≡ seat)) ⊎ ((eqb turn.seat seat ≡ false) × (turn.seat ≢ seat))
         → slice_get (slice_set its.seats turn.seat its_left) seat ≡ slice_get (slice_set s.seats turn.seat left) seat
     one seat mine (inl same) =
-        ap (slice_get (slice_set its.seats turn.seat its_left)) (sym same.1) ∙ get-set_same its.seats turn.seat v its_left its_sits ∙ ap (λ (w : View). Some w) lefts
+        ap (slice_get (slice_set its.seats turn.seat its_left)) (sym same.1) ∙ get-set_same its.seats turn.seat v its_left its_sits ∙ ap (λ (w : Seat). Some w) lefts
         ∙ sym (get-set_same s.seats turn.seat v left sits) ∙ ap (slice_get (slice_set s.seats turn.seat left)) same.1
     one seat mine (inr other) =
         get-set_other its.seats turn.seat seat its_left other.1 ∙ lone.seats seat mine ∙ sym (get-set_other s.seats turn.seat seat left other.1)
@@ -154,29 +169,29 @@ our_turn read root ours turn s its v lone sits its_sits seated known = record {
 our_turns_alike : (read : Reading) (root : Names) (ours : ℕ → Bool) (roots : ℕ → Names) (turn : Turn) (s its : Several) → IsCompany root ours roots → ours turn.seat ≡ true
     → IsLone root ours s its → AreSeated roots s.seats → TurnIsAt read roots turn s → GoesAlike root ours (called read turn s) (called read turn its)
 our_turns_alike read root ours roots turn s its company mine lone seated at =
-    subst (λ (found : Option View). GoesAlike root ours (called read turn s) (called_as read turn.seat turn.cue found its)) (sym (lone.seats turn.seat mine)) (by (slice_get s.seats turn.seat) refl)
+    subst (λ (found : Option Seat). GoesAlike root ours (called read turn s) (called_as read turn.seat turn.cue found its)) (sym (lone.seats turn.seat mine)) (by (slice_get s.seats turn.seat) refl)
   where
-    by : (found : Option View) → slice_get s.seats turn.seat ≡ found
+    by : (found : Option Seat) → slice_get s.seats turn.seat ≡ found
         → GoesAlike root ours (called_as read turn.seat turn.cue found s) (called_as read turn.seat turn.cue found its)
     by None is = record { gift = refl; lone = lone }
     by (Some v) is =
-        our_turn read root ours turn s its v lone is (lone.seats turn.seat mine ∙ is) (subst (λ (top : Names). IsSeated top v) (company.same turn.seat mine) (seated turn.seat v is))
-        (subst (λ (top : Names). CallIsAt read top turn.cue (exchanged s.table v)) (company.same turn.seat mine) (at v is))
+        our_turn read root ours turn s its v lone is (lone.seats turn.seat mine ∙ is) (subst (λ (top : Names). IsSeated top v.view) (company.same turn.seat mine) (seated turn.seat v is))
+        (subst (λ (top : Names). CallIsAt read top turn.cue (lent_to s.table v)) (company.same turn.seat mine) (at v is))
 
 -- a turn of another leaves ours as they were
 their_turn : (read : Reading) (root : Names) (ours : ℕ → Bool) (roots : ℕ → Names) (turn : Turn) (s its : Several) → IsCompany root ours roots → ours turn.seat ≡ false
     → IsLone root ours s its → AreSeated roots s.seats → TurnIsAt read roots turn s → IsLone root ours (called read turn s).1 its
 their_turn read root ours roots turn s its company theirs lone seated at = by (slice_get s.seats turn.seat) refl
   where
-    by : (found : Option View) → slice_get s.seats turn.seat ≡ found → IsLone root ours (called_as read turn.seat turn.cue found s).1 its
+    by : (found : Option Seat) → slice_get s.seats turn.seat ≡ found → IsLone root ours (called_as read turn.seat turn.cue found s).1 its
     by None is = lone
     by (Some v) is =
         let c = seated_call read (roots turn.seat) turn.cue s.table v (seated turn.seat v is) (at v is) in
         record {
-          table = lone.table ∙ sym (same_part root (call read turn.cue (exchanged s.table v)).1.session.table s.table (call_keeps read turn.cue (exchanged s.table v)) (λ path inside. c.is.apart path (company.apart turn.seat path theirs inside)));
+          table = lone.table ∙ sym (same_part root (call read turn.cue (lent_to s.table v)).1.session.table s.table (call_keeps read turn.cue (lent_to s.table v)) (λ path inside. c.is.apart path (company.apart turn.seat path theirs inside)));
           seats = λ seat mine.
               lone.seats seat mine
-              ∙ sym (get-set_other s.seats turn.seat seat (exchanged v.session.table (call read turn.cue (exchanged s.table v)).1)
+              ∙ sym (get-set_other s.seats turn.seat seat (seated_again v.view.session.table (call read turn.cue (lent_to s.table v)).1)
               (λ same. true≢false (sym mine ∙ ap ours (sym same) ∙ theirs)));
         }
 

@@ -25,7 +25,7 @@ use Rattle.ftp_server_model.specs.declared.session.ServerLink.{ServerLink}
 use Rattle.ftp_server_model.specs.declared.session.ServerLink.TheVariants as Data
 use Rattle.ftp_server_model.specs.declared.session.Transfer.TheVariants as Transfers
 use Rattle.ftp_server_several.specs.Deeds.{AreDeeds, CallsAreDeeds, Deed, Deeds, IsSame, TurnsAreDeeds, acts as acted, ends as ended, breaks as broke, rests}
-use Rattle.ftp_server_several.specs.Several.{Several, Turn, exchanged}
+use Rattle.ftp_server_several.specs.Several.{Seat, Several, Turn, lent_to}
 use Rattle.ftp_server_several.proofs.OwnLemmas.{maps_follow}
 
 -- ---- deeds in order
@@ -277,4 +277,4 @@ calls_are_deeds read AsksWants v = none v
 
 pub turns_are_deeds : TurnsAreDeeds
 turns_are_deeds read turn s v at =
-    ((call read turn.cue (exchanged s.table v)).1, calls_are_deeds read turn.cue (exchanged s.table v), maps_follow read turn s v at)
+    ((call read turn.cue (lent_to s.table v)).1, calls_are_deeds read turn.cue (lent_to s.table v), maps_follow read turn s v at)

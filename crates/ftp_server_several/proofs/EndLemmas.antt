@@ -22,14 +22,14 @@ use Rattle.ftp_settings.specs.Representation.{same_kind, same_structure}
 use Rattle.ftp_tree.specs.Tree.{installed, octets_or_none, whenever}
 use Rattle.ftp_tree.specs.declared.fault.TreeFault.TheVariants as Faults
 use Rattle.ftp_wire.specs.Decoder.{Decoder, broken, ended, is_whole}
-use Rattle.ftp_server_model.specs.Keep.{lacks}
-use Rattle.ftp_server_model.specs.Machine.{at_break, end_refusal, ends_by, installs, put_in, put_together}
+use Rattle.ftp_server_model.specs.Keep.{is_overtaken, lacks}
+use Rattle.ftp_server_model.specs.Machine.{at_break, breaks_off, end_refusal, ends_by, installs, put_in, put_together}
 use Rattle.ftp_server_model.specs.View.{Session, direct_of, seen, with_seen}
 use Rattle.ftp_server_model.specs.Walk.{path_of, refusal_text}
 use Rattle.ftp_server_model.specs.declared.reply.FixedReply.{FixedReply}
 use Rattle.ftp_server_model.specs.declared.reply.FixedReply.TheVariants as Texts
 use Rattle.ftp_server_model.specs.declared.session.Keep.{Keep}
-use Rattle.ftp_server_model.specs.declared.session.Keep.TheVariants.{First, All}
+use Rattle.ftp_server_model.specs.declared.session.Keep.TheVariants.{First, All, FirstOvertaken, AllOvertaken}
 use Rattle.ftp_server_model.specs.declared.session.Transfer.TheVariants as Transfers
 use Rattle.ftp_server_several.specs.Deeds.{EndAnswers, EndsAreDirect, EndsAs, IsPut, counts_octets}
 use Rattle.ftp_server_several.proofs.LineLemmas.{same_code}
@@ -126,15 +126,38 @@ module _ (moment : ℕ) (text : List ℕ) (octets : List ℕ) (reply : FixedRepl
           (ap (λ (b : Bool). or_refused (barred_put (direct_of s) path) (or_refused (refused_name (whenever (not b) Faults.BadOffset)) (put_refusal (direct_of s) path (length (take place stands ++ octets))))) past)
           (λ none. absurd (never (barred_put (direct_of s) path) none))
 
-  -- what came of an upload to a path that this text names
-  ends : (keep : Keep) (op : Op (List ℕ)) → EndsAs keep text octets op → EndAnswers reply s (due (direct_of s) op moment) (installs_by keep)
-  ends (All count) op asks = subst (λ (o : Op (List ℕ)). EndAnswers reply s (due (direct_of s) o moment) (installs_by (All count))) (sym asks.1) (append_ends count asks.0)
-  ends (First place) op (inl whole) =
+  -- what came of an upload to a path that this text names: behind all octets that stand there
+  behind_all : (count : ℕ) (op : Op (List ℕ)) → EndsAs (All count) text octets op → EndAnswers reply s (due (direct_of s) op moment) (installs_by (All count))
+  behind_all count op asks =
+      subst (λ (o : Op (List ℕ)). EndAnswers reply s (due (direct_of s) o moment) (installs_by (All count))) (sym asks.1) (append_ends count asks.0)
+
+  -- or behind so many of the first
+  behind_first : (place : ℕ) (op : Op (List ℕ)) → EndsAs (First place) text octets op → EndAnswers reply s (due (direct_of s) op moment) (installs_by (First place))
+  behind_first place op (inl whole) =
       subst (λ (o : Op (List ℕ)). EndAnswers reply s (due (direct_of s) o moment) (installs_by (First place))) (sym whole.2)
       (subst (λ (n : ℕ). EndAnswers reply s (due (direct_of s) (Ops.Put text octets whole.0) moment) (installs_by (First n))) (sym whole.1) (put_ends whole.0))
-  ends (First place) op (inr from) =
+  behind_first place op (inr from) =
       let image = counts_both from.0 from.1 in
       subst (λ (o : Op (List ℕ)). EndAnswers reply s (due (direct_of s) o moment) (installs_by (First place))) (sym from.2) (from_ends place from.0 image.0 image.1)
+
+  -- one that was overtaken ends as it would have
+  overtaken_all : (count : ℕ) (why : Option Refusal) → ends_by why moment path (All count) octets reply s ≡ ends_by why moment path (AllOvertaken count) octets reply s
+  overtaken_all count None = refl
+  overtaken_all count (Some why) = refl
+
+  overtaken_first : (place : ℕ) (why : Option Refusal)
+      → ends_by why moment path (First place) octets reply s ≡ ends_by why moment path (FirstOvertaken place) octets reply s
+  overtaken_first place None = refl
+  overtaken_first place (Some why) = refl
+
+  -- each of them
+  ends : (keep : Keep) (op : Op (List ℕ)) → EndsAs keep text octets op → EndAnswers reply s (due (direct_of s) op moment) (installs_by keep)
+  ends (All count) op asks = behind_all count op asks
+  ends (First place) op asks = behind_first place op asks
+  ends (AllOvertaken count) op asks =
+      subst (EndAnswers reply s (due (direct_of s) op moment)) (overtaken_all count (end_refusal path (All count) octets s)) (behind_all count op asks)
+  ends (FirstOvertaken place) op asks =
+      subst (EndAnswers reply s (due (direct_of s) op moment)) (overtaken_first place (end_refusal path (First place) octets s)) (behind_first place op asks)
 
 put_direct : (moment : ℕ) (path : Names) (keep : Keep) (octets : List ℕ) (reply : FixedReply) (s : Session)
     → IsPut moment path keep octets reply s (ends_by (end_refusal path keep octets s) moment path keep octets reply s)
@@ -142,13 +165,29 @@ put_direct moment goal keep octets reply s text op at asks =
     subst (λ (p : Names). EndAnswers reply s (due (direct_of s) op moment) (ends_by (end_refusal p keep octets s) moment p keep octets reply s)) at
     (ends moment text octets reply s keep op asks)
 
+-- it broke, and nobody changed what stands at its path
+off_direct : (moment : ℕ) (path : Names) (keep : Keep) (d : Decoder) (s : Session) → is_overtaken keep ≡ false
+    → IsPut moment path keep (broken d).content Texts.Broken s (at_break moment (Transfers.Upload path keep d) s)
+off_direct moment path keep d s own text op at asks =
+    subst (λ (late : Bool). EndAnswers Texts.Broken s (due (direct_of s) op moment) (breaks_off late moment path keep d s)) (sym own)
+    (put_direct moment path keep (broken d).content Texts.Broken s text op at asks)
+
+-- somebody did
+off_overtaken : (moment : ℕ) (path : Names) (keep : Keep) (d : Decoder) (s : Session) → is_overtaken keep ≡ true
+    → at_break moment (Transfers.Upload path keep d) s ≡ (s, Texts.Broken)
+off_overtaken moment path keep d s late = ap (λ (b : Bool). breaks_off b moment path keep d s) late
+
 pub ends_direct : EndsAreDirect
 ends_direct = record {
   whole = λ moment path keep d s whole text op at asks.
       subst (λ (b : Bool). EndAnswers Texts.Complete s (due (direct_of s) op moment) (if b then installs moment path keep (ended d) Texts.Complete s else at_break moment (Transfers.Upload path keep d) s)) (sym whole)
       (put_direct moment path keep (ended d).content Texts.Complete s text op at asks);
-  early = λ moment path keep d s early text op at asks.
+  early = λ moment path keep d s early own text op at asks.
       subst (λ (b : Bool). EndAnswers Texts.Broken s (due (direct_of s) op moment) (if b then installs moment path keep (ended d) Texts.Complete s else at_break moment (Transfers.Upload path keep d) s)) (sym early)
-      (put_direct moment path keep (broken d).content Texts.Broken s text op at asks);
-  broke = λ moment path keep d s text op at asks. put_direct moment path keep (broken d).content Texts.Broken s text op at asks;
+      (off_direct moment path keep d s own text op at asks);
+  broke = off_direct;
+  overtaken_early = λ moment path keep d s early late.
+      ap (λ (b : Bool). if b then installs moment path keep (ended d) Texts.Complete s else at_break moment (Transfers.Upload path keep d) s) early
+      ∙ off_overtaken moment path keep d s late;
+  overtaken_broke = off_overtaken;
 }

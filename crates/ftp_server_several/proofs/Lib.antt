@@ -1,6 +1,7 @@
 pub mod SeatLemmas
 pub mod OwnLemmas
 pub mod DeedLemmas
+pub mod LentLemmas
 pub mod LineLemmas
 pub mod OtherLemmas
 pub mod EndLemmas

@@ -1,5 +1,5 @@
 -- No call changes the limits of the map.
-use Rattle.std.proofs.Common.{◌≡◌, ◌∙◌, ℕ, List, [], ◌∷◌, Bool, Option, Some, None, refl, ap}
+use Rattle.std.proofs.Common.{◌≡◌, ◌∙◌, ℕ, List, [], ◌∷◌, Bool, true, false, Option, Some, None, refl, ap}
 use Rattle.std.proofs.lemmas.Bool.{cond_both}
 use Rattle.ftp_direct.specs.Direct.{State}
 use Rattle.ftp_direct.specs.declared.refusal.Refusal.{Refusal}
@@ -8,7 +8,7 @@ use Rattle.ftp_tree.proofs.PartLemmas.{part-limits, under-limits}
 use Rattle.ftp_tree.specs.Tree.{Table, installed}
 use Rattle.ftp_wire.specs.Decoder.{broken, ended, is_whole}
 use Rattle.ftp_server_model.specs.Act.{decided}
-use Rattle.ftp_server_model.specs.Machine.{at_break, at_end, completed, end_refusal, ends_by, installs, obeyed, put_together, turned}
+use Rattle.ftp_server_model.specs.Machine.{at_break, at_end, completed, end_refusal, ends_by, installs, obeyed, put_together, turned, breaks_off}
 use Rattle.ftp_server_model.specs.Play.{Cue, call}
 use Rattle.ftp_server_model.specs.View.{Footing, Session, Transfer, View, seen, with_seen}
 use Rattle.ftp_server_model.specs.Machine.{Reading}
@@ -24,6 +24,7 @@ use Rattle.ftp_server_several.proofs.DeedLemmas.{calls_are_deeds, same_given_out
 use Rattle.ftp_server_laws.specs.Maps.{Changes, Mapped, MappedSo, Unchanged, line_changes}
 use Rattle.ftp_server_laws.proofs.FileLemmas.{installed-limits}
 use Rattle.ftp_server_laws.proofs.LineTurns.{lines_change_the_map}
+use Rattle.ftp_server_model.specs.Keep.{is_overtaken}
 
 -- a session over a map of the same limits
 abbrev Keeps : (s t : Session) → Type 0
@@ -63,7 +64,11 @@ put_keeps None moment path keep octets text s =
     part_keeps s (installed (seen s) path (put_together path keep octets s) moment) (installed-limits (seen s) path (put_together path keep octets s) moment)
 
 break_keeps : (moment : ℕ) (transfer : Transfer) (s : Session) → Keeps s (at_break moment transfer s).0
-break_keeps moment (Transfers.Upload path keep d) s = put_keeps (end_refusal path keep (broken d).content s) moment path keep (broken d).content Texts.Broken s
+break_keeps moment (Transfers.Upload path keep d) s = by (is_overtaken keep)
+  where
+    by : (late : Bool) → Keeps s (breaks_off late moment path keep d s).0
+    by true = refl
+    by false = put_keeps (end_refusal path keep (broken d).content s) moment path keep (broken d).content Texts.Broken s
 break_keeps moment Transfers.OverLimit s = refl
 break_keeps moment (Transfers.Download rest) s = refl
 break_keeps moment (Transfers.Listing rest) s = refl

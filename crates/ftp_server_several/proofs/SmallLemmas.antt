@@ -8,8 +8,9 @@ use Rattle.ftp_server_model.specs.Play.{call}
 use Rattle.ftp_server_model.specs.View.{View}
 use Rattle.ftp_server_laws.specs.Small.{IsSmall}
 use Rattle.ftp_server_laws.proofs.Theorems.{calls_stay_small}
-use Rattle.ftp_server_several.specs.Several.{Several, called_as, exchanged}
+use Rattle.ftp_server_several.specs.Several.{Seat, Several, called_as, exchanged, lent_to, seated_again}
 use Rattle.ftp_server_several.specs.Small.{AllStaySmall, AreSmall}
+use Rattle.ftp_server_several.proofs.LentLemmas.{lent_small}
 use Rattle.ftp_server_several.proofs.SeatLemmas.{get-set_same, get-set_other}
 
 -- a small session is small with any map whose files are within the limit
@@ -28,25 +29,27 @@ exchanged_small table v files k = record {
 pub all_stay_small : AllStaySmall
 all_stay_small read turn s reading typed k = by (slice_get s.seats turn.seat) refl
   where
-    by : (found : Option View) → slice_get s.seats turn.seat ≡ found → AreSmall (called_as read turn.seat turn.cue found s).1
+    by : (found : Option Seat) → slice_get s.seats turn.seat ≡ found → AreSmall (called_as read turn.seat turn.cue found s).1
     by None is = k
     by (Some v) is = record { files = after.short.session.files; seats = λ seat w sits. one seat w sits (eqb_tells turn.seat seat) }
       where
-        before : IsSmall v
+        before : IsSmall v.view
         before = k.seats turn.seat v is
 
-        after : IsSmall (call read turn.cue (exchanged s.table v)).1
-        after = calls_stay_small read turn.cue (exchanged s.table v) reading typed (exchanged_small s.table v k.files before)
+        after : IsSmall (call read turn.cue (lent_to s.table v)).1
+        after =
+            calls_stay_small read turn.cue (lent_to s.table v) reading typed
+            (lent_small v.stood (exchanged s.table v.view) (exchanged_small s.table v.view k.files before))
 
-        left : View
-        left = exchanged v.session.table (call read turn.cue (exchanged s.table v)).1
+        left : Seat
+        left = seated_again v.view.session.table (call read turn.cue (lent_to s.table v)).1
 
-        small : IsSmall left
-        small = exchanged_small v.session.table (call read turn.cue (exchanged s.table v)).1 before.short.session.files after
+        small : IsSmall left.view
+        small = exchanged_small v.view.session.table (call read turn.cue (lent_to s.table v)).1 before.short.session.files after
 
-        one : (seat : ℕ) (w : View) → slice_get (slice_set s.seats turn.seat left) seat ≡ Some w
-            → ((eqb turn.seat seat ≡ true) × (turn.seat ≡ seat)) ⊎ ((eqb turn.seat seat ≡ false) × (turn.seat ≢ seat)) → IsSmall w
+        one : (seat : ℕ) (w : Seat) → slice_get (slice_set s.seats turn.seat left) seat ≡ Some w
+            → ((eqb turn.seat seat ≡ true) × (turn.seat ≡ seat)) ⊎ ((eqb turn.seat seat ≡ false) × (turn.seat ≢ seat)) → IsSmall w.view
         one seat w sits (inl same) =
-            subst IsSmall
-            (ap (λ (found : Option View). unwrap_or found left) (sym (get-set_same s.seats turn.seat v left is) ∙ ap (slice_get (slice_set s.seats turn.seat left)) same.1 ∙ sits)) small
+            subst (λ (who : Seat). IsSmall who.view)
+            (ap (λ (found : Option Seat). unwrap_or found left) (sym (get-set_same s.seats turn.seat v left is) ∙ ap (slice_get (slice_set s.seats turn.seat left)) same.1 ∙ sits)) small
         one seat w sits (inr other) = k.seats seat w (sym (get-set_other s.seats turn.seat seat left other.1) ∙ sits)

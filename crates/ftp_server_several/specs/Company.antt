@@ -4,7 +4,7 @@ use Rattle.ftp_path.specs.Path.{Names, is_within}
 use Rattle.ftp_server_model.specs.Machine.{Reading, is_transferring}
 use Rattle.ftp_server_model.specs.Play.{Gift, CallIsAt, IsAt, only_at}
 use Rattle.ftp_server_model.specs.View.{View}
-use Rattle.ftp_server_several.specs.Several.{Several, Turn, called, exchanged}
+use Rattle.ftp_server_several.specs.Several.{Seat, Several, Turn, called, lent_to}
 
 -- who is logged in has this root, and so has whose transfer stands
 pub record IsSeated (root : Names) (v : View) : Type 0 where
@@ -12,12 +12,12 @@ pub record IsSeated (root : Names) (v : View) : Type 0 where
   pub held : is_transferring v.session.connection ≡ true → v.session.root ≡ root
 
 -- each session has a root
-abbrev pub AreSeated : (ℕ → Names) → List View → Type 0
-AreSeated roots seats = (seat : ℕ) (v : View) → slice_get seats seat ≡ Some v → IsSeated (roots seat) v
+abbrev pub AreSeated : (ℕ → Names) → List Seat → Type 0
+AreSeated roots seats = (seat : ℕ) (sits : Seat) → slice_get seats seat ≡ Some sits → IsSeated (roots seat) sits.view
 
 -- each login that succeeds in a turn is to the root of its session
 abbrev pub TurnIsAt : Reading → (ℕ → Names) → Turn → Several → Type 0
-TurnIsAt read roots turn s = (v : View) → slice_get s.seats turn.seat ≡ Some v → CallIsAt read (roots turn.seat) turn.cue (exchanged s.table v)
+TurnIsAt read roots turn s = (sits : Seat) → slice_get s.seats turn.seat ≡ Some sits → CallIsAt read (roots turn.seat) turn.cue (lent_to s.table sits)
 
 -- so it is in all of them
 abbrev pub TurnsAreAt : Reading → (ℕ → Names) → List Turn → Several → Type 0

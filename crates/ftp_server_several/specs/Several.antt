@@ -1,7 +1,9 @@
 -- Several sessions over one map: one history of single calls (own choice).
 use Rattle.std.specs.Prelude.{◌≡◌, ℕ, eqb, Bool, true, false, List, [], ◌∷◌, Option, Some, None, slice_get, slice_set, if◌then◌else◌}
 use Rattle.ftp_tree.specs.Tree.{Table}
+use Rattle.ftp_server_model.specs.Standing.{overtaken_unless, standing_of, still_stands}
 use Rattle.ftp_server_model.specs.View.{View}
+use Rattle.ftp_server_model.specs.declared.session.Standing.{Standing}
 use Rattle.ftp_server_model.specs.Machine.{Reading}
 use Rattle.ftp_server_model.specs.Play.{Cue, Gift, Nothing, call}
 
@@ -9,10 +11,28 @@ use Rattle.ftp_server_model.specs.Play.{Cue, Gift, Nothing, call}
 abbrev pub exchanged : Table → View → View
 exchanged table v = record v { session = record v.session { table = table } }
 
--- the map that stands, and the sessions, each in its seat; the map in a session's own view is of no matter
+-- a session between two of its calls: the map in its own view is of no matter; and what stood at the path of its upload after the last of them
+pub record Seat : Type 0 where
+  pub view : View
+  pub stood : Option Standing
+
+-- The view of a call, which has the map that stands. Where others changed what stands at the path of an upload that is under way, the upload is overtaken:
+-- nothing is put there unless it comes whole
+abbrev pub lent_as : (stood : Option Standing) → View → View
+lent_as stood v =
+    record v { session = record v.session { connection = overtaken_unless (still_stands stood (standing_of v.session)) v.session.connection } }
+
+abbrev pub lent_to : Table → Seat → View
+lent_to table one = lent_as one.stood (exchanged table one.view)
+
+-- what a call leaves of a session in its seat
+abbrev pub seated_again : (own : Table) → View → Seat
+seated_again own v = record { view = exchanged own v; stood = standing_of v.session }
+
+-- the map that stands, and the sessions, each in its seat
 pub record Several : Type 0 where
   pub table : Table
-  pub seats : List View
+  pub seats : List Seat
 
 -- a call of the session in a seat
 pub record Turn : Type 0 where
@@ -20,11 +40,11 @@ pub record Turn : Type 0 where
   pub cue : Cue
 
 -- it is made with the map that stands, and the map that it leaves stands from then on
-abbrev pub called_as : Reading → ℕ → Cue → Option View → Several → Gift × Several
+abbrev pub called_as : Reading → ℕ → Cue → Option Seat → Several → Gift × Several
 called_as read seat cue None s = (Nothing, s)
-called_as read seat cue (Some v) s =
-    let one = call read cue (exchanged s.table v) in
-    (one.0, record { table = one.1.session.table; seats = slice_set s.seats seat (exchanged v.session.table one.1) })
+called_as read seat cue (Some sits) s =
+    let one = call read cue (lent_to s.table sits) in
+    (one.0, record { table = one.1.session.table; seats = slice_set s.seats seat (seated_again sits.view.session.table one.1) })
 
 abbrev pub called : Reading → Turn → Several → Gift × Several
 called read turn s = called_as read turn.seat turn.cue (slice_get s.seats turn.seat) s
@@ -51,20 +71,22 @@ calls_of read seat (turn ∷ turns) s =
     else calls_of read seat turns (called read turn s).1
 
 -- what a server of its own gives to these calls, whose map is exchanged before each
-unfoldable pub played_on : Reading → List (Table × Cue) → View → List Gift
-played_on read [] v = []
-played_on read (one ∷ more) v = (call read one.1 (exchanged one.0 v)).0 ∷ played_on read more (call read one.1 (exchanged one.0 v)).1
+unfoldable pub played_on : Reading → List (Table × Cue) → Seat → List Gift
+played_on read [] sits = []
+played_on read (one ∷ more) sits =
+    (call read one.1 (lent_to one.0 sits)).0
+    ∷ played_on read more (seated_again sits.view.session.table (call read one.1 (lent_to one.0 sits)).1)
 
 -- ---- the laws
 
 -- each session of several is the server of the definitions, whose map others change between two of its calls
 abbrev pub EachIsServer : Type 0
 EachIsServer =
-    (read : Reading) (turns : List Turn) (s : Several) (seat : ℕ) (v : View) → slice_get s.seats seat ≡ Some v
-    → given_to read seat turns s ≡ played_on read (calls_of read seat turns s) v
+    (read : Reading) (turns : List Turn) (s : Several) (seat : ℕ) (sits : Seat) → slice_get s.seats seat ≡ Some sits
+    → given_to read seat turns s ≡ played_on read (calls_of read seat turns s) sits
 
 -- turns in order are one history: whichever the sessions are, the map after the first is that before the second
 abbrev pub MapsFollow : Type 0
 MapsFollow =
-    (read : Reading) (turn : Turn) (s : Several) (v : View) → slice_get s.seats turn.seat ≡ Some v
-    → (called read turn s).1.table ≡ (call read turn.cue (exchanged s.table v)).1.session.table
+    (read : Reading) (turn : Turn) (s : Several) (sits : Seat) → slice_get s.seats turn.seat ≡ Some sits
+    → (called read turn s).1.table ≡ (call read turn.cue (lent_to s.table sits)).1.session.table

@@ -1,7 +1,7 @@
 //! What holds of several sessions over one map: functions that do nothing, whose contracts are laws.
 ghost use Rattle.ftp_server_several.specs.Asked.{LinesAreDirect, OthersLeaveTheMap};
 ghost use Rattle.ftp_server_several.specs.Company.{CompanyIsUnseen};
-ghost use Rattle.ftp_server_several.specs.Deeds.{CallsAreDeeds, EndsAreDirect, TurnsAreDeeds};
+ghost use Rattle.ftp_server_several.specs.Deeds.{CallsAreDeeds, EndsAreDirect, OthersOvertake, TurnsAreDeeds};
 ghost use Rattle.ftp_server_several.specs.Small.{AllStaySmall};
 ghost use Rattle.ftp_server_several.specs.Several.{EachIsServer, MapsFollow};
 
@@ -23,11 +23,17 @@ pub fn all_stay_small()
 {}
 
 /// Each line that asks for an operation is answered as the direct run answers on the map that stands, and leaves what that leaves; each other line leaves
-/// the map. Each upload is put at its end as the direct run puts it on the map that stands then.
+/// the map. Each upload is put at its end as the direct run puts it on the map that stands then; but one that was overtaken leaves the map where it breaks or
+/// is cut off.
 pub fn lines_are_direct()
     ensures lines { LinesAreDirect }
     ensures others { OthersLeaveTheMap }
     ensures ends { EndsAreDirect }
+{}
+
+/// An upload at whose path others changed what stands is overtaken, and stays so; one at whose path that still stands is not.
+pub fn others_overtake()
+    ensures { OthersOvertake }
 {}
 
 /// Each call is made of lines that are acted on and ends of uploads, one after another, and of what the direct run sees nothing of; so is each turn of

@@ -7,3 +7,4 @@ pub mod ListingLemmas
 pub mod MarkLemmas
 pub mod ReceiveLemmas
 pub mod RefusalLemmas
+pub mod StandingLemmas

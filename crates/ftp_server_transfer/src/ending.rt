@@ -3,7 +3,7 @@
 ghost use Rattle.std.specs.Prelude.{◌≡◌, ◌≤◌, ◌⊎◌, ◌+◌, ℕ, List, is_none, is_some, length, nat_le, not, take};
 ghost use Rattle.std.specs.Option.{IfSome, option_map};
 ghost use Rattle.ftp_tree.specs.Change.{Failures, next_count};
-ghost use Rattle.ftp_server_model.specs.Keep.{kept_count, kept_of, lacks};
+ghost use Rattle.ftp_server_model.specs.Keep.{is_overtaken, kept_count, kept_of, lacks, overtaken_keep};
 ghost use Rattle.ftp_server_model.specs.Machine.{end_refusal};
 ghost use Rattle.ftp_server_model.specs.View.{Session};
 ghost use Rattle.ftp_server_model.specs.Walk.{refusal_text};
@@ -24,7 +24,28 @@ pub(crate) fn kept_count(keep: Keep) -> u64
     ensures { result ≡ kept_count keep }
 {
     match keep {
-        Keep::First(count) | Keep::All(count) => count,
+        Keep::First(count) | Keep::FirstOvertaken(count) => count,
+        Keep::All(count) | Keep::AllOvertaken(count) => count,
+    }
+}
+
+/// Whether others changed what stands at the path.
+pub(crate) fn is_overtaken(keep: Keep) -> bool
+    ensures { result ≡ is_overtaken keep }
+{
+    match keep {
+        Keep::First(_) | Keep::All(_) => false,
+        Keep::FirstOvertaken(_) | Keep::AllOvertaken(_) => true,
+    }
+}
+
+/// The same once others changed that.
+pub(crate) fn overtaken_keep(keep: Keep) -> Keep
+    ensures { result ≡ overtaken_keep keep }
+{
+    match keep {
+        Keep::First(count) | Keep::FirstOvertaken(count) => Keep::FirstOvertaken(count),
+        Keep::All(count) | Keep::AllOvertaken(count) => Keep::AllOvertaken(count),
     }
 }
 
@@ -57,8 +78,8 @@ pub(crate) fn kept_at<A: Allocator + Copy, T: Tree<A>>(
     ensures lacks { let octets = octets_or_none (under (T.table tree.now) root.now) path.now in lacks keep octets ≡ not (nat_le result (length octets)) }
 {
     match keep {
-        Keep::First(count) => count,
-        Keep::All(_) => len_at(tree, root, path),
+        Keep::First(count) | Keep::FirstOvertaken(count) => count,
+        Keep::All(_) | Keep::AllOvertaken(_) => len_at(tree, root, path),
     }
 }
 

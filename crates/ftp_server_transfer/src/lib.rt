@@ -9,6 +9,7 @@ mod ending;
 mod line;
 mod listing;
 mod named;
+mod standing;
 mod stored;
 mod transfer;
 mod upload;

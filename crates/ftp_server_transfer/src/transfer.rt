@@ -12,7 +12,7 @@ use ftp_command::Argument;
 use ftp_facts::{Facts, Moment};
 use ftp_operation::Rights;
 use ftp_path::Path;
-use ftp_server_model::{FixedReply, Keep};
+use ftp_server_model::{FixedReply, Keep, Standing};
 use ftp_server_parts::{Fault, Given, Received, ServerTransfer, Told};
 use ftp_settings::{Mode, Representation};
 use ftp_tree::Tree;
@@ -153,6 +153,20 @@ impl<A: Allocator + Copy, T: Tree<A>> ServerTransfer<A, T> for TreeTransfer<A, T
             TreeTransfer::Download(download) => download.is_given_out(),
             TreeTransfer::Listing(listing) => listing.is_given_out(),
             TreeTransfer::Upload(_) | TreeTransfer::OverLimit => false,
+        }
+    }
+
+    fn stands(&self, tree: &T, root: &Path<A>) -> Option<Standing> {
+        match self {
+            TreeTransfer::Upload(upload) => Some(upload.stands(tree, root)),
+            TreeTransfer::OverLimit | TreeTransfer::Download(_) | TreeTransfer::Listing(_) => None,
+        }
+    }
+
+    fn overtake(&mut self) {
+        match self {
+            TreeTransfer::Upload(upload) => upload.overtake(),
+            TreeTransfer::OverLimit | TreeTransfer::Download(_) | TreeTransfer::Listing(_) => {}
         }
     }
 

@@ -5,21 +5,25 @@ ghost use Rattle.ftp_wire.specs.Decoder.{no_octets};
 ghost use Rattle.ftp_server_parts.specs.ServerTransfer.{Comes, Ends};
 ghost use Rattle.ftp_server_model.specs.Keep.{kept_count};
 ghost use Rattle.ftp_server_model.specs.Machine.{at_break, at_end, installs};
+ghost use Rattle.ftp_server_model.specs.Standing.{overtaken, standing_at};
 ghost use Rattle.ftp_server_model.specs.View.{Session};
 ghost use Rattle.ftp_server_model.specs.declared.session.Transfer.TheVariants as Transfers;
 ghost use Rattle.ftp_server_transfer.specs.Receiving.{is_over};
 ghost use Rattle.ftp_tree.specs.Tree.{octets_refusal, under};
 
 use crate::came::Came;
-use crate::ending::{end_refusal, fault_by, kept_at, kept_count, room_behind};
+use crate::ending::{
+    end_refusal, fault_by, is_overtaken, kept_at, kept_count, overtaken_keep, room_behind,
+};
+use crate::standing::{look_anew, standing_at};
 use arrayvec::ArrayVec;
 use ftp_facts::Moment;
 use ftp_operation::Rights;
 use ftp_path::Path;
-use ftp_server_model::{FixedReply, Keep};
+use ftp_server_model::{FixedReply, Keep, Standing};
 use ftp_server_parts::{Fault, Marker, Received, Told};
 use ftp_settings::{MARKER_LIMIT, Representation};
-use ftp_tree::{Sight, Tree};
+use ftp_tree::Tree;
 use ftp_wire::{Decoded, Decoder, Taken};
 use std::alloc::Allocator;
 
@@ -136,7 +140,8 @@ impl<A: Allocator + Copy, T: Tree<A>> Upload<A, T> {
         self.install(tree, root, rights, moment, FixedReply::Complete)
     }
 
-    /// The data connection broke: what was settled is put into the tree. The reply that ends the transfer.
+    /// The data connection broke: what was settled is put into the tree, unless others changed what stands at the path. The reply that ends the
+    /// transfer.
     pub fn at_break(
         self,
         tree: &mut T,
@@ -147,11 +152,29 @@ impl<A: Allocator + Copy, T: Tree<A>> Upload<A, T> {
         ensures { (s : Session) → s.table ≡ T.table tree.old → s.root ≡ root.now → s.rights ≡ rights
             → Ends (at_break moment.seconds (upload_of self) s) s (T.table tree.new) result (T.failures tree.old) (T.failures tree.new) }
     {
+        if is_overtaken(self.keep) {
+            return Ok(FixedReply::Broken);
+        }
         self.install(tree, root, rights, moment, FixedReply::Broken)
     }
 
+    /// What stands at its path.
+    pub(crate) fn stands(&self, tree: &T, root: &Path<A>) -> Standing
+        ensures { result ≡ standing_at (under (T.table tree.now) root.now) self.now.path }
+    {
+        standing_at(tree, root, &self.path)
+    }
+
+    /// Others changed what stands at its path.
+    pub(crate) fn overtake(&mut self)
+        ensures { upload_of self.new ≡ overtaken (upload_of self.old) }
+    {
+        self.keep = overtaken_keep(self.keep);
+    }
+
     /// What was settled is put into the tree and answered so; or it is refused as the direct run would refuse it there now, and
-    /// nothing is. The tree looks at the path before it is asked of it.
+    /// nothing is. The tree looks at the path before it is asked of it. Where the look finds that others changed what stands there, nothing is put
+    /// there of an upload that broke.
     fn install(
         self,
         tree: &mut T,
@@ -168,9 +191,12 @@ impl<A: Allocator + Copy, T: Tree<A>> Upload<A, T> {
             keep,
             decoder,
         } = self;
-        let Ok(()) = tree.look(root, &path, Sight::Path) else {
+        let Ok(is_changed) = look_anew(tree, root, &path) else {
             return Err(Fault::Device);
         };
+        if is_changed && is_broken(text) {
+            return Ok(text);
+        }
         if let Some(why) = end_refusal(tree, root, &path, keep, decoder.len(), rights) {
             return Ok(why);
         }
@@ -194,6 +220,11 @@ impl Arrived {
             is_over: false,
         }
     }
+}
+
+/// Whether it is the reply of an upload that broke.
+fn is_broken(text: FixedReply) -> bool {
+    matches!(text, FixedReply::Broken)
 }
 
 /// Whether the file passes its limit with what was heard.

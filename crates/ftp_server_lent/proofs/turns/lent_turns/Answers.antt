@@ -1,4 +1,4 @@
-use Rattle.std.proofs.Common.{[]}
+use Rattle.std.proofs.Common.{[], refl}
 use Rattle.ftp_control.specs.Machine.{held}
 use Rattle.ftp_control_drive.specs.Standing.{lane_at}
 use Rattle.ftp_server_drive.specs.Side.{beside, timed}
@@ -15,6 +15,6 @@ returns-clause-turn g c =
     let stand = beside g.R.Read.remaining g.W.Write.contents in
     let old = stand (held (here c.args.clocked.now) (lane (g.P.Ports.history c.args.ports.now) c.args.data.now [])) c.args.control.now in
     let mid = stand (held (here made.new.clocked) (lane (g.P.Ports.history made.new.ports) made.new.data [])) made.new.control in
-    let back = holding (g.T.Tree.table c.exchange.new.tree) (g.T.Tree.failures c.exchange.new.tree) in
-    takes _ old mid (server c.exchange.new.self) (server c.exchange-2.new.self) back c.exchange.ensures.taken made.ensures.made c.exchange.ensures.left
-    c.exchange.ensures.failures c.exchange-2.ensures.left c.exchange-2.ensures.failures c.exchange-2.ensures.taken
+    let back = holding (g.T.Tree.table c.lend.new.tree) (g.T.Tree.failures c.lend.new.tree) in
+    takes _ old mid (server c.lend.new.self) (server c.give_back.new.self) back refl c.lend.ensures.taken made.ensures.made
+    c.lend.ensures.left c.lend.ensures.failures c.give_back.ensures.left c.give_back.ensures.failures c.give_back.ensures.stands c.give_back.ensures.taken

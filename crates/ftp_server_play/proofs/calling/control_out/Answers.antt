@@ -2,10 +2,11 @@ use Rattle.std.proofs.Common.{◌≡◌, ◌∙◌, arith, length, rules}
 use Rattle.ftp_server_play.proofs.CallLemmas.{control_makes, cut_back}
 use Rattle.ftp_server_play.proofs.calling.control_out.Goals as goal
 
-pub returns-clause-makes : goal.returns-clause-makes
-returns-clause-makes g c =
+pub returns : goal.returns
+returns g c =
     let server = g.S.Far.server in
-    let long : length c.control_out-count.new.room ≡ c.in_ok-octets.octets.len = search rules in
-    control_makes c.args.room c.control_out-count.result c.truncate.new.self.items (server c.args.server.now) (server c.control_out-count.new.self)
-    (omega (arith, c.control_out-count.ensures.most, c.as_mut_slice.ensures.len, c.in_ok-octets.ensures))
-    (cut_back c.control_out-count.result c.in_ok-octets.octets.len c.control_out-count.new.room c.truncate.new.self.items c.in_ok-octets.octets.items long c.truncate.ensures.items ∙ c.control_out-count.ensures.gave) c.control_out-count.ensures.now
+    let long : length c.control_out-count.new.room ≡ c.args.room.len = search rules in
+    control_makes c.args.room.len c.control_out-count.result c.truncate.new.self.items (server c.args.server.now) (server c.control_out-count.new.self)
+    (omega (arith, c.control_out-count.ensures.most, c.as_mut_slice.ensures.len))
+    (cut_back c.control_out-count.result c.args.room.len c.control_out-count.new.room c.truncate.new.self.items c.args.room.items long c.truncate.ensures.items ∙ c.control_out-count.ensures.gave)
+    c.control_out-count.ensures.now

@@ -5,7 +5,7 @@ use Rattle.ftp_server_play.specs.Cues.{gift_of, gifts_of}
 use Rattle.ftp_server_play.specs.declared.cue.Gift.TheVariants as Gifts
 use Rattle.ftp_server_seats.proofs.PlayLemmas.{nobody_takes, somebody_takes}
 use Rattle.ftp_server_seats.specs.Playing.{turn_of}
-use Rattle.ftp_server_seats.specs.Seats.{seats_of}
+use Rattle.ftp_server_seats.specs.Seats.{seated_of, seats_of}
 use Rattle.ftp_server_seats.proofs.sessions.Sessions.take_turn.Goals as goal
 
 pub returns-then-turn-len-clause-next : goal.returns-then-turn-len-clause-next
@@ -15,7 +15,7 @@ returns-then-turn-len-clause-next g c =
     let long : length old.seats.items ≡ vec_len old.seats = search rules in
     let past : length old.seats.items ≤ c.args.turn.now.seat = omega (arith, long, c.len.ensures, c.if-turn-len.true) in
     nobody_takes (turn_of c.args.turn.now) (seats_of table failures server old) (gifts_of c.args.gifts.now.items) (gifts_of c.keep.new.gifts.items)
-    (slice_get-map server old.seats.items c.args.turn.now.seat ∙ ap (option_map server) (slice_get_past old.seats.items c.args.turn.now.seat past))
+    (slice_get-map (seated_of server) old.seats.items c.args.turn.now.seat ∙ ap (option_map (seated_of server)) (slice_get_past old.seats.items c.args.turn.now.seat past))
     (kept_on c.args.gifts.now.items c.reserve.new.self.items c.keep.new.gifts.items Gifts.Nothing c.reserve.ensures.items c.keep.ensures)
 
 pub returns-clause-next : goal.returns-clause-next
