@@ -139,12 +139,37 @@ impl<A: Allocator + Copy> Accounts<A> {
         self.account_of(login.user(), login.pass())
     }
 
-    /// The same of a user name and a password, whatever octets they have.
-    #[tactic(auto, unfolding(crate::specs::Account::login_account))]
+    /// The same of a user name and a password, whatever octets they have. Where one account has a hashed password, a password is hashed for each user, also for
+    /// one that there is not: so how long that takes tells of no user, as far as all are hashed alike.
     pub fn account_of(&self, user: &[u8], pass: &[u8]) -> Option<&Account<Text<A>, Path<A>>>
         ensures { option_map (λ account. account.now) result ≡ login_account self.now user.now pass.now }
     {
+        let found = self.known(user, pass);
+        if found.is_none() && !self.is_hashed(user) && self.hashes(pass) {
+            return None;
+        }
+        found
+    }
+
+    /// The account of this name, where it needs no password or this one.
+    #[tactic(auto, unfolding(crate::specs::Account::login_account))]
+    fn known(&self, user: &[u8], pass: &[u8]) -> Option<&Account<Text<A>, Path<A>>>
+        ensures { option_map (λ account. account.now) result ≡ login_account self.now user.now pass.now }
+    {
         self.list.iter().find(|account| knows(account, user, pass))
+    }
+
+    /// Whether the account of this name has a hashed password.
+    fn is_hashed(&self, user: &[u8]) -> bool {
+        self.list.iter().any(|account| account.user.as_slice() == user && has_hash(account))
+    }
+
+    /// Whether a password opens the first account of which it is hashed.
+    fn hashes(&self, pass: &[u8]) -> bool {
+        match self.list.iter().find(|account| has_hash(account)) {
+            Some(account) => passes(&account.pass, pass),
+            None => false,
+        }
     }
 
     /// The account of this name that needs no password. Takes no memory.
@@ -153,6 +178,11 @@ impl<A: Allocator + Copy> Accounts<A> {
     {
         self.list.iter().find(|account| is_open(account, user))
     }
+}
+
+/// Whether an account's password is hashed.
+fn has_hash<A: Allocator + Copy>(account: &Account<Text<A>, Path<A>>) -> bool {
+    matches!(account.pass, Some(Secret::Crypt(_)))
 }
 
 /// Whether no two accounts have one user name.

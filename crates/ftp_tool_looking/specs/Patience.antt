@@ -1,10 +1,12 @@
 -- How long a session may last (own choice): a limit of silence is put off by each sign of life, and one of time by nothing.
-use Rattle.std.specs.Prelude.{◌≡◌, ℕ, suc, ◌*◌, ◌≤◌, Bool, true, false, Option, Some, None, if◌then◌else◌}
+use Rattle.std.specs.Prelude.{◌≡◌, ℕ, suc, ◌*◌, ◌≤◌, ◌<◌, Bool, true, false, Option, Some, None, nat_lt, if◌then◌else◌}
 use Rattle.ftp_tool_looking.specs.Looking.{sooner_of, term_after}
 use Rattle.ftp_tool_looking.specs.declared.patience.Limits.{Limits}
 use Rattle.ftp_tool_looking.specs.declared.patience.Over.TheVariants as Overs
 use Rattle.ftp_tool_looking.specs.declared.patience.Stand.{Stand}
 use Rattle.ftp_tool_looking.specs.declared.patience.Term.{Term}
+use Rattle.ftp_tool_looking.specs.declared.patience.Transfers.{Transfers}
+use Rattle.ftp_tool_looking.specs.declared.patience.Transfers.TheVariants as Spared
 
 -- what is left of a limit while another client waits since so many milliseconds
 abbrev pub while_waited : Option ℕ → (ℕ → Option Term) → Option Term
@@ -33,6 +35,17 @@ fixed_term limits stand =
 abbrev pub term_of_session : Limits → Stand → Option Term
 term_of_session limits stand = sooner_of (quiet_term limits stand) (fixed_term limits stand)
 
+-- since when another client waits once an octet of a data connection went now: since now, where transfers are spared
+abbrev pub waited_after : Option ℕ → (now : ℕ) → Transfers → Option ℕ
+waited_after (Some since) now Spared.AreSpared = Some now
+waited_after (Some since) now Spared.Count = Some since
+waited_after None now transfers = None
+
+-- a transfer moves whose last octet went less than 10 seconds ago
+abbrev pub moves : Option ℕ → Bool
+moves None = false
+moves (Some since) = nat_lt since 10000
+
 -- ---- what that comes to
 
 -- nothing is left
@@ -44,3 +57,9 @@ IsOver (Some term) = term.left ≡ 0
 abbrev pub NobodyHolds : Type 0
 NobodyHolds = (limits : Limits) (stand : Stand) (seconds since : ℕ)
     → limits.session_while_waited ≡ suc seconds → stand.waited ≡ Some since → suc seconds * 1000 ≤ since → IsOver (fixed_term limits stand)
+
+-- Who logged in keeps its session while another waits for less than so many seconds: with `waited_after`, while one octet of a data connection follows another
+-- within them
+abbrev pub WaitingIsCounted : Type 0
+WaitingIsCounted = (limits : Limits) (stand : Stand) (seconds since : ℕ) → stand.logged_in ≡ true
+    → limits.session_while_waited ≡ suc seconds → stand.waited ≡ Some since → since < suc seconds * 1000 → IsOver (fixed_term limits stand) → ⊥

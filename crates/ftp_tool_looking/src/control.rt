@@ -107,18 +107,16 @@ impl Read for LineReader {
         if self.line.is_over() {
             return Ok(0);
         }
+        if self.line.has_broken() {
+            return Err(Error::from(ErrorKind::ConnectionReset));
+        }
         if room.len() < 3 {
             self.line.forget();
             let mut stream = &self.line.stream;
             return stream.read(room);
         }
         let count = self.read_hidden(room)?;
-        if room
-            .get(..count)
-            .is_some_and(|octets| octets.contains(&b'\n'))
-        {
-            self.line.patience.stir();
-        }
+        self.line.came(room.get(..count).unwrap_or(&[]));
         Ok(count)
     }
 }

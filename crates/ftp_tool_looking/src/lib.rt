@@ -4,6 +4,7 @@
 
 mod awaits;
 mod control;
+mod hangup;
 pub mod laws;
 mod leaving;
 mod line;

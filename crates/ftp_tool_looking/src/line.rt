@@ -12,6 +12,7 @@ use libc::net as c;
 use libc::types::pollfd;
 use std::cell::Cell;
 use std::io;
+use std::io::ErrorKind;
 use std::net::{Shutdown, SocketAddr, TcpStream};
 use std::os::fd::AsRawFd;
 
@@ -51,6 +52,10 @@ pub struct Line {
     spoke: Cell<bool>,
     replied: Cell<bool>,
     moved: Cell<usize>,
+    /// Whether a look behind its end met its failure, which the system tells once.
+    broke: Cell<bool>,
+    /// Whether octets stood behind a line in what was read last.
+    goes_on: Cell<bool>,
 }
 
 /// What of a control connection can be read.
@@ -81,6 +86,8 @@ impl Line {
             spoke: Cell::new(false),
             replied: Cell::new(false),
             moved: Cell::new(0),
+            broke: Cell::new(false),
+            goes_on: Cell::new(false),
         })
     }
 
@@ -138,6 +145,22 @@ impl Line {
             self.replied.set(true);
         }
         self.patience.stir();
+    }
+
+    /// These octets came. A line's end is a sign of life.
+    pub(crate) fn came(&self, octets: &[u8]) {
+        if octets.contains(&b'\n') {
+            self.patience.hear();
+        }
+        self.goes_on.set(goes_on(octets));
+    }
+
+    /// Where a line came with octets behind it, no reply goes in this turn any more, and so none of these is heard. Where none did, none is heard anyway in a
+    /// turn in which a reply went.
+    pub fn end_turn(&self) {
+        if self.goes_on.get() {
+            self.replied.set(true);
+        }
     }
 
     /// Whether a reply went in this turn.
@@ -271,6 +294,24 @@ impl Line {
         spoken_by(rows[0].revents)
     }
 
+    /// Whether octets are left to be read of one that has ended, one that urgent data hides among them.
+    pub(crate) fn has_unread(&self) -> bool {
+        let mut room = [0u8; 1];
+        match self.stream.peek(&mut room) {
+            Ok(0) => hidden_after(self.last.get()).is_some() && self.waiting().is_urgent,
+            Ok(_) => true,
+            Err(error) => {
+                self.broke.set(error.kind() != ErrorKind::WouldBlock);
+                false
+            }
+        }
+    }
+
+    /// Whether its failure was met.
+    pub(crate) fn has_broken(&self) -> bool {
+        self.broke.get()
+    }
+
     /// Says a reply, the last one, as far as there is room for it, and sends nothing more.
     pub fn say_last(&self, reply: &[u8]) {
         let _sent = send_now(&self.stream, reply);
@@ -292,6 +333,14 @@ pub(crate) fn hidden_after(last: u8) -> Option<u8>
         255 => Some(242),
         244 => Some(255),
         _ => None,
+    }
+}
+
+/// Whether octets stand behind the end of a line.
+fn goes_on(octets: &[u8]) -> bool {
+    match octets.split_last() {
+        Some((_, front)) => front.contains(&b'\n'),
+        None => false,
     }
 }
 

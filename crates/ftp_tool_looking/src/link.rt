@@ -2,10 +2,12 @@
 ghost use Rattle.std.specs.Global.{Global};
 
 use crate::awaits::{Awaits, look};
+use crate::hangup::{Gift, HELD_MILLIS, Hangup, told_beside};
 use crate::line::Line;
 use ftp_control::{Beside, Duplex, For, Ready, Spoken};
 use ftp_tool_sockets::{
-    Heeds, Other, Woke, asking, drop_connection, limit_untaken, monotonic_millis, spoken_by, woken,
+    Heeds, Other, Woke, asking, drop_connection, limit_room, limit_untaken, monotonic_millis,
+    spoken_by, woken,
 };
 use libc::net as c;
 use libc::types::pollfd;
@@ -20,6 +22,9 @@ const LAST_READS: u32 = 64;
 
 /// How long the last octets of a download wait after the end of the control connection, in milliseconds.
 const LAST_MILLIS: u64 = 30_000;
+
+/// The most octets of a download that wait in the system where a transfer that moves is spared: so a slow one has room for more while it moves.
+const SPARED_ROOM: i32 = 65_536;
 
 /// A data connection. What would wait fails where patience is over, and is interrupted else: who looks first meets neither. Where the session is ended, or no
 /// time is left of it, its control connection has ended, and what goes after that fails. The last octets of a download go after the end of the control
@@ -43,6 +48,10 @@ pub struct LineLink {
     is_new: bool,
     /// How many writes were made; from the second one on what is written goes at once.
     writes: Writes,
+    /// What the end of the control connection does while octets come.
+    hangup: Hangup,
+    /// Since when no octet came, where octets come and the control connection has ended: since its end at the earliest.
+    quiet_since: Option<u64>,
 }
 
 /// The writes of a data connection so far.
@@ -60,8 +69,15 @@ fn lost() -> Error {
 
 impl LineLink {
     /// A data connection beside its control connection.
-    pub(crate) fn new(line: Rc<Line, Global>, stream: TcpStream) -> io::Result<LineLink> {
+    pub(crate) fn new(
+        line: Rc<Line, Global>,
+        stream: TcpStream,
+        hangup: Hangup,
+    ) -> io::Result<LineLink> {
         stream.set_nonblocking(true)?;
+        if line.patience.are_transfers_spared() {
+            limit_room(&stream, SPARED_ROOM)?;
+        }
         Ok(LineLink {
             line,
             stream,
@@ -73,6 +89,8 @@ impl LineLink {
             has_ended: false,
             is_new: true,
             writes: Writes::Nothing,
+            hangup,
+            quiet_since: None,
         })
     }
 
@@ -82,11 +100,12 @@ impl LineLink {
     }
 
     /// So many octets went over the connection.
-    fn moved(&self, count: usize) {
+    fn moved(&mut self, count: usize) {
         if count > 0 {
             self.line.data_went(count);
+            self.quiet_since = self.quiet_since.map(|_| monotonic_millis());
             if self.outlives.is_none() {
-                self.line.patience.stir();
+                self.line.patience.carry();
             }
         }
     }
@@ -145,7 +164,8 @@ impl LineLink {
             return Ok(());
         }
         self.line.ask(&self.stream, &mut rows);
-        let (control, other) = (spoken_by(rows[0].revents), other_by(rows[1].revents));
+        let other = other_by(rows[1].revents);
+        let control = self.told(what, beside, spoken_by(rows[0].revents), other);
         if is_told(beside, control, other) {
             self.is_ending = is_end(what, rows[1].revents);
             self.seen = Some((control, other));
@@ -160,7 +180,41 @@ impl LineLink {
         }
         match beside {
             Beside::Nothing => self.outlive(control, rows),
-            Beside::End | Beside::Octets => Err(Awaits::both(rows[0], rows[1])),
+            Beside::End | Beside::Octets => Err(self.awaits_beside(rows)),
+        }
+    }
+
+    /// What is told of the control connection, which has this: where octets come, its end waits for theirs. Octets before its end are told.
+    fn told(&mut self, what: For, beside: Beside, control: Spoken, other: Other) -> Spoken {
+        if !matches!((self.hangup, what), (Hangup::AfterUpload, For::Octets)) {
+            return control;
+        }
+        if control != Spoken::Ended {
+            return control;
+        }
+        if beside == Beside::Octets && self.line.has_unread() {
+            return Spoken::Octets;
+        }
+        let gift = self.gift(other);
+        told_beside(control, gift)
+    }
+
+    /// What the data connection gives beside a control connection that has ended.
+    fn gift(&mut self, other: Other) -> Gift {
+        let now = monotonic_millis();
+        let since = self.quiet_since.unwrap_or(now);
+        self.quiet_since = Some(since);
+        match other {
+            Other::Ready => Gift::Something,
+            Other::Waits => Gift::NothingFor(now.saturating_sub(since)),
+        }
+    }
+
+    /// What is waited for where octets come: the end of the control connection only while it was not told.
+    fn awaits_beside(&self, rows: [pollfd; 2]) -> Awaits {
+        match self.quiet_since {
+            Some(since) => Awaits::one(rows[1]).or_until(since.saturating_add(HELD_MILLIS)),
+            None => Awaits::both(rows[0], rows[1]),
         }
     }
 

@@ -1,7 +1,7 @@
 // How long a server waits for its client, beside others.
 ghost use Rattle.std.specs.Prelude.{◌≡◌};
 ghost use Rattle.ftp_tool_looking.specs.Looking.{sooner_of, stricter, term_after};
-ghost use Rattle.ftp_tool_looking.specs.Patience.{fixed_term, quiet_term, term_of_session};
+ghost use Rattle.ftp_tool_looking.specs.Patience.{fixed_term, moves, quiet_term, term_of_session, waited_after};
 
 use ftp_tool_sockets::monotonic_millis;
 use std::cell::Cell;
@@ -34,10 +34,24 @@ pub enum Over {
     Session,
     /// Another client waits for so long, and nobody logged in.
     LoginWaited,
+    /// Its address has the most seats, another one has none, and no transfer moves.
+    Crowded,
     /// Too many logins were refused.
     Refused,
     /// The server stops.
     Stopped,
+}
+
+/// A transfer moves while one of its octets went within so many milliseconds.
+const MOVING_MILLIS: u64 = 10_000;
+
+/// What a transfer that moves does to the time since another client began to wait.
+#[derive(Clone, Copy)]
+pub(crate) enum Transfers {
+    /// It goes on.
+    Count,
+    /// It begins anew with each octet of a data connection.
+    AreSpared,
 }
 
 /// How many milliseconds are left of a limit, and what is over with it.
@@ -63,10 +77,15 @@ pub struct Patience {
     limits: Limits,
     begun: u64,
     last: Cell<u64>,
+    /// Whether the peer said a line since anything else was done.
+    has_heard: Cell<bool>,
     logged_in: Cell<bool>,
     over: Cell<Option<Over>>,
     /// Since when another client waits.
     waited: Cell<Option<u64>>,
+    transfers: Cell<Transfers>,
+    /// When the last octet of a data connection went.
+    carried: Cell<Option<u64>>,
 }
 
 impl Patience {
@@ -77,15 +96,58 @@ impl Patience {
             limits,
             begun: now,
             last: Cell::new(now),
+            has_heard: Cell::new(false),
             logged_in: Cell::new(false),
             over: Cell::new(None),
             waited: Cell::new(None),
+            transfers: Cell::new(Transfers::Count),
+            carried: Cell::new(None),
         }
     }
 
-    /// Something was done: a command, a reply, or octets of a data connection.
+    /// From now on the time since another client began to wait is counted from the last octet of a data connection at the earliest: a session whose transfer
+    /// moves is not ended because another waits.
+    pub fn spare_transfers(&self) {
+        self.transfers.set(Transfers::AreSpared);
+    }
+
+    /// Whether that is so.
+    pub(crate) fn are_transfers_spared(&self) -> bool {
+        matches!(self.transfers.get(), Transfers::AreSpared)
+    }
+
+    /// Octets of a data connection went.
+    pub(crate) fn carry(&self) {
+        let now = monotonic_millis();
+        self.has_heard.set(false);
+        self.last.set(now);
+        self.carried.set(Some(now));
+        self.waited
+            .set(waited_after(self.waited.get(), now, self.transfers.get()));
+    }
+
+    /// Whether a transfer moves.
+    pub fn moves(&self) -> bool {
+        let now = monotonic_millis();
+        moves(self.carried.get().map(|last| now.saturating_sub(last)))
+    }
+
+    /// For how many milliseconds nothing was said or sent.
+    pub fn quiet(&self) -> u64 {
+        monotonic_millis().saturating_sub(self.last.get())
+    }
+
+    /// Something was done: this end said something, or octets of a data connection went.
     pub fn stir(&self) {
+        self.has_heard.set(false);
         self.last.set(monotonic_millis());
+    }
+
+    /// The peer said a line: a sign of life once behind what was done, so that lines without end are none.
+    pub(crate) fn hear(&self) {
+        if !self.has_heard.replace(true) {
+            self.last.set(monotonic_millis());
+        }
     }
 
     /// Somebody logged in.
@@ -182,6 +244,26 @@ impl Patience {
             self.limits.idle
         };
         i32::try_from(u64::from(seconds).saturating_mul(1_000)).unwrap_or(i32::MAX)
+    }
+}
+
+/// Since when another client waits once an octet of a data connection went now.
+fn waited_after(waited: Option<u64>, now: u64, transfers: Transfers) -> Option<u64>
+    ensures { result ≡ waited_after waited now transfers }
+{
+    match (waited, transfers) {
+        (Some(_), Transfers::AreSpared) => Some(now),
+        (waited, _) => waited,
+    }
+}
+
+/// Whether a transfer moves whose last octet went so many milliseconds ago, if one did.
+fn moves(since: Option<u64>) -> bool
+    ensures { result ≡ moves since }
+{
+    match since {
+        Some(since) => since < MOVING_MILLIS,
+        None => false,
     }
 }
 

@@ -4,6 +4,7 @@ ghost use Rattle.std.specs.Global.{Global};
 ghost use Rattle.ftp_control.specs.Asking.{Closes};
 
 use crate::awaits::Awaits;
+use crate::hangup::{Gift, Hangup, told_beside};
 use crate::line::Line;
 use crate::link::{LineLink, events_beside};
 use crate::opening::Opening;
@@ -51,6 +52,10 @@ pub struct LinePorts<'a, R: Sockets> {
     leaving: Option<LineLink>,
     /// What the last look that told of nothing waits for.
     awaits: Awaits,
+    /// What the end of the control connection does while octets come.
+    hangup: Hangup,
+    /// Whether octets come over the data connection that was looked at last.
+    receives: bool,
 }
 
 impl<'a, R: Sockets> LinePorts<'a, R> {
@@ -74,12 +79,33 @@ impl<'a, R: Sockets> LinePorts<'a, R> {
             opening: None,
             leaving: None,
             awaits: Awaits::nothing(),
+            hangup: Hangup::AtOnce,
+            receives: false,
         })
     }
 
-    /// What the last look that told of nothing waits for.
+    /// None is open yet. Those of a server: where its client ends or breaks the control connection during an upload, that is told once the data connection
+    /// ended or broke, or gave nothing for ten seconds.
+    pub fn serving(
+        net: &'a R,
+        line: Rc<Line, Global>,
+        passive: &'a PassivePorts,
+    ) -> io::Result<LinePorts<'a, R>> {
+        let mut ports = LinePorts::new(net, line, passive)?;
+        ports.hangup = Hangup::AfterUpload;
+        Ok(ports)
+    }
+
+    /// What the last look that told of nothing waits for, and until when the port that is listened at is kept, where another one is wanted.
     pub fn awaits(&self) -> Awaits {
-        self.awaits
+        let kept = self
+            .listening
+            .as_ref()
+            .and_then(|it| self.passive.kept_until(it));
+        match kept {
+            Some(until) => self.awaits.or_until(until.min(self.awaits.until)),
+            None => self.awaits,
+        }
     }
 
     /// The connection that was ended last, where what its peer sends too much is still to be read.
@@ -109,6 +135,13 @@ impl<'a, R: Sockets> LinePorts<'a, R> {
     fn rest(&mut self) {
         if let Some(listening) = self.listening.take() {
             self.passive.rest(listening);
+        }
+    }
+
+    /// Gives up the port that is listened at, where nobody opened it for long and another one is wanted.
+    fn give_up(&mut self) {
+        if let Some(listening) = self.listening.take() {
+            self.listening = self.passive.keep(listening);
         }
     }
 
@@ -212,7 +245,7 @@ impl<'a, R: Sockets> LinePorts<'a, R> {
     /// An open connection as a link.
     fn linked(&self, stream: TcpStream) -> Option<LineLink> {
         let line = self.line.clone().ok()?;
-        LineLink::new(line, stream).ok()
+        LineLink::new(line, stream, self.hangup).ok()
     }
 }
 
@@ -249,6 +282,9 @@ impl<'a, R: Sockets> Ports for LinePorts<'a, R> {
     }
 
     fn looks(&mut self, what: Awaited) -> bool {
+        if self.came.is_none() {
+            self.give_up();
+        }
         let looked = match what {
             Awaited::Control => self.line.has_octets(),
             Awaited::Replies => self.line.has_room(),
@@ -259,12 +295,21 @@ impl<'a, R: Sockets> Ports for LinePorts<'a, R> {
     }
 
     fn looks_at(&mut self, stream: &mut LineLink, what: For, beside: Beside) -> bool {
+        self.receives = matches!(what, For::Octets);
         let looked = stream.looks(what, beside);
         self.kept(looked)
     }
 
+    /// What the control connection has beside a data connection that ended or broke.
     fn spoken(&mut self) -> Spoken {
-        self.line.spoken()
+        let control = self.line.spoken();
+        if !matches!((self.hangup, self.receives), (Hangup::AfterUpload, true)) {
+            return control;
+        }
+        if control == Spoken::Ended && self.line.has_unread() {
+            return Spoken::Octets;
+        }
+        told_beside(control, Gift::Something)
     }
 
     /// What sockets are asked is not told.

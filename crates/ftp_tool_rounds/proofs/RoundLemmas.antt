@@ -9,7 +9,7 @@ use Rattle.std.proofs.lemmas.List.Quantifiers.{position-Some}
 use Rattle.std.proofs.lemmas.Option.{get_or_from_slice_get, slice_get_past, unwrap_or-slice_get}
 use Rattle.std.specs.List.{range_with_len}
 use Rattle.ftp_control.specs.Asking.{Adds}
-use Rattle.ftp_tool_rounds.specs.Order.{Takes, first_ready, is_ready, is_so}
+use Rattle.ftp_tool_rounds.specs.Order.{LeavesOne, Takes, first_ready, is_ready, is_so}
 use Rattle.ftp_tool_rounds.specs.Rounds.{AreEnded, AreRounds, AreTaken, Began, Comes, Deed, Ended, Gave, Goes, IsDone, IsNext, LeavesAddress, LeavesPlace, Spares}
 use Rattle.ftp_tool_rounds.specs.Rounds.{Standing, Step, Steps, Turns, deed_of, host_in, is_same, is_taken, ones, standing, start, told_if}
 use Rattle.ftp_tool_rounds.specs.declared.seat.Turn.{Turn}
@@ -192,6 +192,12 @@ pub taken_address :
     → AreTaken old seats → ((other : ℕ) → other ≢ place → is_taken after other ≡ is_taken seats other) → AreTaken new after
 taken_address hosts old new seats after place leaves taken =
     taken_but old new seats after place taken (leaves_address hosts place old new leaves) (address_was hosts place old new leaves)
+
+-- so have they where only one of those stays that may hash a password
+pub taken_one :
+    {A : Type 0} → (hashing : List Bool) (order : List ℕ) (old new : List Bool) (seats : List (Option A)) → LeavesOne hashing order old new → AreTaken old seats
+    → AreTaken new seats
+taken_one hashing order old new seats leaves taken place ready = taken place (and_parts _ _ (sym (leaves place) ∙ ready)).0
 
 -- ---- fewer wait
 

@@ -2,6 +2,7 @@
 #![tactic(auto)]
 
 mod alone;
+mod crowd;
 mod door;
 mod house;
 mod input;

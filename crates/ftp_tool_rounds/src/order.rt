@@ -1,7 +1,7 @@
 // Whose turn is next: of the places that are ready the one whose last turn is the oldest.
 ghost use Rattle.std.specs.Prelude.{◌≡◌, ◌<◌, IfSome, IfNone, IfOk, None, length};
 ghost use Rattle.std.specs.List.{range_with_len};
-ghost use Rattle.ftp_tool_rounds.specs.Order.{Takes, first_ready, is_ready};
+ghost use Rattle.ftp_tool_rounds.specs.Order.{Takes, first_both, first_hashing, first_ready, is_ready};
 
 use std::alloc::{AllocError, Allocator};
 use std::marker::Model;
@@ -27,6 +27,16 @@ impl<A: Allocator> Order<A> {
     {
         let places = places_below(alloc, count)?;
         Ok(Order { places })
+    }
+
+    /// The first place that is ready and whose next turn may hash a password, if one is.
+    pub fn first_hashing(&self, ready: &[bool], hashing: &[bool]) -> Option<usize>
+        ensures { result ≡ first_hashing ready.now hashing.now self.now }
+    {
+        match first_both(self.places.as_slice(), ready, hashing) {
+            Some(at) => self.places.get(at).copied(),
+            None => None,
+        }
     }
 
     /// The first place that is ready takes its turn, and comes after all others from then on.
@@ -60,8 +70,16 @@ fn first_ready(places: &[usize], ready: &[bool]) -> Option<usize>
     places.iter().position(|place| is_ready(ready, *place))
 }
 
+/// Where the first of these places is that both say.
+#[tactic(auto, unfolding(crate::specs::Order::first_both))]
+fn first_both(places: &[usize], ready: &[bool], hashing: &[bool]) -> Option<usize>
+    ensures { result ≡ first_both ready.now hashing.now places.now }
+{
+    places.iter().position(|place| is_ready(ready, *place) && is_ready(hashing, *place))
+}
+
 /// Whether a place is ready.
-fn is_ready(ready: &[bool], place: usize) -> bool
+pub(crate) fn is_ready(ready: &[bool], place: usize) -> bool
     ensures { result ≡ is_ready ready.now place }
 {
     match ready.get(place) {

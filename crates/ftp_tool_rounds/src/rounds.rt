@@ -12,8 +12,8 @@ use crate::input::Heeded;
 use crate::order::Order;
 use crate::rows::Rows;
 use crate::seat::{Course, Seat, Seats, Turn};
-use crate::table::{Table, Taken, awaits_at, spare_in};
-use crate::waiting::{MOST_SEATS, Waiting};
+use crate::table::{Table, Taken, awaits_at, crowded_in, spare_in};
+use crate::waiting::{MOST_SEATS, Waiting, leave_one};
 use ftp_control::TURNS;
 use ftp_tool_looking::{Awaits, Leaving, Over};
 use ftp_tool_sockets::monotonic_millis;
@@ -194,11 +194,15 @@ impl<'a, M: Seats> Rounds<'a, M> {
         self.leaving.retain_mut(|leaving| leaving.stays());
     }
 
-    /// A turn of one session of each address, of those that are ready; and then, while the round is short, of the others.
+    /// A turn of one session of each address, of those that are ready; and then, while the round is short, of the others. Of those whose next turn may hash a
+    /// password only one is ready.
+    #[tactic(auto, using(crate::proofs::RoundLemmas::taken_one))]
     fn turns(&mut self, order: &mut Order<Global>, tree: &mut M::Tree)
         ensures { (old : Standing) → IsDone old → old.order ≡ order.old → Goes (M.Seat.history tree.old) (M.Seat.history tree.new) old order.new }
     {
-        let ready = self.ready();
+        let mut ready = self.ready();
+        let hashing = self.hashing();
+        leave_one(order, &hashing, &mut ready);
         let hosts = self.hosts();
         self.seats.begin_round(&ready, &hosts, tree);
         let mut waiting = Waiting {
@@ -270,6 +274,17 @@ impl<'a, M: Seats> Rounds<'a, M> {
         ready
     }
 
+    /// Whose next turn may hash a password.
+    fn hashing(&self) -> [bool; MOST_SEATS] {
+        let mut hashing = [false; MOST_SEATS];
+        for (place, hashes) in hashing.iter_mut().enumerate() {
+            if let Some(taken) = self.table.at(place) {
+                *hashes = taken.session.may_hash();
+            }
+        }
+        hashing
+    }
+
     /// As whom the client in each seat counts.
     fn hosts(&self) -> [u128; MOST_SEATS] {
         let mut hosts = [0; MOST_SEATS];
@@ -327,11 +342,12 @@ impl<'a, M: Seats> Rounds<'a, M> {
         self.keep(leaving);
     }
 
-    /// Keeps connections a moment behind their last reply.
+    /// Keeps connections a moment behind their last reply, where any stays.
     fn keep(&mut self, leaving: Leaving)
         ensures { self.new.table ≡ self.old.table }
     {
-        if self.leaving.len() < MOST_LEAVING {
+        let mut leaving = leaving;
+        if self.leaving.len() < MOST_LEAVING && leaving.stays() {
             let _kept = self.leaving.push(leaving);
         }
     }
@@ -380,16 +396,25 @@ impl<'a, M: Seats> Rounds<'a, M> {
         self.house.full(taken, self.table.of_host(host))
     }
 
-    /// Ends the session that might be ended for another client for the longest time, if there is one: of those from its address, where that has too many.
+    /// The session that might be ended for another client for the longest time, and why: of those from its address, where that has too many. Where there is
+    /// none, and its address has no seat, one of the address that has the most.
+    fn spared(&self, why: Full, host: u128) -> Option<(usize, Over)> {
+        if let Full::Host = why {
+            return spare_in(&self.table, Some(host));
+        }
+        match spare_in(&self.table, None) {
+            Some(spare) => Some(spare),
+            None if self.table.of_host(host) == 0 => crowded_in(&self.table),
+            None => None,
+        }
+    }
+
+    /// Ends the session that might be ended for another client, if there is one.
     #[tactic(auto, using(crate::proofs::RoundLemmas::spares_nothing, crate::proofs::RoundLemmas::spares_then, crate::proofs::RoundLemmas::spares_one))]
     fn spare(&mut self, why: Full, host: u128, tree: &mut M::Tree)
         ensures { Spares (M.Seat.history tree.old) (M.Seat.history tree.new) }
     {
-        let spare = match why {
-            Full::House => spare_in(&self.table, None),
-            Full::Host => spare_in(&self.table, Some(host)),
-        };
-        if let Some((place, over)) = spare {
+        if let Some((place, over)) = self.spared(why, host) {
             if let Some(taken) = self.table.at(place) {
                 taken.session.patience().end(over);
             }

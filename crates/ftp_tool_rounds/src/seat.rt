@@ -60,6 +60,9 @@ pub trait Seat<T>: Drop {
     /// Whether a transfer is under way, or a reply.
     fn is_busy(&self) -> bool;
 
+    /// Whether its next turn may hash a password, for which all others wait.
+    fn may_hash(&self) -> bool;
+
     /// It is over: says the last reply, and gives what stays of its connections, and whether all went well.
     fn leave(&mut self) -> (Leaving, bool);
 }

@@ -3,7 +3,9 @@ ghost use Rattle.std.specs.Global.{Global};
 ghost use Rattle.std.specs.Prelude.{◌≡◌, ◌≢◌, ◌↔◌, ℕ, IsTrue, IsSome};
 ghost use Rattle.ftp_tool_rounds.specs.Rounds.{is_taken};
 
+use crate::crowd::{Sitting, crowded_place};
 use crate::seat::{Course, Seat};
+use crate::waiting::MOST_SEATS;
 use ftp_tool_looking::{Awaits, Over};
 use ftp_tool_sockets::monotonic_millis;
 use std::alloc::{AllocError, Global};
@@ -104,6 +106,27 @@ pub(crate) fn awaits_at<T, S: Seat<T>>(table: &Table<S>, place: usize) -> Awaits
         awaits.until = awaits.until.min(monotonic_millis().saturating_add(left));
     }
     awaits
+}
+
+/// The session that gives its seat to an address that has none, and why, where one does.
+pub(crate) fn crowded_in<T, S: Seat<T>>(table: &Table<S>) -> Option<(usize, Over)> {
+    let mut seats = [None; MOST_SEATS];
+    for (place, seat) in seats.iter_mut().enumerate() {
+        *seat = sitting_at(table, place);
+    }
+    let place = crowded_place(&seats)?;
+    Some((place, Over::Crowded))
+}
+
+/// The session in a seat, as far as it tells whether it gives that away.
+fn sitting_at<T, S: Seat<T>>(table: &Table<S>, place: usize) -> Option<Sitting> {
+    let taken = table.at(place)?;
+    let patience = taken.session.patience();
+    Some(Sitting {
+        host: taken.host,
+        moves: patience.moves(),
+        quiet: patience.quiet(),
+    })
 }
 
 /// The session that might be ended for another client for the longest time, and why: any, or one whose client counts as this one.

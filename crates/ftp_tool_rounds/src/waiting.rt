@@ -1,7 +1,11 @@
 // Who waits for a turn in a round.
 ghost use Rattle.std.specs.Prelude.{◌≡◌, ℕ, eqb, not, ◌&&◌};
-ghost use Rattle.ftp_tool_rounds.specs.Order.{is_ready};
+ghost use Rattle.std.specs.Global.{Global};
+ghost use Rattle.ftp_tool_rounds.specs.Order.{LeavesOne, is_let, is_ready};
 ghost use Rattle.ftp_tool_rounds.specs.Rounds.{LeavesAddress, LeavesPlace, host_in};
+
+use crate::order::{Order, is_ready};
+use std::alloc::Global;
 
 /// The most seats.
 pub(crate) const MOST_SEATS: usize = 64;
@@ -27,6 +31,44 @@ impl Waiting {
         let host = host_at(&self.hosts, place);
         unset_host(&self.hosts, host, &mut self.first);
         unset(&mut self.ready, place);
+    }
+}
+
+/// Of the sessions that are ready and may hash a password in their next turn only the one whose last turn is the oldest stays ready.
+pub(crate) fn leave_one(
+    order: &Order<Global>,
+    hashing: &[bool; MOST_SEATS],
+    ready: &mut [bool; MOST_SEATS],
+)
+    ensures { LeavesOne hashing.now order.now ready.old ready.new }
+{
+    let first = order.first_hashing(ready, hashing);
+    leave_first(hashing, first, ready);
+}
+
+/// Of those that may hash a password only this one stays ready.
+fn leave_first(hashing: &[bool; MOST_SEATS], first: Option<usize>, ready: &mut [bool; MOST_SEATS])
+    ensures { (other : ℕ) → is_ready ready.new other ≡ is_ready ready.old other && is_let hashing.now first other }
+{
+    for other in 0..MOST_SEATS {
+        ready[other] = stays(ready[other], hashing, first, other);
+    }
+}
+
+/// Whether one is ready and may have a turn.
+fn stays(is_ready: bool, hashing: &[bool], first: Option<usize>, place: usize) -> bool
+    ensures { result ≡ is_ready && is_let hashing.now first place }
+{
+    is_ready && is_let(hashing, first, place)
+}
+
+/// Whether one may have a turn: who may hash a password only where it is the first.
+fn is_let(hashing: &[bool], first: Option<usize>, place: usize) -> bool
+    ensures { result ≡ is_let hashing.now first place }
+{
+    match first {
+        Some(first) => !is_ready(hashing, place) || place == first,
+        None => !is_ready(hashing, place),
     }
 }
 

@@ -26,3 +26,10 @@ manner_after m verb code is_in = record {
 -- after three refused logins each answer waits a second, and the tenth is the last
 abbrev pub answer_to : Manner → Pace
 answer_to m = if nat_lt m.refused 3 then Paces.AtOnce else (if nat_lt m.refused 10 then Paces.Slow else Paces.Last)
+
+-- a password is waited for behind a USER that was answered by 331, until a PASS, a REIN or another USER is answered
+abbrev pub password_awaited : Bool → Option Verb → ℕ → Bool
+password_awaited awaited (Some Verbs.User) code = code == 331
+password_awaited awaited (Some Verbs.Pass) code = false
+password_awaited awaited (Some Verbs.Rein) code = false
+password_awaited awaited verb code = awaited

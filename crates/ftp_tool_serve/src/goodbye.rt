@@ -11,6 +11,7 @@ pub(crate) fn last_reply(over: Over) -> Option<&'static [u8]> {
         Over::Waited => Some(b"421 Nothing was said or sent, and others wait\r\n"),
         Over::Session => Some(b"421 The time is over, since others wait\r\n"),
         Over::LoginWaited => Some(b"421 Nobody logged in, and others wait\r\n"),
+        Over::Crowded => Some(b"421 Your address has the most sessions, and another has none\r\n"),
         Over::Stopped => Some(b"421 The server stops\r\n"),
         Over::Refused => None,
     }

@@ -1,9 +1,9 @@
 // What is told of a session on standard error, and how slow it is after refused logins: a function of what its server tells of each call.
 use crate::goodbye::{guessed_from, last_reply};
-use crate::manner::{Manner, Pace};
+use crate::manner::{Manner, Pace, password_awaited};
 use crate::seated::Service;
 use crate::telling::Asked;
-use crate::tells::{Entry, Fate, Note, Outcome, Tells};
+use crate::tells::{Entry, Fate, NotTaken, Note, Outcome, Tells};
 use crate::text::Text;
 use ftp_command::Verb;
 use ftp_reply::code::COMPLETE;
@@ -55,6 +55,8 @@ pub(crate) struct Journal<'a, R: Tells> {
     line: Rc<Line, Global>,
     service: Service<'a>,
     manner: Cell<Manner>,
+    /// Whether a password is waited for, which is hashed.
+    awaits_password: Cell<bool>,
     /// The user who was named last.
     named: Cell<Text>,
     /// The user who is logged in; empty where nobody is.
@@ -90,6 +92,7 @@ impl<'a, R: Tells> Journal<'a, R> {
             line,
             service,
             manner: Cell::new(Manner::new()),
+            awaits_password: Cell::new(false),
             named: Cell::new(Text::new()),
             user: Cell::new(Text::new()),
             before: Cell::new(Before {
@@ -136,6 +139,7 @@ impl<'a, R: Tells> Journal<'a, R> {
             Some(Over::Waited) => "is ended: nothing was said or sent, and others wait",
             Some(Over::Session) => "is ended: its time is over, since others wait",
             Some(Over::LoginWaited) => "is ended: nobody logged in, and others wait",
+            Some(Over::Crowded) => "is ended: its address has the most seats, and another has none",
             Some(Over::Refused) => "is ended: ten logins were refused",
             Some(Over::Stopped) => "is ended: the server stops",
         };
@@ -160,6 +164,9 @@ impl<'a, R: Tells> Journal<'a, R> {
         let is_in = server.login().is_some();
         if let Some(why) = server.tree().reason() {
             self.why.set(Some(why));
+        }
+        if let Some(left) = server.tree().left_out() {
+            self.rt.tell(self.service.lines, &NotTaken(left));
         }
         if let Some((asked, code)) = self.ended(server) {
             self.close(is_in, asked, code);
@@ -203,6 +210,7 @@ impl<'a, R: Tells> Journal<'a, R> {
             .set(if is_in { self.named.get() } else { Text::new() });
         let why = self.why.take();
         self.judge(asked.verb, code, is_in);
+        self.await_password(asked.verb, code);
         if !asked.is_told_by(code) {
             return;
         }
@@ -226,6 +234,21 @@ impl<'a, R: Tells> Journal<'a, R> {
         if let Some(closed) = self.closed.take() {
             self.tell(closed);
         }
+    }
+
+    /// Takes in whether a password is waited for. Where octets came behind the name the 331 goes in the next turn, so that it is known before each turn
+    /// whether a password may be hashed in it.
+    fn await_password(&self, verb: Option<Verb>, code: u16) {
+        let awaits = password_awaited(self.awaits_password.get(), verb, code);
+        self.awaits_password.set(awaits);
+        if awaits {
+            self.line.end_turn();
+        }
+    }
+
+    /// Whether a password is waited for.
+    pub(crate) fn awaits_password(&self) -> bool {
+        self.awaits_password.get()
     }
 
     /// Takes in how a login went. After some that were refused each answer waits until somebody is logged in, and then that to a refused one.

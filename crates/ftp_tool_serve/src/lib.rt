@@ -4,8 +4,10 @@
 mod accounts;
 mod alone;
 mod begins;
+mod ceiling;
 mod connections;
 mod goodbye;
+mod holding;
 mod journal;
 mod manner;
 mod named;

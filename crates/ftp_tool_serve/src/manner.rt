@@ -1,9 +1,12 @@
 // How a client behaves: whether it logged in, and how many logins were refused.
 ghost use Rattle.std.specs.Prelude.{◌≡◌};
-ghost use Rattle.ftp_tool_serve.specs.Manner.{answer_to, manner_after};
+ghost use Rattle.ftp_tool_serve.specs.Manner.{answer_to, manner_after, password_awaited};
 
 use ftp_command::Verb;
 use ftp_reply::code::NOT_LOGGED_IN;
+
+/// The code of a reply that asks for a password.
+const NEEDS_PASSWORD: u16 = 331;
 
 /// From this refused login on each answer waits.
 const SLOW_FROM: u8 = 3;
@@ -65,5 +68,16 @@ impl Manner {
         } else {
             Pace::Last
         }
+    }
+}
+
+/// Whether a password is waited for, behind a line of this verb that was answered by a last reply of this code.
+pub(crate) fn password_awaited(awaited: bool, verb: Option<Verb>, code: u16) -> bool
+    ensures { result ≡ password_awaited awaited verb code }
+{
+    match verb {
+        Some(Verb::User) => code == NEEDS_PASSWORD,
+        Some(Verb::Pass | Verb::Rein) => false,
+        _ => awaited,
     }
 }

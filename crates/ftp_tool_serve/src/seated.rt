@@ -10,6 +10,7 @@ use ftp_control::{Cause, Ports};
 use ftp_operation::Accounts;
 use ftp_server_drive::{Clocked, Control, Data, Turned};
 use ftp_server_lent::lent_turns;
+use ftp_server_model::Standing;
 use ftp_server_several::Lends;
 use ftp_tool_guesses::Guesses;
 use ftp_tool_log::Lines;
@@ -72,6 +73,8 @@ where
     control: Control<LineReader, SaidWriter<'a, R>>,
     ports: CountedPorts<'a, R>,
     data: Data<CountedLink<'a, R>>,
+    /// What stood at the path of an upload when the tree was last given back.
+    stood: Option<Standing>,
     journal: Rc<Journal<'a, R>, Global>,
     went: Went,
 }
@@ -89,6 +92,7 @@ where
             control: _,
             ports,
             data,
+            stood: _,
             journal: _,
             went: _,
         } = self;
@@ -129,6 +133,7 @@ where
             control,
             ports,
             data: Data::new(),
+            stood: None,
             journal,
             went: Went::On,
         }
@@ -150,6 +155,7 @@ where
             &mut self.ports,
             &mut self.data,
             tree,
+            &mut self.stood,
         );
         match turned {
             Ok(Turned::Later) => Course::Later,
@@ -175,6 +181,10 @@ where
 
     fn is_busy(&self) -> bool {
         self.clocked.server.is_transferring() || self.clocked.server.owes()
+    }
+
+    fn may_hash(&self) -> bool {
+        self.journal.awaits_password()
     }
 
     fn leave(&mut self) -> (Leaving, bool) {
@@ -203,6 +213,7 @@ fn some_turns<'a, R, T, F>(
     ports: &mut CountedPorts<'a, R>,
     data: &mut Data<CountedLink<'a, R>>,
     tree: &mut T,
+    stood: &mut Option<Standing>,
 ) -> Result<Turned<()>, Cause>
 where
     R: Sockets + Tells + Clock,
@@ -218,5 +229,5 @@ where
         CountedPorts<'a, R>,
         SystemWatch<'a, R>,
         Watching<'a, R, T>,
-    >(clocked, control, ports, data, tree, MOST)
+    >(clocked, control, ports, data, tree, stood, MOST)
 }

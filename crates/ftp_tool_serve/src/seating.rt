@@ -9,13 +9,15 @@ use crate::connections::{CountedPorts, SaidWriter};
 use crate::goodbye::{guessed_from, no_seat};
 use crate::journal::{Journal, Log};
 use crate::seated::{Connected, Guest, Service, Session};
+use crate::serving::Serving;
 use crate::tells::{NoClient, Note, Tells};
 use crate::watching::Watching;
 use ftp_endpoint::Host;
 use ftp_server_drive::Control;
 use ftp_tool_looking::{Limits, Line, LinePorts, LineReader, LineWriter};
-use ftp_tool_rounds::{Full, Seats};
+use ftp_tool_rounds::{Full, Seat, Seats};
 use ftp_tool_sockets::{Sockets, host_of};
+use ftp_tool_words::Sessions;
 use ftp_tree::Tree;
 use ftp_tree_disk::{Explains, Parks};
 use std::alloc::{AllocError, Global};
@@ -32,24 +34,25 @@ pub(crate) struct Seating<'a, R, T, M> {
     rt: &'a R,
     accounts: Option<&'a str>,
     waits: Limits,
+    sessions: Sessions,
     service: Service<'a>,
     begins: M,
     _over: PhantomData<T>,
 }
 
 impl<'a, R, T, M> Seating<'a, R, T, M> {
-    /// Clients are waited for so long; who may log in is read anew for each of them.
+    /// What they are for a job; who may log in is read anew for each client.
     pub(crate) fn new(
         rt: &'a R,
-        accounts: Option<&'a str>,
-        waits: Limits,
+        job: &Serving<'a>,
         service: Service<'a>,
         begins: M,
     ) -> Seating<'a, R, T, M> {
         Seating {
             rt,
-            accounts,
-            waits,
+            accounts: job.accounts,
+            waits: job.waits,
+            sessions: job.sessions,
             service,
             begins,
             _over: PhantomData,
@@ -85,6 +88,10 @@ where
             service: self.service,
         };
         let session = session_of(self.rt, &self.begins, tree, guest)?;
+        // Who waits for one of so many sessions has its turn once a transfer is done.
+        if let Sessions::Count(_) = self.sessions {
+            session.patience().spare_transfers();
+        }
         Box::new(self.rt.alloc(), session).ok()
     }
 
@@ -142,15 +149,31 @@ where
         waits,
         service,
     } = guest;
-    let line = Line::new(stream, waits).ok()?;
-    let here = told_host(service.passive_address, host_of(line.here().ok()?));
-    let peer = line.peer().ok()?;
+    let Ok(line) = Line::new(stream, waits) else {
+        return None;
+    };
+    let (Ok(here), Ok(peer)) = (line.here(), line.peer()) else {
+        return None;
+    };
+    let here = told_host(service.passive_address, host_of(here));
     let server = begins.begin(rt.alloc(), tree.bare(), accounts, here, host_of(peer))?;
-    let line = Rc::new(rt.alloc(), line).ok()?;
-    let journal = Journal::new(rt, line.clone().ok()?, peer, service);
-    let journal = Rc::new(rt.alloc(), journal).ok()?;
-    let connected = connected(rt, &line, &journal, service).ok()??;
-    let watching = Watching::new(rt, journal.clone().ok()?);
+    let Ok(line) = Rc::new(rt.alloc(), line) else {
+        return None;
+    };
+    let Ok(journal_line) = line.clone() else {
+        return None;
+    };
+    let journal = Journal::new(rt, journal_line, peer, service);
+    let Ok(journal) = Rc::new(rt.alloc(), journal) else {
+        return None;
+    };
+    let Ok(Some(connected)) = connected(rt, &line, &journal, service) else {
+        return None;
+    };
+    let Ok(watched) = journal.clone() else {
+        return None;
+    };
+    let watching = Watching::new(rt, watched);
     Some(Session::new(rt, server, connected, watching, journal))
 }
 
@@ -161,7 +184,7 @@ fn connected<'a, R: Sockets + Tells>(
     journal: &Rc<Journal<'a, R>, Global>,
     service: Service<'a>,
 ) -> Result<Option<Connected<'a, R>>, AllocError> {
-    let Ok(inner) = LinePorts::new(rt, line.clone()?, service.passive) else {
+    let Ok(inner) = LinePorts::serving(rt, line.clone()?, service.passive) else {
         return Ok(None);
     };
     let ports = CountedPorts {

@@ -4,6 +4,8 @@ ghost use Rattle.ftp_tool_serve.specs.Listening.{MayListen};
 
 use crate::accounts::{accounts_of, reach_of};
 use crate::begins::{Begins, Ours};
+use crate::ceiling::{most_written, within};
+use crate::holding::{Hold, Taken};
 use crate::journal::Log;
 use crate::seated::Service;
 use crate::seating::Seating;
@@ -130,8 +132,63 @@ fn tell_address<R: Print>(rt: &R, listener: &TcpListener) -> io::Result<()> {
     Ok(())
 }
 
-/// Loads the folder and serves it.
+/// The folder's lock, which is let go with this; where nobody is served none is asked for.
+fn hold_of<R: AllocGlobal>(rt: &R, job: &Serving<'_>) -> Result<Hold, AllocError> {
+    if job.sessions == Sessions::Count(0) {
+        return Ok(Hold::Unasked);
+    }
+    let dir = dir_text(job.dir);
+    let place = format!(in rt.alloc(); "{dir}/.")?;
+    Ok(Hold::take(place.as_str()))
+}
+
+/// Tells that a folder is not locked.
+fn tell_unlocked<R: Eprint>(rt: &R, dir: &str, error: &io::Error) -> io::Result<()> {
+    let dir = Shown(dir_text(dir).as_bytes());
+    eprintln!(rt;
+        "note: {dir}: the folder can't be locked, so a second server on it is not refused: {error}"
+    )
+}
+
+/// The limits of what is served: no larger file than the system lets the server write, which is told.
+fn limits_of<R: Eprint>(rt: &R, limits: Limits) -> io::Result<Limits> {
+    let most = most_written();
+    if most < limits.file {
+        eprintln!(rt;
+            "note: the system lets no file have more than {most} octets: this is the limit of a file"
+        )?;
+    }
+    Ok(within(limits, most))
+}
+
+/// Holds the folder while it is served; one that another server has is refused.
 fn serve_dir<R>(rt: &R, job: &Serving<'_>) -> io::Result<Status>
+where
+    R: Net<Listener = TcpListener, Stream = TcpStream>
+        + Files
+        + Clock
+        + Print
+        + Eprint
+        + AllocGlobal
+        + Clone
+        + Drop,
+{
+    let Ok(hold) = hold_of(rt, job) else {
+        return refuse(rt, "", &LoadFault::Memory);
+    };
+    match &hold {
+        Hold::Taken => return refuse(rt, "", &Taken(dir_text(job.dir))),
+        Hold::Refused(error) => tell_unlocked(rt, job.dir, error)?,
+        Hold::Held(_) | Hold::Unasked => {}
+    }
+    let limits = limits_of(rt, job.limits)?;
+    let status = serve_held(rt, &Serving { limits, ..*job });
+    drop(hold);
+    status
+}
+
+/// Loads the folder and serves it.
+fn serve_held<R>(rt: &R, job: &Serving<'_>) -> io::Result<Status>
 where
     R: Net<Listener = TcpListener, Stream = TcpStream>
         + Files
@@ -273,6 +330,15 @@ fn tell_unheard<R: Eprint>(
     Ok(None)
 }
 
+/// The passive ports: where sessions have no end, one that nobody opens is given up where another is wanted.
+fn passive_of(alloc: Global, job: &Serving<'_>) -> PassivePorts {
+    let (first, last) = job.passive;
+    match job.sessions {
+        Sessions::Forever => PassivePorts::given_up(alloc, first, last),
+        Sessions::Count(_) => PassivePorts::new(alloc, first, last),
+    }
+}
+
 /// Serves a tree at a port that is listened at.
 fn serve_by<R, T>(
     rt: &R,
@@ -285,7 +351,7 @@ where
     R: Net<Listener = TcpListener, Stream = TcpStream> + Files + Clock + Eprint + AllocGlobal,
     T: Parks<Global> + Explains,
 {
-    let passive = PassivePorts::new(rt.alloc(), job.passive.0, job.passive.1);
+    let passive = passive_of(rt.alloc(), job);
     let guesses = RefCell::new(Guesses::nothing(rt.alloc()));
     let service = Service {
         log: job.log,
@@ -359,7 +425,7 @@ where
     M: Begins<T>,
 {
     let mut tree = tree;
-    let seating: Seating<'_, R, T, M> = Seating::new(rt, job.accounts, job.waits, service, begins);
+    let seating: Seating<'_, R, T, M> = Seating::new(rt, job, service, begins);
     if listener.set_nonblocking(true).is_err() {
         return Status::Failed;
     }

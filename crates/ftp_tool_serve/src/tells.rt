@@ -3,6 +3,7 @@ use crate::named::Named;
 use ftp_command::Verb;
 use ftp_tool_log::Lines;
 use ftp_tool_shown::Shown;
+use ftp_tree_disk::LeftOut;
 use std::fmt::{Display, Formatter};
 use std::net::SocketAddr;
 use std::time::Clock;
@@ -48,6 +49,24 @@ pub(crate) struct Told<'a, T>(pub(crate) &'static str, pub(crate) &'a T);
 impl<'a, T: Display> Display for Told<'a, T> {
     fn fmt<W: fmt::Write>(&self, formatter: &mut Formatter<W>) -> fmt::Result {
         write!(formatter, "{}{}", self.0, self.1)
+    }
+}
+
+/// What others brought into the folder and is not served, since it passes a limit: how many entries, and which is the first.
+#[derive(Clone, Copy)]
+pub(crate) struct NotTaken<'a>(pub(crate) &'a LeftOut);
+
+impl<'a> Display for NotTaken<'a> {
+    fn fmt<W: fmt::Write>(&self, formatter: &mut Formatter<W>) -> fmt::Result {
+        let count = self.0.count;
+        write!(
+            formatter,
+            "note: {count} entries that came to the folder are not served"
+        )?;
+        match &self.0.first {
+            Some(first) => write!(formatter, "; the first is {first}"),
+            None => Ok(()),
+        }
     }
 }
 

@@ -1,2 +1,3 @@
 pub mod Host
+pub mod Patience
 pub mod Waiting

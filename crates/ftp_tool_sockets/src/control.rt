@@ -40,7 +40,7 @@ impl<'a> Read for ControlReader<'a> {
             .get(..count)
             .is_some_and(|octets| octets.contains(&b'\n'))
         {
-            self.patience.stir();
+            self.patience.hear();
         }
         Ok(count)
     }

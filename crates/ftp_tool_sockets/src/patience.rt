@@ -1,4 +1,7 @@
 // How long one who asks waits for its server.
+ghost use Rattle.std.specs.Prelude.{◌≡◌};
+ghost use Rattle.ftp_tool_sockets.specs.Patience.{sooner};
+
 use crate::wait::{Polled, ask};
 use ftp_control::TURNS;
 use libc::types::{pollfd, timespec};
@@ -17,34 +20,56 @@ pub(crate) enum Waited {
     Failed,
 }
 
-/// The patience of one who asks, over one control connection: its server may say, take and send nothing for so long. Time is that of the system's
-/// monotonic clock.
+/// The patience of one who asks, over one control connection: its server may say, take and send nothing for so long, and all may take so long. Time is that of
+/// the system's monotonic clock.
 #[derive(Drop)]
 pub struct Patience {
     /// In milliseconds; none: without a limit.
     limit: Option<u64>,
+    /// Until when it lasts at most, in milliseconds; none: without a limit.
+    until: Option<u64>,
     /// When something was done last, in milliseconds.
     last: Cell<u64>,
+    /// Whether the server said a line since anything else was done.
+    has_heard: Cell<bool>,
     is_over: Cell<bool>,
 }
 
 impl Patience {
-    /// The patience of one that begins now, in seconds; 0: without a limit.
-    pub fn new(seconds: u32) -> Patience {
+    /// The patience of one that begins now, in seconds of silence, 0: without a limit; and until when it lasts at most, in milliseconds of the monotonic clock.
+    pub fn new(seconds: u32, until: Option<u64>) -> Patience {
         let limit = match seconds {
             0 => None,
             seconds => Some(u64::from(seconds) * 1_000),
         };
         Patience {
             limit,
+            until,
             last: Cell::new(monotonic_millis()),
+            has_heard: Cell::new(false),
             is_over: Cell::new(false),
         }
     }
 
-    /// Something was done: a command, a reply, or octets of a data connection.
+    /// Something was done: a command went, or octets of a data connection.
     pub fn stir(&self) {
+        self.has_heard.set(false);
         self.last.set(monotonic_millis());
+    }
+
+    /// The server said a line: a sign of life once behind what was done, so that lines without end are none.
+    pub(crate) fn hear(&self) {
+        if !self.has_heard.replace(true) {
+            self.last.set(monotonic_millis());
+        }
+    }
+
+    /// Whether the moment has come until which it lasts at most.
+    pub fn is_past(&self) -> bool {
+        match self.until {
+            Some(until) => until <= monotonic_millis(),
+            None => false,
+        }
     }
 
     /// Whether nothing is waited for any more.
@@ -84,13 +109,31 @@ impl Patience {
         if self.is_over.get() {
             return Some(0);
         }
-        let quiet = monotonic_millis().saturating_sub(self.last.get());
-        Some(self.limit?.saturating_sub(quiet))
+        let now = monotonic_millis();
+        let until = match self.limit {
+            Some(limit) => Some(self.last.get().saturating_add(limit)),
+            None => None,
+        };
+        match sooner(until, self.until) {
+            Some(until) => Some(until.saturating_sub(now)),
+            None => None,
+        }
     }
 
     /// How long octets may wait for the peer to take them, in milliseconds; 0: without a limit.
     pub(crate) fn untaken_millis(&self) -> i32 {
         i32::try_from(self.limit.unwrap_or(0)).unwrap_or(i32::MAX)
+    }
+}
+
+/// The sooner of two moments; none where there is none.
+fn sooner(one: Option<u64>, other: Option<u64>) -> Option<u64>
+    ensures { result ≡ sooner one other }
+{
+    match (one, other) {
+        (Some(one), Some(other)) => Some(one.min(other)),
+        (Some(one), None) => Some(one),
+        (None, other) => other,
     }
 }
 

@@ -19,8 +19,9 @@ use ftp_tree::{Broken, DirEntries, Draft, Limits, NodeKind, Sight, Tree, TreeFau
 use ftp_tree_host::Host;
 use ftp_tree_look::look_at;
 use ftp_tree_nodes::Nodes;
-use ftp_tree_walk::{Dirs, Held, Version, take_up};
+use ftp_tree_walk::{Dirs, Held, LeftOut, Version, take_up};
 use std::alloc::{AllocError, Allocator, Global};
+use std::cell::Cell;
 use std::io;
 
 /// Who else changes the folder of a tree.
@@ -41,6 +42,38 @@ pub struct DiskTree<'a, H: Host, K: Held> {
     pub(crate) others: Others,
     /// The number of the last version.
     pub(crate) version: u64,
+    pub(crate) left: Left,
+}
+
+/// What looks left out for a limit last, and whether that was not told yet.
+pub(crate) struct Left {
+    last: LeftOut,
+    is_new: Cell<bool>,
+}
+
+/// By hand, as that of the tree.
+impl Drop for Left {
+    fn drop(self) {
+        let Self { last: _, is_new: _ } = self;
+    }
+}
+
+impl Left {
+    /// Nothing is left out.
+    fn nothing() -> Left {
+        Left {
+            last: LeftOut::nothing(),
+            is_new: Cell::new(false),
+        }
+    }
+
+    /// A look left this out. The same as last is not told again.
+    fn see(&mut self, left: LeftOut) {
+        if left.count > 0 && !left.is_same(&self.last) {
+            self.last = left;
+            self.is_new.set(true);
+        }
+    }
 }
 
 /// By hand: a derived drop is proved again wherever a tree is let go, and what is generic over it is compiled again.
@@ -52,19 +85,31 @@ impl<'a, H: Host, K: Held> Drop for DiskTree<'a, H, K> {
             dirs: _,
             others: _,
             version: _,
+            left: _,
         } = self;
     }
 }
 
-/// A tree that tells why a call on its device failed.
+/// A tree that tells why a call on its device failed, and what a look left out.
 pub trait Explains {
     /// Why the last call that failed did, once.
     fn reason(&self) -> Option<io::Error>;
+
+    /// What others brought and a look left out for a limit, once.
+    fn left_out(&self) -> Option<&LeftOut>;
 }
 
 impl<'a, H: Host, K: Held> Explains for DiskTree<'a, H, K> {
     fn reason(&self) -> Option<io::Error> {
         self.device.host().reason()
+    }
+
+    fn left_out(&self) -> Option<&LeftOut> {
+        if self.left.is_new.replace(false) {
+            Some(&self.left.last)
+        } else {
+            None
+        }
     }
 }
 
@@ -86,6 +131,7 @@ impl<'a, H: Host, K: Held> DiskTree<'a, H, K> {
             dirs,
             others,
             version,
+            left: Left::nothing(),
         }
     }
 
@@ -113,13 +159,15 @@ impl<'a, H: Host, K: Held> DiskTree<'a, H, K> {
             return Ok(());
         }
         self.device.changed();
-        take_up(
+        let (taken, left) = take_up(
             host,
             &mut self.nodes,
             &mut self.dirs,
             &mut self.version,
             findings,
-        )
+        );
+        self.left.see(left);
+        taken
     }
 }
 

@@ -8,3 +8,5 @@ pub mod Names
 pub mod Copied
 -- Which moment a file has.
 pub mod Moment
+-- How an open file stands.
+pub mod Standing

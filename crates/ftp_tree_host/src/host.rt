@@ -66,7 +66,9 @@ pub trait Host {
     /// inode was touched since is no change.
     fn open(&self, below: &str, look: Look) -> io::Result<Self::File>;
 
-    /// Reads octets of an open file from a place on, and says how many; an end before the first of them is a failure.
+    /// Reads octets of an open file from a place on, and says how many; an end before the first of them is a failure. So is it where the last of its octets
+    /// are read and others changed them since it was opened: it has another length or moment, or its inode was touched and neither its name, its links,
+    /// its permissions nor its owner tell why.
     fn read(&self, file: &mut Self::File, at: u64, room: &mut [u8]) -> io::Result<usize>
         ensures most { IfOk result (λ count. count ≤ length room.old) }
         ensures some { IfOk result (λ count. 0 < length room.old → 0 < count) };

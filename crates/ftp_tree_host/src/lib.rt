@@ -13,6 +13,7 @@ mod moving;
 mod part;
 mod place;
 mod reading;
+mod standing;
 mod system;
 mod writing;
 

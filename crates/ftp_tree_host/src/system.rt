@@ -167,11 +167,11 @@ impl<'a, R: Files + Clock + AllocGlobal> Host for SystemHost<'a, R> {
 
     fn open(&self, below: &str, look: Look) -> io::Result<SystemFile<R::File>> {
         let place = self.way(below)?;
-        Ok(SystemFile::new(open_same(self.files, place.as_str(), look)?))
+        SystemFile::open(self.files, place, look)
     }
 
     fn read(&self, file: &mut SystemFile<R::File>, at: u64, room: &mut [u8]) -> io::Result<usize> {
-        file.read(at, room)
+        file.read(self.files, at, room)
     }
 
     fn begin(&self, below: &str) -> io::Result<SystemPart<R::File>> {

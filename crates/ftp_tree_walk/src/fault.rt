@@ -144,10 +144,24 @@ pub struct LeftOut {
 }
 
 impl LeftOut {
-    pub(crate) fn nothing() -> LeftOut {
+    /// Nothing is.
+    pub fn nothing() -> LeftOut {
         LeftOut {
             count: 0,
             first: None,
+        }
+    }
+
+    /// Whether as many entries are left out, and the same first one.
+    pub fn is_same(&self, other: &LeftOut) -> bool {
+        self.count == other.count && self.first_place() == other.first_place()
+    }
+
+    /// The place of the first one.
+    fn first_place(&self) -> &[u8] {
+        match &self.first {
+            Some(LoadFault::Refused { place, why: _ }) => place.as_slice(),
+            Some(LoadFault::Memory) | None => b"".as_slice(),
         }
     }
 
@@ -166,10 +180,11 @@ pub(crate) enum Odds {
     Refuse,
     /// It is left out.
     LeaveOut(LeftOut),
-    /// It is left out, and why what stands at a place that was asked for, or above it, is.
+    /// It is left out, and why what stands at a place that was asked for, or above it, is; what passes a limit is counted, too.
     Asked {
         place: String<Global>,
         why: Option<Reason>,
+        left: LeftOut,
     },
 }
 
@@ -177,7 +192,13 @@ pub(crate) enum Odds {
 impl Drop for Odds {
     fn drop(self) {
         match self {
-            Odds::Refuse | Odds::LeaveOut(_) | Odds::Asked { place: _, why: _ } => {}
+            Odds::Refuse
+            | Odds::LeaveOut(_)
+            | Odds::Asked {
+                place: _,
+                why: _,
+                left: _,
+            } => {}
         }
     }
 }
@@ -196,7 +217,11 @@ impl Odds {
             Odds::Asked {
                 place: asked,
                 why: first,
+                left,
             } => {
+                if let Reason::Tree(_) = why {
+                    left.put(alloc, place, why);
+                }
                 if first.is_none() && is_at_or_above(place, asked.as_bytes()) {
                     *first = Some(why);
                 }
@@ -205,18 +230,28 @@ impl Odds {
         Ok(())
     }
 
-    /// What was left out.
+    /// Whether a look is taken up.
+    pub(crate) fn is_look(&self) -> bool {
+        matches!(self, Odds::Asked { .. })
+    }
+
+    /// What was left out; at a look, what passed a limit.
     pub(crate) fn into_left(self) -> LeftOut {
         match self {
             Odds::LeaveOut(left) => left,
-            Odds::Refuse | Odds::Asked { place: _, why: _ } => LeftOut::nothing(),
+            Odds::Asked {
+                place: _place,
+                why: _,
+                left,
+            } => left,
+            Odds::Refuse => LeftOut::nothing(),
         }
     }
 
     /// Why what was asked for can't be served.
     pub(crate) fn why(&self) -> Option<Reason> {
         match self {
-            Odds::Asked { place: _, why } => *why,
+            Odds::Asked { why, .. } => *why,
             Odds::Refuse | Odds::LeaveOut(_) => None,
         }
     }

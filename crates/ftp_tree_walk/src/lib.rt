@@ -6,6 +6,7 @@ mod changes;
 mod counting;
 mod dirs;
 mod fault;
+mod freed;
 mod here;
 mod loading;
 mod names;

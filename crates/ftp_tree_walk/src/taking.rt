@@ -3,7 +3,7 @@ ghost use Rattle.std.specs.Prelude.{◌≡◌};
 
 use crate::changes::{Changes, Findings, Stands};
 use crate::dirs::{Dirs, Seen};
-use crate::fault::{LoadFault, Odds, Reason};
+use crate::fault::{LeftOut, LoadFault, Odds, Reason};
 use crate::version::{Held, Version};
 use crate::walking::{Kept, Walk};
 use ftp_tree_host::Host;
@@ -12,7 +12,8 @@ use std::alloc::Global;
 use std::{io, mem};
 
 /// Takes up what a look found: what is gone is cut, a file that is another one gets a version of its own, and of a new directory all that is below it
-/// comes too. What passes a limit, counted by roots, or can't be served is left out; where that is what was asked for, or above it, this fails.
+/// comes too. What passes a limit, counted by roots, or can't be served is left out; where that is what was asked for, or above it, this fails. Nothing
+/// is left out for a limit of numbers before what others took away below its root has been looked for. What passed a limit is told beside.
 ///
 /// Where it fails otherwise, a part may be taken up; the next look finds the rest.
 pub fn take_up<H: Host, K: Held>(
@@ -21,7 +22,7 @@ pub fn take_up<H: Host, K: Held>(
     dirs: &mut Dirs,
     version: &mut u64,
     findings: Findings,
-) -> io::Result<()>
+) -> (io::Result<()>, LeftOut)
     ensures { nodes.new.limits ≡ nodes.old.limits }
 {
     let (asked, changes, listed, why) = findings.into_parts();
@@ -33,12 +34,14 @@ pub fn take_up<H: Host, K: Held>(
         dirs: mem::replace(dirs, Dirs::new(alloc)),
         version: *version,
     };
-    let mut walk = Walk::new(host, kept, Odds::Asked { place: asked, why });
+    let left = LeftOut::nothing();
+    let place = asked;
+    let mut walk = Walk::new(host, kept, Odds::Asked { place, why, left });
     let taken = take_all(&mut walk, &changes, listed);
     let (kept, odds) = walk.into_parts();
     (*nodes, *dirs, *version) = kept.into_parts();
     nodes.limit(limits);
-    answer(taken, odds.why())
+    (answer(taken, odds.why()), odds.into_left())
 }
 
 /// Takes up changes: first what is gone, the last first, so that little moves; then what takes no more room than before.

@@ -1,8 +1,9 @@
 // Taking files and directories of a disk into a tree. No file is opened.
-use crate::changes::Thing;
+use crate::changes::{Changes, Thing};
 use crate::counting::Own;
 use crate::dirs::{Dirs, Seen};
 use crate::fault::{LoadFault, Odds, Reason};
+use crate::freed::freed_below;
 use crate::here::Here;
 use crate::names::sorted;
 use crate::version::{Held, Version};
@@ -11,11 +12,11 @@ use ftp_tree::{Limits, NodeKind, TreeFault};
 use ftp_tree_host::{Found, Host, Look, moment_of};
 use ftp_tree_nodes::Nodes;
 use std::alloc::{AllocError, Global};
-use std::io;
 use std::io::ErrorKind;
+use std::{io, mem};
 
 /// The loop over directories ends, as at a limit, once it has made so many turns.
-const DIR_TURNS: u64 = 1_099_511_627_776;
+pub(crate) const DIR_TURNS: u64 = 1_099_511_627_776;
 
 /// The nodes have no limits while a walk counts by roots.
 const ANY: Limits = Limits {
@@ -78,6 +79,8 @@ pub(crate) struct Walk<'a, H: Host, K: Held> {
     here: Here,
     /// What stands below its root.
     own: Own,
+    /// Whether what others took away below that root was looked for.
+    is_freed: bool,
     /// Whether something in it passed a limit.
     is_short: bool,
     /// The place of what is taken in.
@@ -95,6 +98,7 @@ impl<'a, H: Host, K: Held> Drop for Walk<'a, H, K> {
             odds: _,
             here: _,
             own: _,
+            is_freed: _,
             is_short: _,
             place: _,
             waiting: _,
@@ -118,6 +122,7 @@ impl<'a, H: Host, K: Held> Walk<'a, H, K> {
             odds,
             here,
             own,
+            is_freed: false,
             is_short: false,
             place: String::new(alloc),
             waiting: Vec::new(alloc),
@@ -133,6 +138,7 @@ impl<'a, H: Host, K: Held> Walk<'a, H, K> {
             odds,
             here: _,
             own: _,
+            is_freed: _,
             is_short: _,
             place: _,
             waiting: _,
@@ -190,6 +196,7 @@ impl<'a, H: Host, K: Held> Walk<'a, H, K> {
         };
         if here.root.key() != self.here.root.key() {
             self.own = Own::of(&self.kept.nodes, &self.kept.dirs.roots, &here.root);
+            self.is_freed = false;
         }
         self.here = here;
         Ok(())
@@ -244,7 +251,7 @@ impl<'a, H: Host, K: Held> Walk<'a, H, K> {
     /// Keeps a part that an interrupted write left, which is no part of the tree: where that fails, it stays as it is. At a look it may be one that is
     /// written now.
     fn leave(&mut self, len: u64) {
-        if let Odds::Asked { .. } = &self.odds {
+        if self.odds.is_look() {
             return;
         }
         let _kept = self.host.leave(self.place.as_str(), len);
@@ -280,6 +287,9 @@ impl<'a, H: Host, K: Held> Walk<'a, H, K> {
 
     /// Makes a directory, which then waits.
     fn put_dir(&mut self, path: &Path<Global>, look: Look) -> Result<(), LoadFault> {
+        if self.own.dir_refusal(self.limits).is_some() {
+            self.free()?;
+        }
         if let Some(fault) = self.own.dir_refusal(self.limits) {
             return self.leave_out(Reason::Tree(fault));
         }
@@ -299,6 +309,10 @@ impl<'a, H: Host, K: Held> Walk<'a, H, K> {
     /// Puts a version of a file, in the place of the one that stands there. Where that passes a limit, none does any more.
     fn put_file(&mut self, path: &Path<Global>, look: Look) -> Result<(), LoadFault> {
         let old = self.kept.nodes.size(&self.here.root, path);
+        if self.own.file_refusal(self.limits, old, look.len) == Some(TreeFault::Full) {
+            self.free()?;
+        }
+        let old = self.kept.nodes.size(&self.here.root, path);
         let refusal = self.own.file_refusal(self.limits, old, look.len);
         if let Some(len) = old {
             self.own = self.own.but(len);
@@ -307,6 +321,57 @@ impl<'a, H: Host, K: Held> Walk<'a, H, K> {
             None => self.install(path, look),
             Some(fault) => self.refuse_file(path, fault),
         }
+    }
+
+    /// Looks once for what others took away below the root, at a look, and takes that up: it counts for limits no more. The walk goes on where it was.
+    fn free(&mut self) -> Result<(), LoadFault> {
+        if self.is_freed || !self.odds.is_look() {
+            return Ok(());
+        }
+        let freed = freed_below(
+            self.host,
+            &self.kept.nodes,
+            &self.kept.dirs.roots,
+            &self.here.root,
+        )?;
+        let top = Here::top(self.host.memory());
+        let here = mem::replace(&mut self.here, top);
+        let place = mem::replace(&mut self.place, String::new(self.host.memory()));
+        let is_short = self.is_short;
+        let taken = self.take_freed(&freed);
+        self.here = here;
+        self.place = place;
+        self.is_short = is_short;
+        self.is_freed = true;
+        self.count();
+        taken
+    }
+
+    /// Takes up what was taken away: first what is gone, the last first, so that little moves.
+    fn take_freed(&mut self, freed: &Changes) -> Result<(), LoadFault> {
+        for place in freed.gone.iter().rev() {
+            self.cut(place.as_str())?;
+        }
+        for stands in &freed.shorter {
+            if let Thing::File(look) = stands.thing {
+                self.shorten(stands.place.as_str(), look)?;
+            }
+        }
+        Ok(())
+    }
+
+    /// Puts a version of a file that has fewer octets than the one that stands at its place.
+    fn shorten(&mut self, place: &str, look: Look) -> Result<(), LoadFault> {
+        let Some((above, name)) = place.rsplit_once('/') else {
+            return Ok(());
+        };
+        if self.here.below.as_str() != above {
+            self.enter(above)?;
+        }
+        let Ok(path) = self.here.child(self.host.memory(), name) else {
+            return Err(LoadFault::Memory);
+        };
+        self.install(&path, look)
     }
 
     /// Puts a version of a file that passes no limit.
