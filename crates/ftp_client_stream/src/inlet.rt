@@ -42,6 +42,13 @@ impl<R: Read + Drop> Inlet<R> {
         self.fault
     }
 
+    /// The reader, as far as it was read.
+    pub fn reader(&self) -> &R
+        ensures { result.now ≡ self.now.reader }
+    {
+        &self.reader
+    }
+
     /// The end of the file, where the reader has no more.
     fn end(&mut self) -> Result<usize, Unread>
         ensures none { IfOk result (λ count. count ≡ 0) }

@@ -8,7 +8,7 @@ use std::io;
 
 /// Files that are asked of one server by one user, and what is done with each.
 pub(crate) struct Batch<'a> {
-    each: Each,
+    each: Each<'a>,
     /// What is asked, but for the path of a file; none while there are no files.
     asked: Option<Target<'a>>,
     pairs: Vec<Pair, Global>,
@@ -27,7 +27,7 @@ impl<'a> Drop for Batch<'a> {
 
 impl<'a> Batch<'a> {
     /// None yet.
-    pub(crate) fn new(alloc: Global, each: Each) -> Batch<'a> {
+    pub(crate) fn new(alloc: Global, each: Each<'a>) -> Batch<'a> {
         Batch {
             each,
             asked: None,

@@ -2,27 +2,31 @@
 #![tactic(auto)]
 
 mod at_once;
+mod getting;
 mod perform;
 mod programs;
+mod refusing;
 mod several;
 
 use at_once::Batch;
 use clap::{ArgMatches, Error};
 use ftp_tool_asking::Openings;
 use ftp_tool_command::{
-    BadValue, PLACE_OPTION, Program, Refusal, asked_of, command, each_got, fetch_task_of,
-    get_task_of, is_matched, mirror_of, openings_of, program_of, rounds_of, script_server_of,
-    script_user_of, serving_of, settings_of, task_of, told_of, url_in, urls_in,
+    PLACE_OPTION, Program, Refusal, asked_of, command, fetch_task_of, mirror_of, openings_of,
+    program_of, rounds_of, script_server_of, script_user_of, serving_of, settings_of, task_of,
+    told_of, url_in, urls_in,
 };
 use ftp_tool_fetch::{Each, Pair, Task};
 use ftp_tool_quiet::{Hushed, Told};
 use ftp_tool_shown::Shown;
 use ftp_tool_single::{Simple, Target};
 use ftp_tool_status::Status;
-use ftp_tool_words::{Location, UrlPlace, place_for, says_directory};
+use ftp_tool_words::{Location, UrlPlace, place_for};
+use getting::get;
 use programs::Programs;
-use several::{check_places, goes_into, is_any_matched, sources_of, uploads_of};
-use std::alloc::{AllocError, Global};
+use refusing::refuse;
+use several::{check_places, check_uploads, goes_into, uploads_of};
+use std::alloc::Global;
 use std::env::Env;
 use std::fs::{File, Files};
 use std::io::{Eprint, IsTerminal, Write};
@@ -116,7 +120,7 @@ where
 }
 
 /// The number of a status.
-fn number_of(done: io::Result<Status>) -> io::Result<u8> {
+pub(crate) fn number_of(done: io::Result<Status>) -> io::Result<u8> {
     match done {
         Ok(status) => Ok(status.number()),
         Err(error) => Err(error),
@@ -169,8 +173,9 @@ fn serve<R: Programs + Eprint>(rt: &R, words: &ArgMatches<'_>) -> io::Result<u8>
 
 /// Does what `run` asks for.
 fn run_script<R: Programs + Eprint>(rt: &R, words: &ArgMatches<'_>) -> io::Result<u8> {
-    let Some(server) = script_server_of(words) else {
-        return refuse(rt, Refusal::Number);
+    let server = match script_server_of(words) {
+        Ok(server) => server,
+        Err(refusal) => return refuse(rt, refusal),
     };
     match script_user_of(words) {
         Ok(user) => number_of(rt.run(server, user)),
@@ -214,126 +219,6 @@ fn mirror_between<'a, R: Programs + Eprint>(
     }
 }
 
-/// Does what `get` asks for, file by file, each over a control connection of its own; the status is the worst.
-fn get<R>(rt: &R, alloc: Global, words: &ArgMatches<'_>, is_terminal: bool) -> io::Result<u8>
-where
-    R: Programs + Eprint,
-{
-    let (places, target) = sources_of(words.get_strs("places").unwrap_or(&[]));
-    let openings = openings_of(words);
-    let goal = Goal {
-        openings: &openings,
-        target,
-        into: places.len() > 1 || says_directory(target) || rt.is_folder(target),
-        is_terminal,
-    };
-    match urls_in(alloc, PLACE_OPTION, places) {
-        Ok(urls) => get_where(rt, alloc, words, places, urls.as_slice(), goal),
-        Err(refusal) => refuse(rt, refusal),
-    }
-}
-
-/// Downloads the files at places of which these are URLs, where all of them can be asked at.
-fn get_where<'a, R: Programs + Eprint>(
-    rt: &R,
-    alloc: Global,
-    words: &'a ArgMatches<'_>,
-    places: &[&'a str],
-    urls: &'a [Option<UrlPlace>],
-    goal: Goal<'a>,
-) -> io::Result<u8> {
-    let into = goal.into || is_any_matched(words, places, urls, goal.openings);
-    match check_places(words, places, urls, goal.openings, into) {
-        Ok(()) => number_of(get_all(rt, alloc, words, places, urls, Goal { into, ..goal })),
-        Err(refusal) => refuse(rt, refusal),
-    }
-}
-
-/// Where files go that are fetched, and by which commands data connections are asked for.
-#[derive(Clone, Copy)]
-struct Goal<'a> {
-    openings: &'a Openings,
-    target: &'a str,
-    /// Whether they go into the target.
-    into: bool,
-    is_terminal: bool,
-}
-
-/// Downloads files one after another, and gives the worst status.
-fn get_all<'a, R: Programs + Eprint>(
-    rt: &R,
-    alloc: Global,
-    words: &'a ArgMatches<'_>,
-    places: &[&'a str],
-    urls: &'a [Option<UrlPlace>],
-    goal: Goal<'a>,
-) -> io::Result<Status> {
-    let mut worst = Status::Done;
-    let mut batch = Batch::new(alloc, each_got(words));
-    for (place, url) in places.iter().zip(urls.iter()) {
-        let Ok(asked) = asked_of(words, *place, url.as_ref(), goal.openings, goal.is_terminal)
-        else {
-            return Ok(Status::BadWords);
-        };
-        let status = if asked.at_once > 1 && places.len() > 1 {
-            get_at_once(rt, alloc, words, asked, goal, &mut batch)?
-        } else {
-            get_told(rt, alloc, words, &asked, goal, places.len())?
-        };
-        worst = worst.worse(status);
-    }
-    Ok(worst.worse(batch.done(rt)?))
-}
-
-/// Downloads one of so many, and tells which one it is that was not done.
-fn get_told<R: Programs + Eprint>(
-    rt: &R,
-    alloc: Global,
-    words: &ArgMatches<'_>,
-    asked: &Target<'_>,
-    goal: Goal<'_>,
-    count: usize,
-) -> io::Result<Status> {
-    let status = get_one(rt, alloc, words, asked, goal)?;
-    tell_undone(rt, status, count, "copied", asked.place.path)?;
-    Ok(status)
-}
-
-/// Downloads a file with those before and behind it, over several control connections; the files of a pattern behind those before.
-fn get_at_once<'a, R: Programs + Eprint>(
-    rt: &R,
-    alloc: Global,
-    words: &ArgMatches<'_>,
-    asked: Target<'a>,
-    goal: Goal<'_>,
-    batch: &mut Batch<'a>,
-) -> io::Result<Status> {
-    if is_matched(words, asked.place) {
-        let before = batch.done(rt)?;
-        return Ok(before.worse(get_told(rt, alloc, words, &asked, goal, 2)?));
-    }
-    let pair = Pair {
-        path: String::from_str(alloc, asked.place.path)?,
-        file: place_for(alloc, goal.into, goal.target, asked.place.path)?,
-    };
-    batch.put(rt, asked, pair)
-}
-
-/// Downloads a file, into the target or to it; or the files of a pattern into the target.
-fn get_one<R: Programs>(
-    rt: &R,
-    alloc: Global,
-    words: &ArgMatches<'_>,
-    asked: &Target<'_>,
-    goal: Goal<'_>,
-) -> io::Result<Status> {
-    if is_matched(words, asked.place) {
-        return rt.fetch(asked, get_task_of(words, asked.place, goal.target));
-    }
-    let file = place_for(alloc, goal.into, goal.target, asked.place.path)?;
-    rt.fetch(asked, get_task_of(words, asked.place, file.as_str()))
-}
-
 /// Does what `put` asks for, file by file, each over a control connection of its own; the status is the worst.
 fn put<R>(rt: &R, alloc: Global, words: &ArgMatches<'_>, is_terminal: bool) -> io::Result<u8>
 where
@@ -358,8 +243,12 @@ fn put_where<R>(rt: &R, alloc: Global, files: &[&str], asked: &Target<'_>) -> io
 where
     R: Programs + Eprint,
 {
-    match goes_into(asked.place.path, files) {
-        Ok(into) => number_of(put_all(rt, alloc, asked, into, files)),
+    let into = match goes_into(asked.place.path, files) {
+        Ok(into) => into,
+        Err(refusal) => return refuse(rt, refusal),
+    };
+    match check_uploads(alloc, files) {
+        Ok(()) => number_of(put_all(rt, alloc, asked, into, files)),
         Err(refusal) => refuse(rt, refusal),
     }
 }
@@ -424,7 +313,7 @@ fn put_one<R: Programs>(
 }
 
 /// Tells which of several it is with which something was not done, as its sentence does not say.
-fn tell_undone<R: Eprint>(
+pub(crate) fn tell_undone<R: Eprint>(
     rt: &R,
     status: Status,
     count: usize,
@@ -520,11 +409,13 @@ fn ask_all<'a, R: Programs + Eprint>(
     task: Task<'_>,
 ) -> io::Result<Status> {
     let mut worst = Status::Done;
+    let mut until = None;
     let places = places_of(words);
     for (place, url) in places.iter().zip(urls.iter()) {
         let Ok(asked) = asked_of(words, *place, url.as_ref(), openings, false) else {
             return Ok(Status::BadWords);
         };
+        let asked = asked.within(&mut until);
         let status = rt.fetch(&asked, task)?;
         tell_undone(rt, status, places.len(), "done", asked.place.path)?;
         worst = worst.worse(status);
@@ -557,24 +448,4 @@ fn remove_all<'a, R: Programs + Eprint>(
         worst = worst.worse(batch.put(rt, asked, pair)?);
     }
     Ok(worst.worse(batch.done(rt)?))
-}
-
-/// Tells why the words of a command line ask for nothing.
-fn refuse<R: Eprint>(rt: &R, refusal: Refusal<'_>) -> io::Result<u8> {
-    match refusal {
-        Refusal::Memory => return Err(AllocError.into()),
-        Refusal::Value(bad) => tell_value(rt, bad)?,
-        Refusal::Number => rt.eprintln("error: a number is decimal digits alone")?,
-    }
-    Ok(Status::BadWords.number())
-}
-
-/// Tells which value is none of its option.
-fn tell_value<R: Eprint>(rt: &R, bad: BadValue<'_>) -> io::Result<()> {
-    eprintln!(rt;
-        "error: invalid value '{}' for '{}': {}\n\nFor more information, try '--help'.",
-        Shown(bad.value.as_bytes()),
-        bad.option,
-        bad.wanted
-    )
 }

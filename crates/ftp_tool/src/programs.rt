@@ -38,7 +38,7 @@ pub(crate) trait Programs {
     fn fetch(&self, asked: &Target<'_>, task: ftp_tool_fetch::Task<'_>) -> io::Result<Status>;
 
     /// Of several files of one server.
-    fn fetch_each(&self, asked: &Target<'_>, each: Each, pairs: &[Pair]) -> io::Result<Status>;
+    fn fetch_each(&self, asked: &Target<'_>, each: Each<'_>, pairs: &[Pair]) -> io::Result<Status>;
 
     /// Between the standard streams.
     fn perform<F: Write>(&self, task: Task, faults: &mut F) -> u8;
@@ -100,7 +100,7 @@ where
         ftp_tool_fetch::fetch(self, asked, task)
     }
 
-    fn fetch_each(&self, asked: &Target<'_>, each: Each, pairs: &[Pair]) -> io::Result<Status> {
+    fn fetch_each(&self, asked: &Target<'_>, each: Each<'_>, pairs: &[Pair]) -> io::Result<Status> {
         ftp_tool_fetch::fetch_each(self, asked, each, pairs)
     }
 

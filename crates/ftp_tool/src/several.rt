@@ -5,7 +5,10 @@ ghost use Rattle.ftp_tool_words.specs.Placing.{says_directory};
 use clap::ArgMatches;
 use ftp_tool_asking::Openings;
 use ftp_tool_command::{BadValue, PLACE_OPTION, Refusal, asked_of, is_matched};
-use ftp_tool_words::{Location, UrlPlace, is_url, last_part, says_directory};
+use ftp_tool_single::{Target, Targets, source_of};
+use ftp_tool_words::{Location, UrlPlace, is_url, last_part, place_for, says_directory};
+use std::alloc::{AllocError, Global};
+use std::io;
 
 /// The places that `get` fetches, and where they go: the last of several words says it, if it is no URL. Where none does, each goes into the folder
 /// where the program runs, which the empty text says.
@@ -64,6 +67,59 @@ pub(crate) fn check_places<'a>(
         }
     }
     Ok(())
+}
+
+/// Puts where each file goes that is fetched into a folder, of one place each. Fails where two places are of different files that would go under one name.
+pub(crate) fn check_targets<'a>(
+    alloc: Global,
+    words: &'a ArgMatches<'_>,
+    places: &[&'a str],
+    urls: &'a [Option<UrlPlace>],
+    openings: &'a Openings,
+    folder: &str,
+    targets: &Targets,
+) -> Result<(), Refusal<'a>> {
+    for (place, url) in places.iter().zip(urls.iter()) {
+        let asked = asked_of(words, *place, url.as_ref(), openings, false)?;
+        if is_matched(words, asked.place) {
+            continue;
+        }
+        match claims(alloc, &asked, folder, targets) {
+            Ok(true) => {}
+            Ok(false) => return Err(overwrites(PLACE_OPTION, *place)),
+            Err(_) => return Err(Refusal::Memory),
+        }
+    }
+    Ok(())
+}
+
+/// Whether the file of a place may go into a folder by its own name.
+fn claims(alloc: Global, asked: &Target<'_>, folder: &str, targets: &Targets) -> io::Result<bool> {
+    let file = place_for(alloc, true, folder, asked.place.path)?;
+    let source = source_of(alloc, asked)?;
+    Ok(targets.claim(file.as_str(), source.as_str())?)
+}
+
+/// Fails where two files are different ones that would go under one name.
+pub(crate) fn check_uploads<'a>(alloc: Global, files: &[&'a str]) -> Result<(), Refusal<'a>> {
+    let targets = Targets::new(alloc);
+    for file in files {
+        match targets.claim(last_part(*file), *file) {
+            Ok(true) => {}
+            Ok(false) => return Err(overwrites("<FILE>...", *file)),
+            Err(AllocError) => return Err(Refusal::Memory),
+        }
+    }
+    Ok(())
+}
+
+/// A word ends in the name in which one before it ends.
+fn overwrites<'a>(option: &'a str, word: &'a str) -> Refusal<'a> {
+    Refusal::Value(BadValue {
+        option,
+        value: word,
+        wanted: "a word before it ends in the same name; will not overwrite just-created",
+    })
 }
 
 fn check_name<'a>(word: &'a str, place: Location<'_>) -> Result<(), Refusal<'a>> {

@@ -7,6 +7,15 @@ use std::fmt::{Display, Formatter};
 /// The most octets of a line that are kept: more than a client tells.
 const LINE_LIMIT: usize = 512;
 
+/// What this end waited for no longer.
+#[derive(Clone, Copy)]
+enum Over {
+    /// A server that was silent for so many seconds.
+    Silence(u32),
+    /// Anything: the time was over that there was for all.
+    Time,
+}
+
 /// What is known so far.
 #[derive(Drop)]
 pub struct LastReply {
@@ -17,8 +26,8 @@ pub struct LastReply {
     is_heard: bool,
     /// How many data connections were opened, over all control connections.
     opened: u32,
-    /// For how many seconds it was silent, where that ended the last control connection.
-    silence: Option<u32>,
+    /// What this end waited for no longer, where that ended the last control connection.
+    over: Option<Over>,
     /// How many whole seconds went by over all control connections, from the first address that was tried on.
     spent: u32,
 }
@@ -31,7 +40,7 @@ impl LastReply {
             len: 0,
             is_heard: false,
             opened: 0,
-            silence: None,
+            over: None,
             spent: 0,
         }
     }
@@ -43,14 +52,19 @@ impl LastReply {
             len: self.len,
             is_heard: self.is_heard,
             opened,
-            silence: self.silence,
+            over: self.over,
             spent: self.spent,
         }
     }
 
     /// The control connection ended since the server was silent for so many seconds.
     pub fn fell_silent(&mut self, seconds: u32) {
-        self.silence = Some(seconds);
+        self.over = Some(Over::Silence(seconds));
+    }
+
+    /// The control connection ended since the time was over that there was for all.
+    pub fn ran_out(&mut self) {
+        self.over = Some(Over::Time);
     }
 
     /// So many data connections more were opened.
@@ -73,9 +87,9 @@ impl LastReply {
         self.is_heard
     }
 
-    /// Whether the server never said a line, and its silence ended the last control connection.
+    /// Whether the server never said a line, and that this end waited no longer ended the last control connection.
     pub fn is_mute(&self) -> bool {
-        !self.is_heard && self.silence.is_some()
+        !self.is_heard && self.over.is_some()
     }
 
     /// How many data connections were opened.
@@ -95,7 +109,7 @@ impl LastReply {
     pub fn farewell(&self) -> Said<'_> {
         Said {
             line: self.last(NOT_AVAILABLE),
-            silence: self.silence,
+            over: self.over,
         }
     }
 
@@ -107,7 +121,7 @@ impl LastReply {
                 Some(NOT_AVAILABLE | NOT_LOGGED_IN) => line,
                 _ => &[],
             },
-            silence: None,
+            over: None,
         }
     }
 
@@ -115,7 +129,7 @@ impl LastReply {
     pub fn said(&self) -> Said<'_> {
         Said {
             line: self.line(),
-            silence: None,
+            over: None,
         }
     }
 
@@ -145,7 +159,7 @@ impl LastReply {
     /// A control connection begins, on which no line was said.
     pub fn begin(&mut self) {
         self.len = 0;
-        self.silence = None;
+        self.over = None;
     }
 
     /// This line was said last, without its end; an empty one is none.
@@ -191,13 +205,18 @@ impl<'a> Display for Refusal<'a> {
 #[derive(Clone, Copy)]
 pub struct Said<'a> {
     line: &'a [u8],
-    silence: Option<u32>,
+    over: Option<Over>,
 }
 
 impl<'a> Display for Said<'a> {
     fn fmt<W: fmt::Write>(&self, formatter: &mut Formatter<W>) -> fmt::Result {
-        if let Some(seconds) = self.silence {
-            return write!(formatter, ": the server was silent for {seconds} s");
+        match self.over {
+            Some(Over::Silence(seconds)) => return write!(
+                formatter,
+                ": the server was silent for {seconds} s"
+            ),
+            Some(Over::Time) => return formatter.write_str(": the time of --max-time is over"),
+            None => {}
         }
         if self.line.is_empty() {
             return Ok(());

@@ -22,5 +22,5 @@ pub use rate::{pause_of, piece_of};
 pub use request::{MOST_ENTRIES, Request, Terms, begin};
 pub use saying::{say, told};
 pub use server::ServerAddress;
-pub use session::{ClientSession, SessionTask};
+pub use session::{ClientSession, SessionTask, Ticket};
 pub use subject::Subject;

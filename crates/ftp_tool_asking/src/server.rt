@@ -7,6 +7,8 @@ pub struct ServerAddress<'a> {
     pub port: u16,
     /// For how many seconds the server may say, take and send nothing, before its control connection counts as ended; 0: without a limit.
     pub timeout: u32,
+    /// Until when all that is asked is to be done, over all control connections, in milliseconds of the system's monotonic clock; none: without a limit.
+    pub until: Option<u64>,
     /// Whether a transfer that takes more than a second is told of, each second at most.
     pub progress: bool,
     /// The most octets a second over all data connections at once; 0: without a limit.

@@ -13,6 +13,13 @@ use ftp_operation::Answer;
 use std::alloc::Global;
 use std::cell::Cell;
 
+/// By which something is known again that was asked ahead with something of its own over its data connection: its answer is given to nobody else. It counts
+/// for the control connections alone over which it was asked.
+#[derive(Clone, Copy)]
+pub struct Ticket {
+    pub number: u64,
+}
+
 /// What can be asked over one control connection, one request after another.
 pub trait ClientSession {
     /// How an answer comes about, where that is known.
@@ -36,10 +43,11 @@ pub trait ClientSession {
     ) -> Answer<Global>
         ensures { carried request result self.old self.new };
 
-    /// The answer to this, where it was asked ahead with something else over its data connection, which is in the cell then; none where it is still to be
-    /// asked.
+    /// The answer to this, where it was asked ahead by this ticket with something else over its data connection, which is in the cell then; none where it is
+    /// still to be asked.
     fn answer_ahead<T: Freight>(
         &mut self,
+        _ticket: Ticket,
         _request: &Request,
         _home: &Cell<Option<T>>,
     ) -> Option<Answer<Global>> {
@@ -74,8 +82,15 @@ pub trait ClientSession {
     /// otherwise lets the rest of them be forgotten, so the answer to each is of a moment between those of its neighbours.
     fn foresee_row(&mut self, _requests: Vec<Request, Global>) {}
 
-    /// The same, where something else goes over the data connection of the first transfer than the client gives and hears.
-    fn foresee_carried<T: Freight>(&mut self, _requests: Vec<Request, Global>, _carried: T) {}
+    /// The same, where something else goes over the data connection of the first transfer than the client gives and hears. Gives by which ticket that transfer
+    /// is answered; none where nothing was asked.
+    fn foresee_carried<T: Freight>(
+        &mut self,
+        _requests: Vec<Request, Global>,
+        _carried: T,
+    ) -> Option<Ticket> {
+        None
+    }
 
     /// What is told of the server beside its answers, since this was asked for before; nothing where that is known only once the control connection ends.
     fn take_noticed(&mut self) -> LastReply {

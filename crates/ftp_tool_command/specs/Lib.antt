@@ -1,3 +1,4 @@
 pub mod Amount
 pub mod Crowd
+pub mod Host
 pub mod Serving

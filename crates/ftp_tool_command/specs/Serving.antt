@@ -12,18 +12,33 @@ use Rattle.ftp_tool_command.specs.declared.serving.WaitWords.{WaitWords}
 use Rattle.ftp_tool_serve.specs.declared.serving.Serving.{Serving}
 use Rattle.ftp_tool_looking.specs.declared.patience.Limits.{Limits as Waits}
 use Rattle.ftp_tool_words.specs.Words.{SaysBelow, SaysPort, SaysPorts, SaysSessions}
+use Rattle.ftp_tool_words.specs.declared.words.Sessions.{Sessions}
+use Rattle.ftp_tool_words.specs.declared.words.Sessions.TheVariants.{Count, Forever}
 use Rattle.ftp_tree.specs.Tree.{default_limits}
 use Rattle.ftp_tree.specs.declared.limits.Limits.{Limits}
 use Rattle.ftp_tree_walk.specs.declared.fault.Odd.{Odd}
 use Rattle.ftp_tree_walk.specs.declared.fault.Odd.TheVariants.{LeaveOut}
 
--- each is a number of seconds below 2 ^ 32
-pub record AreWaits (words : WaitWords) (waits : Waits) : Type 0 where
-  pub login : SaysBelow (2 ^ 32) words.login.now waits.login
-  pub idle : SaysBelow (2 ^ 32) words.idle.now waits.idle
-  pub idle_while_waited : SaysBelow (2 ^ 32) words.idle_while_waited.now waits.idle_while_waited
-  pub session_while_waited : SaysBelow (2 ^ 32) words.session_while_waited.now waits.session_while_waited
-  pub login_while_waited : SaysBelow (2 ^ 32) words.login_while_waited.now waits.login_while_waited
+-- a number of seconds is what its word says, below 2 ^ 32, and without one this one
+abbrev pub SaysSeconds : Option (List ℕ) → ℕ → ℕ → Type 0
+SaysSeconds None unsaid seconds = seconds ≡ unsaid
+SaysSeconds (Some word) unsaid seconds = SaysBelow (2 ^ 32) word seconds
+
+-- what holds where no word says it: where only so many sessions are served there is no limit of time, which 0 stands for
+abbrev pub unsaid_waits : Sessions → Waits
+unsaid_waits (Count n) = record { login = 0; idle = 0; idle_while_waited = 0; session_while_waited = 0; login_while_waited = 0 }
+unsaid_waits Forever = record { login = 30; idle = 300; idle_while_waited = 15; session_while_waited = 60; login_while_waited = 10 }
+
+-- each of the five is what its word says, or what holds without one
+pub record AreWaits (words : WaitWords) (sessions : Sessions) (waits : Waits) : Type 0 where
+  pub login : SaysSeconds (option_map (λ word. word.now) words.login) (unsaid_waits sessions).login waits.login
+  pub idle : SaysSeconds (option_map (λ word. word.now) words.idle) (unsaid_waits sessions).idle waits.idle
+  pub idle_while_waited :
+      SaysSeconds (option_map (λ word. word.now) words.idle_while_waited) (unsaid_waits sessions).idle_while_waited waits.idle_while_waited
+  pub session_while_waited :
+      SaysSeconds (option_map (λ word. word.now) words.session_while_waited) (unsaid_waits sessions).session_while_waited waits.session_while_waited
+  pub login_while_waited :
+      SaysSeconds (option_map (λ word. word.now) words.login_while_waited) (unsaid_waits sessions).login_while_waited waits.login_while_waited
 
 -- a limit is what its word says, and without one this one
 abbrev pub SaysLimit : Option (List ℕ) → ℕ → ℕ → Type 0
@@ -68,5 +83,5 @@ pub record Asks (words : ServeWords) (serving : Serving) : Type 0 where
   pub passive : SaysPorts words.passive.now serving.passive.0 serving.passive.1
   pub passive_address : SaysAddress (option_map (λ word. word.now) words.passive_address) serving.passive_address
   pub odd : serving.odd ≡ odd_of words.scope words.odd
-  pub waits : AreWaits words.waits serving.waits
+  pub waits : AreWaits words.waits serving.sessions serving.waits
   pub limits : AreLimits words.scope words.limits serving.limits

@@ -1,18 +1,18 @@
 // The subcommands of a client that ask at one place: their words.
 use crate::help;
-use crate::place::{location_in, user_in, wanted_of};
+use crate::place::{host_in, location_in, user_in, wanted_of};
 use crate::refusal::Refusal;
 use crate::words::{
-    ACTIVE, EXTENDED, Form, LIMIT, LIMIT_RATE, MODE, NO_EXTENDED, PARALLEL, PASSWORD_FILE, QUIET,
-    STRU, Subcommand, TIMEOUT, TYPE, USER, Value, Word, at_once_in, chosen, how_of, limit_in,
-    rate_in, representation_in, text_in, timeout_in,
+    ACTIVE, EXTENDED, Form, LIMIT, LIMIT_RATE, MAX_TIME, MODE, NO_EXTENDED, PARALLEL,
+    PASSWORD_FILE, QUIET, STRU, Subcommand, TIMEOUT, TYPE, USER, Value, Word, at_once_in, chosen,
+    how_of, limit_in, rate_in, representation_in, text_in, timeout_in, until_in,
 };
 use clap::ArgMatches;
 use ftp_operation::How;
 use ftp_tool_asking::Openings;
 use ftp_tool_fetch::{Each, Lines, Task};
 use ftp_tool_pattern::is_pattern;
-use ftp_tool_single::{Download, Parts, Simple, Target};
+use ftp_tool_single::{Download, Parts, Simple, Target, Targets};
 use ftp_tool_words::{Location, UrlPlace};
 
 pub const GET: Subcommand<'static> = Subcommand {
@@ -182,6 +182,7 @@ const OPTIONS: &[Word<'static>] = &[
     },
     QUIET,
     TIMEOUT,
+    MAX_TIME,
     LIMIT,
     Word {
         name: "type",
@@ -210,6 +211,7 @@ pub fn asked_of<'a>(
 ) -> Result<Target<'a>, Refusal<'a>> {
     let location = asked_at(place, url)?;
     let timeout = timeout_in(words)?;
+    let until = until_in(words)?;
     let how = how_in(words)?;
     let limit = limit_in(words)?;
     let rate = rate_in(words)?;
@@ -220,6 +222,7 @@ pub fn asked_of<'a>(
         how,
         openings,
         timeout,
+        until,
         progress: is_terminal || words.get_flag("progress"),
         rate,
         limit,
@@ -230,7 +233,7 @@ pub fn asked_of<'a>(
 /// The place that is asked at; refused where it is none.
 fn asked_at<'a>(place: &'a str, url: Option<&'a UrlPlace>) -> Result<Location<'a>, Refusal<'a>> {
     match location_in(place, url) {
-        Some(location) => Ok(location),
+        Some(location) => host_in(PLACE_OPTION, place, location),
         None => Err(Refusal::of(PLACE_OPTION, place, wanted_of(place))),
     }
 }
@@ -273,6 +276,7 @@ const SHOWN: Download<'static> = Download {
     file: "-",
     parts: Parts::Dropped,
     moment: false,
+    targets: None,
 };
 
 /// Whether `get` fetches what the directory of a place has that is of a pattern: where the name that its path ends in is one, and `--no-glob` is not there.
@@ -280,9 +284,15 @@ pub fn is_matched(words: &ArgMatches<'_>, place: Location<'_>) -> bool {
     !words.get_flag("no-glob") && is_pattern(place.name().as_bytes())
 }
 
-/// What `get` does at a place, into a file; into a folder of that name, where files of a pattern are fetched.
-pub fn get_task_of<'a>(words: &ArgMatches<'_>, place: Location<'_>, file: &'a str) -> Task<'a> {
-    let download = download_of(words, file);
+/// What `get` does at a place, into a file; into a folder of that name, where files of a pattern are fetched. Those of the command line go to `targets`, where
+/// there are several.
+pub fn get_task_of<'a>(
+    words: &ArgMatches<'_>,
+    place: Location<'_>,
+    file: &'a str,
+    targets: Option<&'a Targets>,
+) -> Task<'a> {
+    let download = download_of(words, file, targets);
     if is_matched(words, place) {
         Task::GetMatching(download)
     } else {
@@ -291,19 +301,25 @@ pub fn get_task_of<'a>(words: &ArgMatches<'_>, place: Location<'_>, file: &'a st
 }
 
 /// What `get` does with each of several files.
-pub fn each_got(words: &ArgMatches<'_>) -> Each {
+pub fn each_got<'a>(words: &ArgMatches<'_>, targets: Option<&'a Targets>) -> Each<'a> {
     Each::Get {
         parts: parts_of(words),
         moment: words.get_flag("moment"),
+        targets,
     }
 }
 
 /// The download of `get` into a file.
-fn download_of<'a>(words: &ArgMatches<'_>, file: &'a str) -> Download<'a> {
+fn download_of<'a>(
+    words: &ArgMatches<'_>,
+    file: &'a str,
+    targets: Option<&'a Targets>,
+) -> Download<'a> {
     Download {
         file,
         parts: parts_of(words),
         moment: words.get_flag("moment"),
+        targets,
     }
 }
 

@@ -6,6 +6,7 @@ mod command_line;
 mod crowd;
 mod fetching;
 mod help;
+mod host;
 mod laws;
 mod mirroring;
 mod pairing;

@@ -1,10 +1,10 @@
 // The subcommand `mirror`: its words.
-use crate::place::{location_in, user_in};
+use crate::place::{host_in, location_in, user_in};
 use crate::refusal::Refusal;
 use crate::words::{
-    ACTIVE, EXTENDED, Form, LIMIT, LIMIT_RATE, NO_EXTENDED, PARALLEL, PASSWORD_FILE, QUIET,
-    Subcommand, TIMEOUT, USER, Value, Word, at_once_in, chosen, how_of, limit_in, rate_in, text_in,
-    timeout_in,
+    ACTIVE, EXTENDED, Form, LIMIT, LIMIT_RATE, MAX_TIME, NO_EXTENDED, PARALLEL, PASSWORD_FILE,
+    QUIET, Subcommand, TIMEOUT, USER, Value, Word, at_once_in, chosen, how_of, limit_in, rate_in,
+    text_in, timeout_in, until_in,
 };
 use clap::ArgMatches;
 use ftp_tool_asking::{Openings, ServerAddress};
@@ -32,8 +32,8 @@ order. Where the server gives fewer, it goes on over those. Where the server doe
 SIZE and MDTM of each file for what that does not tell. A line that is no entry is left out and told: what has its name here stays, and where it
 has no name nothing of its directory is removed.
 A file of this machine is written beside its name, and moved over it once it is whole and on the disk, as with get. With --no-flush it is moved
-before it is on the disk, which is faster: after a power cut a file may be cut, and another run mends that. Passwords, --timeout, --limit-rate and
-data connections are as with get.
+before it is on the disk, which is faster: after a power cut a file may be cut, and another run mends that. Passwords, --timeout, --max-time,
+--limit-rate and data connections are as with get.
 Output: on standard error why something was not done, and at the end how much was; with --quiet the former alone.
 Status: 0 done; 1 something was refused or failed; 2 bad command line or login; 3 the control connection or a device failed, or memory was
 refused.
@@ -117,6 +117,7 @@ const OPTIONS: &[Word<'static>] = &[
     PARALLEL,
     QUIET,
     TIMEOUT,
+    MAX_TIME,
 ];
 
 /// What is mirrored, where these are the URLs that both places are, by data connections that are asked for so; exactly one is a server's.
@@ -129,14 +130,21 @@ pub fn mirror_of<'a>(
     let settings = Settings {
         openings,
         timeout: timeout_in(words)?,
+        until: until_in(words)?,
         rate: rate_in(words)?,
         at_once: at_once_in(words)?,
     };
     let source = text_in(words, "source");
     let target = text_in(words, "target");
     match (server_of(source, from), server_of(target, to)) {
-        (Some(place), None) => mirrored(words, place, from, target, settings, Way::Down),
-        (None, Some(place)) => mirrored(words, place, to, source, settings, Way::Up),
+        (Some(place), None) => {
+            let place = host_in("<SOURCE>", source, place)?;
+            mirrored(words, place, from, target, settings, Way::Down)
+        }
+        (None, Some(place)) => {
+            let place = host_in("<TARGET>", target, place)?;
+            mirrored(words, place, to, source, settings, Way::Up)
+        }
         _ => Err(bad_target(target)),
     }
 }
@@ -154,6 +162,7 @@ fn server_of<'a>(word: &'a str, url: Option<&'a UrlPlace>) -> Option<Location<'a
 struct Settings<'a> {
     openings: &'a Openings,
     timeout: u32,
+    until: Option<u64>,
     rate: u64,
     at_once: u32,
 }
@@ -175,6 +184,7 @@ fn mirrored<'a>(
             host: place.host,
             port: place.port,
             timeout: settings.timeout,
+            until: settings.until,
             progress: words.get_flag("progress"),
             rate: settings.rate,
             at_once: settings.at_once,
@@ -190,6 +200,7 @@ fn mirrored<'a>(
         limit,
         doing: chosen(words, "dry-run", Doing::Nothing, Doing::All),
         deeds: chosen(words, "json", Deeds::Json, Deeds::Words),
+        begun: 0,
     })
 }
 

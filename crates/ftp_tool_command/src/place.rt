@@ -1,4 +1,5 @@
 // Which file or directory of which server a word names, and who asks there.
+use crate::host::is_host;
 use crate::refusal::Refusal;
 use clap::ArgMatches;
 use ftp_tool_words::{Location, UrlPlace, User, is_url, place_of, url_place_of};
@@ -43,6 +44,23 @@ pub fn location_in<'a>(word: &'a str, url: Option<&'a UrlPlace>) -> Option<Locat
             path: url.path.as_str(),
         }),
         None => place_of(word),
+    }
+}
+
+/// Refused where what a word names as the host of a place is no address, and can't be a name.
+pub(crate) fn host_in<'a>(
+    option: &'a str,
+    word: &'a str,
+    place: Location<'a>,
+) -> Result<Location<'a>, Refusal<'a>> {
+    if is_host(place.host) {
+        Ok(place)
+    } else {
+        Err(Refusal::of(
+            option,
+            word,
+            "a name or an address is wanted as HOST: four numbers from 0 to 255 with points between them, or IPv6 without a dotted tail",
+        ))
     }
 }
 

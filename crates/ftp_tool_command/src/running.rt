@@ -1,7 +1,8 @@
 // The subcommand `run`: its words.
 use crate::help;
+use crate::host::is_address;
 use crate::refusal::Refusal;
-use crate::words::{Form, PASSWORD_FILE, Subcommand, TIMEOUT, Value, Word, number_in, text_in};
+use crate::words::{Form, PASSWORD_FILE, Subcommand, TIMEOUT, Value, Word, text_in, timeout_in};
 use clap::ArgMatches;
 use ftp_tool_asking::ServerAddress;
 use ftp_tool_words::{User, server_port_of};
@@ -16,7 +17,7 @@ pub const RUN: Subcommand<'static> = Subcommand {
         Word {
             name: "host",
             form: Form::Needed(Value::Name("A")),
-            help: "the server: an address or a name",
+            help: "the address of the server: four numbers with points between them, or IPv6",
         },
         Word {
             name: "port",
@@ -33,16 +34,24 @@ pub const RUN: Subcommand<'static> = Subcommand {
     ],
 };
 
-/// The server that is asked; none where a value is none of its option.
-pub fn script_server_of<'a>(words: &'a ArgMatches<'_>) -> Option<ServerAddress<'a>> {
+/// The server that is asked; refused where a value is none of its option.
+pub fn script_server_of<'a>(words: &'a ArgMatches<'_>) -> Result<ServerAddress<'a>, Refusal<'a>> {
     let host = text_in(words, "host");
-    if host.is_empty() {
-        return None;
+    if !is_address(host) {
+        return Err(Refusal::of(
+            "--host <A>",
+            host,
+            "an address is wanted: four numbers from 0 to 255 with points between them, or IPv6 without a dotted tail",
+        ));
     }
-    Some(ServerAddress {
+    let Some(port) = server_port_of(text_in(words, "port")) else {
+        return Err(Refusal::Number);
+    };
+    Ok(ServerAddress {
         host,
-        port: server_port_of(text_in(words, "port"))?,
-        timeout: number_in(words, "timeout")?,
+        port,
+        timeout: timeout_in(words)?,
+        until: None,
         progress: false,
         rate: 0,
         at_once: 1,

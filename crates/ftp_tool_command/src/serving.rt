@@ -7,7 +7,7 @@ ghost use Rattle.ftp_tool_looking.specs.declared.patience.Limits.{Limits as Wait
 ghost use Rattle.ftp_tool_words.specs.Words.{SaysPorts, SaysSessions};
 ghost use Rattle.ftp_tool_words.specs.declared.words.Sessions.{Sessions};
 ghost use Rattle.ftp_tree.specs.declared.limits.Limits.{Limits};
-ghost use Rattle.ftp_tool_command.specs.Serving.{AreLimits, AreWaits, Asks, SaysAddress, SaysLimit, odd_of, unsaid_limits};
+ghost use Rattle.ftp_tool_command.specs.Serving.{AreLimits, AreWaits, Asks, SaysAddress, SaysLimit, SaysSeconds, odd_of, unsaid_limits, unsaid_waits};
 
 use crate::amount::most_of;
 use crate::crowd::{Stop, at_once_by, input_by, per_host_by};
@@ -99,28 +99,28 @@ const OPTIONS: &[Word<'static>] = &[
     },
     Word {
         name: "login",
-        form: Form::Else(SECONDS, "30"),
-        help: "ends a control connection on which nobody logged in for so long; 0: never",
+        form: Form::Given(SECONDS),
+        help: "ends a control connection on which nobody logged in for so long; 0: never, also where --sessions is a number; else 30",
     },
     Word {
         name: "idle",
-        form: Form::Else(SECONDS, "300"),
-        help: "ends one without a command and without an octet of a transfer for so long; 0: never",
+        form: Form::Given(SECONDS),
+        help: "ends one without a command and without an octet of a transfer for so long; 0: never, also where --sessions is a number; else 300",
     },
     Word {
         name: "idle-while-waited",
-        form: Form::Else(SECONDS, "15"),
-        help: "the same while another client waits to be served",
+        form: Form::Given(SECONDS),
+        help: "the same while another client waits to be served; where --sessions is a number never, else 15",
     },
     Word {
         name: "session-while-waited",
-        form: Form::Else(SECONDS, "60"),
-        help: "ends one, whatever its client does, once another client waits for so long; 0: never",
+        form: Form::Given(SECONDS),
+        help: "ends one, whatever its client does, once another client waits for so long; 0: never, also where --sessions is a number; else 60",
     },
     Word {
         name: "login-while-waited",
-        form: Form::Else(SECONDS, "10"),
-        help: "the same where nobody logged in",
+        form: Form::Given(SECONDS),
+        help: "the same where nobody logged in; else 10",
     },
     Word {
         name: "passive-ports",
@@ -190,14 +190,14 @@ pub(crate) enum Scope {
     Any,
 }
 
-/// Those of them that are seconds.
+/// Those of them that are seconds, where they are there.
 #[derive(Clone, Copy)]
 pub(crate) struct WaitWords<'a> {
-    login: &'a str,
-    idle: &'a str,
-    idle_while_waited: &'a str,
-    session_while_waited: &'a str,
-    login_while_waited: &'a str,
+    login: Option<&'a str>,
+    idle: Option<&'a str>,
+    idle_while_waited: Option<&'a str>,
+    session_while_waited: Option<&'a str>,
+    login_while_waited: Option<&'a str>,
 }
 
 /// Those of them that are limits, where they are there.
@@ -233,11 +233,11 @@ pub fn serving_of<'a>(words: &'a ArgMatches<'_>) -> Result<Serving<'a>, Refusal<
 
 fn wait_words<'a>(words: &'a ArgMatches<'_>) -> WaitWords<'a> {
     WaitWords {
-        login: text_in(words, "login"),
-        idle: text_in(words, "idle"),
-        idle_while_waited: text_in(words, "idle-while-waited"),
-        session_while_waited: text_in(words, "session-while-waited"),
-        login_while_waited: text_in(words, "login-while-waited"),
+        login: words.get_str("login"),
+        idle: words.get_str("idle"),
+        idle_while_waited: words.get_str("idle-while-waited"),
+        session_while_waited: words.get_str("session-while-waited"),
+        login_while_waited: words.get_str("login-while-waited"),
     }
 }
 
@@ -264,7 +264,7 @@ fn serving_by<'a>(words: ServeWords<'a>) -> Result<Serving<'a>, Refusal<'a>>
     let Some(port) = port_of(words.port) else {
         return Err(Refusal::Number);
     };
-    let Some(waits) = waits_by(words.waits) else {
+    let Some(waits) = waits_by(words.waits, sessions) else {
         return Err(Refusal::Number);
     };
     let limits = limits_by(words.scope, words.limits)?;
@@ -342,15 +342,17 @@ fn passive_address_by(word: Option<&str>) -> Result<Option<IpAddr>, Refusal<'_>>
     }
 }
 
-fn waits_by(words: WaitWords<'_>) -> Option<Waits>
-    ensures some { IfSome result (λ waits. AreWaits words.entry waits) }
-    ensures none { IfNone result ((waits : Waits) → ¬ AreWaits words.entry waits) }
+/// How long is waited; a limit that no word says is that of how many sessions are served.
+fn waits_by(words: WaitWords<'_>, sessions: Sessions) -> Option<Waits>
+    ensures some { IfSome result (λ waits. AreWaits words.entry sessions waits) }
+    ensures none { IfNone result ((other : Sessions) (waits : Waits) → ¬ AreWaits words.entry other waits) }
 {
-    let login = number_of(words.login)?;
-    let idle = number_of(words.idle)?;
-    let idle_while_waited = number_of(words.idle_while_waited)?;
-    let session_while_waited = number_of(words.session_while_waited)?;
-    let login_while_waited = number_of(words.login_while_waited)?;
+    let unsaid = unsaid_waits(sessions);
+    let login = seconds_by(words.login, unsaid.login)?;
+    let idle = seconds_by(words.idle, unsaid.idle)?;
+    let idle_while_waited = seconds_by(words.idle_while_waited, unsaid.idle_while_waited)?;
+    let session_while_waited = seconds_by(words.session_while_waited, unsaid.session_while_waited)?;
+    let login_while_waited = seconds_by(words.login_while_waited, unsaid.login_while_waited)?;
     Some(Waits {
         login,
         idle,
@@ -358,6 +360,39 @@ fn waits_by(words: WaitWords<'_>) -> Option<Waits>
         session_while_waited,
         login_while_waited,
     })
+}
+
+/// How long is waited where no word says it: without a limit where only so many sessions are served.
+fn unsaid_waits(sessions: Sessions) -> Waits
+    ensures { result ≡ unsaid_waits sessions }
+{
+    match sessions {
+        Sessions::Count(_) => Waits {
+            login: 0,
+            idle: 0,
+            idle_while_waited: 0,
+            session_while_waited: 0,
+            login_while_waited: 0,
+        },
+        Sessions::Forever => Waits {
+            login: 30,
+            idle: 300,
+            idle_while_waited: 15,
+            session_while_waited: 60,
+            login_while_waited: 10,
+        },
+    }
+}
+
+/// The seconds of a limit, which are these where no word says them.
+fn seconds_by(word: Option<&str>, unsaid: u32) -> Option<u32>
+    ensures some { IfSome result (λ seconds. SaysSeconds (option_map (λ word. word.now) word.entry) unsaid seconds) }
+    ensures none { IfNone result ((other seconds : ℕ) → ¬ SaysSeconds (option_map (λ word. word.now) word.entry) other seconds) }
+{
+    match word {
+        Some(word) => number_of(word),
+        None => Some(unsaid),
+    }
 }
 
 /// How much is served; a limit that no word says is that of the scope.

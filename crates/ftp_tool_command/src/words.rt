@@ -7,6 +7,7 @@ use ftp_operation::How;
 use ftp_tool_asking::{Opening, Openings};
 use ftp_tool_files::{Representation, number_of, representation_of};
 use ftp_tool_quiet::Told;
+use ftp_tool_sockets::monotonic_millis;
 use std::alloc::{AllocError, Global};
 
 /// The letters of types, structures and modes (RFC 959, section 5.3.2), and the most that a number may be.
@@ -23,6 +24,13 @@ pub const TIMEOUT: Word<'static> = Word {
     name: "timeout",
     form: Form::Else(Value::Number("SECONDS", 0, MOST), "60"),
     help: "ends a control connection whose server says, takes and sends nothing for so long; 0: never",
+};
+
+/// For how many seconds all may take, for all programs of a client that ask at a place.
+pub const MAX_TIME: Word<'static> = Word {
+    name: "max-time",
+    form: Form::Given(Value::Number("SECONDS", 0, MOST)),
+    help: "ends what is asked after so many seconds in all, over all control connections; 0, and without it: never",
 };
 
 /// Who logs in, for all programs of a client that ask at a place.
@@ -280,6 +288,26 @@ pub fn timeout_in<'a>(matches: &'a ArgMatches<'_>) -> Result<u32, Refusal<'a>> {
         None => Err(Refusal::of(
             "--timeout <SECONDS>",
             timeout,
+            "decimal digits alone are wanted",
+        )),
+    }
+}
+
+/// Until when all is to be done, as `--max-time` says from now on, in milliseconds of the monotonic clock; none where it says none.
+pub fn until_in<'a>(matches: &'a ArgMatches<'_>) -> Result<Option<u64>, Refusal<'a>> {
+    let text = text_in(matches, "max-time");
+    if text.is_empty() {
+        return Ok(None);
+    }
+    match number_of(text) {
+        Some(0) => Ok(None),
+        Some(seconds) => {
+            let millis = u64::from(seconds) * 1_000;
+            Ok(Some(monotonic_millis().saturating_add(millis)))
+        }
+        None => Err(Refusal::of(
+            "--max-time <SECONDS>",
+            text,
             "decimal digits alone are wanted",
         )),
     }

@@ -1,5 +1,5 @@
 -- When a further control connection may bring an answer (own choice: RFC 959, section 3.5, leaves recovery to the user).
-use Rattle.std.specs.Prelude.{ℕ, ◌-◌, ◌/◌, ◌==◌, max, nat_lt, Bool, true, false, not, Option, Some, None, Result, Ok, Err, if◌then◌else◌}
+use Rattle.std.specs.Prelude.{ℕ, ◌-◌, ◌*◌, ◌+◌, ◌/◌, ◌==◌, max, min, nat_le, nat_lt, Bool, true, false, not, Option, Some, None, Result, Ok, Err, if◌then◌else◌}
 use Rattle.ftp_operation.specs.declared.answer.Answer.{Answer}
 use Rattle.ftp_operation.specs.declared.answer.Answer.TheVariants as Answers
 use Rattle.ftp_tool_connection.specs.declared.again.Loss.{Loss}
@@ -31,6 +31,20 @@ abbrev pub silence_left : (seconds spent : ℕ) → (is_heard : Bool) → Option
 silence_left seconds spent true = Some seconds
 silence_left seconds spent false =
     if seconds == 0 then Some 0 else if nat_lt spent seconds then Some (seconds - spent) else None
+
+-- the seconds of so many milliseconds, rounded up, one at least, and no more than a number of 32 bits is
+abbrev pub whole_seconds : ℕ → ℕ
+whole_seconds millis = min (max ((millis + 999) / 1000) 1) 4294967295
+
+-- the fewer of so many seconds, of which 0 is no limit, and of what is left of the time for all, in milliseconds, where that has a limit
+abbrev pub seconds_left : (seconds : ℕ) → (left : Option ℕ) → ℕ
+seconds_left seconds None = seconds
+seconds_left seconds (Some left) = if seconds == 0 then whole_seconds left else min seconds (whole_seconds left)
+
+-- a wait of so many seconds ends before the time for all does, of which so many milliseconds are left, where that has a limit
+abbrev pub fits : (left : Option ℕ) → (seconds : ℕ) → Bool
+fits None seconds = true
+fits (Some left) seconds = nat_lt (seconds * 1000) left
 
 -- how many seconds each of so many addresses of a host has to answer: its part of those of the host, and one at least; 0 is without a limit
 abbrev pub share_of : (seconds addresses : ℕ) → ℕ

@@ -1,8 +1,9 @@
 // What is asked anew where its control connection ends.
 ghost use Rattle.std.specs.Prelude.{◌≡◌};
-ghost use Rattle.ftp_tool_connection.specs.Again.{gives_up, loss_by, silence_left};
+ghost use Rattle.ftp_tool_connection.specs.Again.{fits, gives_up, loss_by, silence_left};
 
 use crate::conversing::{Converses, Logins, converse_as};
+use crate::server::left_until;
 use ftp_operation::Answer;
 use ftp_tool_asking::{LastReply, Phase, ServerAddress, SessionFault, SessionTask};
 use ftp_tool_sockets::pause;
@@ -25,7 +26,8 @@ pub(crate) enum Loss {
 }
 
 /// Plays over a control connection of its own, for a user. Where one was made and ended before the answer, it is played anew, from the beginning,
-/// over at most four more; of a server that never said a line over one, and then all of it takes no longer than the server may be silent.
+/// over at most four more; of a server that never said a line over one, and then all of it takes no longer than the server may be silent. No further one is
+/// opened where the time for all would be over by then.
 pub fn ask<R, P>(
     rt: &R,
     server: ServerAddress<'_>,
@@ -64,6 +66,9 @@ where
         let Some(timeout) = silence_left(server.timeout, noticed.spent(), noticed.is_heard()) else {
             break;
         };
+        if !fits(left_until(server.until), seconds) {
+            break;
+        }
         let server = ServerAddress { timeout, ..server };
         tell_wait(rt, loss, seconds, noticed);
         pause(seconds.saturating_mul(SECOND_MILLIS));
@@ -110,6 +115,16 @@ fn silence_left(seconds: u32, spent: u32, is_heard: bool) -> Option<u32>
         Some(seconds - spent)
     } else {
         None
+    }
+}
+
+/// Whether a wait of so many seconds ends before the time for all does, of which so many milliseconds are left.
+fn fits(left: Option<u64>, seconds: u16) -> bool
+    ensures { result ≡ fits left seconds }
+{
+    match left {
+        Some(left) => u64::from(seconds) * 1_000 < left,
+        None => true,
     }
 }
 

@@ -1,5 +1,6 @@
 // Who can ask servers, as whoever asks sees it: what stands on traits without types of their own is proved for less than on those of the system's
 // sockets, files and environment.
+use crate::health::Health;
 use crate::talking;
 use ftp_operation::Login;
 use ftp_tool_asking::{LastReply, Phase, ServerAddress, SessionFault, SessionTask, at};
@@ -14,7 +15,20 @@ use std::time::Clock;
 
 /// Who can open control connections.
 pub trait Converses {
-    /// Opens a control connection, plays over it by a client, says goodbye and closes it.
+    /// Opens a control connection, plays over it by a client, says goodbye and closes it. Notices whether it failed; of several that is not known.
+    fn converse_noticing<T, P>(
+        &self,
+        server: ServerAddress<'_>,
+        login: Login<Global>,
+        noticed: &mut LastReply,
+        health: &Health,
+        play: &mut P,
+    ) -> Result<T, SessionFault>
+    where
+        T: Drop,
+        P: SessionTask<Result<T, SessionFault>>;
+
+    /// The same, where nobody asks whether it failed.
     fn converse<T, P>(
         &self,
         server: ServerAddress<'_>,
@@ -24,7 +38,10 @@ pub trait Converses {
     ) -> Result<T, SessionFault>
     where
         T: Drop,
-        P: SessionTask<Result<T, SessionFault>>;
+        P: SessionTask<Result<T, SessionFault>>,
+    {
+        self.converse_noticing(server, login, noticed, &Health::new(), play)
+    }
 }
 
 /// Who knows the logins of users.
@@ -37,18 +54,19 @@ impl<R> Converses for R
 where
     R: Net<Listener = TcpListener, Stream = TcpStream> + Eprint + Clock + AllocGlobal,
 {
-    fn converse<T, P>(
+    fn converse_noticing<T, P>(
         &self,
         server: ServerAddress<'_>,
         login: Login<Global>,
         noticed: &mut LastReply,
+        health: &Health,
         play: &mut P,
     ) -> Result<T, SessionFault>
     where
         T: Drop,
         P: SessionTask<Result<T, SessionFault>>,
     {
-        talking::converse(self, server, login, noticed, play)
+        talking::converse(self, server, login, (noticed, health), play)
     }
 }
 

@@ -3,6 +3,7 @@
 
 mod again;
 mod conversing;
+mod health;
 mod hearing;
 mod live;
 mod progress;
@@ -12,3 +13,4 @@ mod talking;
 
 pub use again::ask;
 pub use conversing::{Converses, Logins, converse_as};
+pub use health::Health;

@@ -2,7 +2,7 @@
 ghost use Rattle.std.specs.Prelude.{◌≡◌};
 ghost use Rattle.ftp_tool_connection.specs.Several.{lanes_of, part_of};
 
-use crate::server::{connected, connected_to};
+use crate::server::{connected, connected_to, left_until, seconds_left};
 use ftp_client::Client;
 use ftp_client_drive::Control;
 use ftp_client_model::Near;
@@ -207,8 +207,8 @@ where
         }
         stand = Stand::Untried;
     }
-    let timeout = house.server.timeout;
-    let mut lanes = Lanes::new(house.rt, house.alloc, seats, noticed, timeout);
+    let patience = (house.server.timeout, house.server.until);
+    let mut lanes = Lanes::new(house.rt, house.alloc, seats, noticed, patience);
     let done = play.play(&mut lanes);
     lanes.leave();
     done
@@ -236,10 +236,10 @@ where
     Ok(Lane::new(client, line, control, ports, course))
 }
 
-/// How long the server is waited for.
+/// How long the server is waited for: nobody is told to log in here, so that what is left of the time for all is a limit that nothing puts off.
 fn limits_of(server: ServerAddress<'_>) -> Limits {
     Limits {
-        login: 0,
+        login: seconds_left(0, left_until(server.until)),
         idle: server.timeout,
         idle_while_waited: 0,
         session_while_waited: 0,

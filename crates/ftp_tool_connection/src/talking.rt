@@ -1,4 +1,5 @@
 // A control connection from its beginning to its end, and the one client at it.
+use crate::health::{Health, Noticed};
 use crate::hearing::Hearing;
 use crate::live::{LiveSession, Opens};
 use crate::progress::MeteredPorts;
@@ -19,12 +20,12 @@ use std::io::{Eprint, Read, Write};
 use std::net::{Net, TcpListener, TcpStream};
 use std::time::{Clock, Instant};
 
-/// Opens a control connection, plays over it by a client, says goodbye and closes it; notices how long that took.
+/// Opens a control connection, plays over it by a client, says goodbye and closes it; notices how long that took, and of one alone whether it failed.
 pub(crate) fn converse<R, T, P>(
     rt: &R,
     server: ServerAddress<'_>,
     login: Login<Global>,
-    noticed: &mut LastReply,
+    (noticed, health): (&mut LastReply, &Health),
     play: &mut P,
 ) -> Result<T, SessionFault>
 where
@@ -37,7 +38,7 @@ where
         converse_by_several(rt, server, &login, noticed, play)
     } else {
         let mut login = Some(login);
-        converse_anew(rt, server, &mut login, noticed, play)
+        converse_anew(rt, server, &mut login, (noticed, health), play)
     };
     noticed.add_spent(seconds_since(rt, begun));
     done
@@ -58,7 +59,7 @@ fn converse_anew<R, T, P>(
     rt: &R,
     server: ServerAddress<'_>,
     login: &mut Option<Login<Global>>,
-    noticed: &mut LastReply,
+    (noticed, health): (&mut LastReply, &Health),
     play: &mut P,
 ) -> Result<T, SessionFault>
 where
@@ -67,7 +68,7 @@ where
     P: SessionTask<Result<T, SessionFault>>,
 {
     let stream = at(Phase::Connection, connected(rt, server))?;
-    let done = talk(rt, server, login, &stream, noticed, play);
+    let done = talk(rt, server, login, &stream, (noticed, health), play);
     let _gone = leave(&stream);
     done
 }
@@ -78,7 +79,7 @@ fn talk<R, T, P>(
     server: ServerAddress<'_>,
     login: &mut Option<Login<Global>>,
     stream: &TcpStream,
-    noticed: &mut LastReply,
+    (noticed, health): (&mut LastReply, &Health),
     play: &mut P,
 ) -> Result<T, SessionFault>
 where
@@ -86,7 +87,7 @@ where
     T: Drop,
     P: SessionTask<Result<T, SessionFault>>,
 {
-    let patience = Patience::new(server.timeout);
+    let patience = Patience::new(server.timeout, server.until);
     let course = Course::new();
     let ports = MeteredPorts::hearing(rt, stream, &patience, &course, server);
     let mut ports = at(Phase::Talking, ports)?;
@@ -94,9 +95,15 @@ where
         stream,
         patience: &patience,
         course: &course,
+        health,
     };
     let done = talk_over(rt.alloc(), link, &mut ports, login, noticed, play);
     if patience.is_over() {
+        health.fail();
+    }
+    if patience.is_past() {
+        noticed.ran_out();
+    } else if patience.is_over() {
         noticed.fell_silent(server.timeout);
     }
     done
@@ -108,6 +115,7 @@ struct ControlLink<'a> {
     stream: &'a TcpStream,
     patience: &'a Patience,
     course: &'a Course,
+    health: &'a Health,
 }
 
 /// Plays over a control connection beside these data connections.
@@ -126,8 +134,8 @@ where
 {
     let hosts = at(Phase::Talking, hosts_of(link.stream))?;
     let mut control = Control::new(
-        ControlReader::new(link.stream, link.patience),
-        ControlWriter::new(link.stream, link.patience),
+        Noticed::new(ControlReader::new(link.stream, link.patience), link.health),
+        Noticed::new(ControlWriter::new(link.stream, link.patience), link.health),
     );
     let done = match login.take() {
         Some(login) => play_by_one::<OperationTransfer<Global>, _, _, _, _, _>(
@@ -169,9 +177,28 @@ where
     P: SessionTask<Result<T, SessionFault>>,
 {
     match client_of::<F>(alloc, login, hosts) {
-        Some(client) => play_by(Hearing::new(client, noticed), control, ports, course, play),
+        Some(client) => play_heard(client, (control, noticed), ports, course, play),
         None => Err(SessionFault::of_memory()),
     }
+}
+
+/// Plays by a client whose replies are noticed.
+fn play_heard<N, C, W, O, T, P>(
+    client: N,
+    (control, noticed): (&mut Control<C, W>, &mut LastReply),
+    ports: &mut O,
+    course: &Course,
+    play: &mut P,
+) -> Result<T, SessionFault>
+where
+    N: Near<Global>,
+    C: Read + Drop,
+    W: Write + Drop,
+    O: Opens,
+    T: Drop,
+    P: SessionTask<Result<T, SessionFault>>,
+{
+    play_by(Hearing::new(client, noticed), control, ports, course, play)
 }
 
 /// A client between two hosts; none where memory is refused.

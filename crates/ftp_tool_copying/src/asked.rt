@@ -46,6 +46,8 @@ pub struct Mirror<'a> {
     pub limit: u64,
     pub doing: Doing,
     pub deeds: Deeds,
+    /// When it began, in seconds from the beginning of 1970, by this machine's clock: nothing was listed before.
+    pub begun: u64,
 }
 
 impl<'a> Mirror<'a> {

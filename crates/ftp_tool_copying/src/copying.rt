@@ -28,7 +28,14 @@ pub fn leave<R: Places + LocalFiles + Eprint>(
     };
     let came = downloading.came();
     if let Some(part) = came.part() {
-        rt.finish_below(mirror.folder, below, part, moment, mirror.flush)?;
+        rt.finish_below(
+            mirror.folder,
+            below,
+            part,
+            came.count(),
+            moment,
+            mirror.flush,
+        )?;
     }
     Ok(came.count())
 }
@@ -68,7 +75,7 @@ pub fn begun<'a, R: Places + LocalFiles + Eprint>(
     if let Some(to) = to {
         downloading.pour_into(rt.begin_below(mirror.folder, to)?);
     }
-    expect(&mut downloading, facts);
+    expect(&mut downloading, facts, mirror.begun);
     Ok(downloading)
 }
 
@@ -82,10 +89,14 @@ fn name<R: LocalFiles + Eprint>(
     downloading.name_as(name.as_str())
 }
 
-/// A download is of a file that is listed so.
-fn expect<R: LocalFiles + Eprint>(downloading: &mut Downloading<'_, R>, facts: Facts) {
+/// A download is of a file that is listed so, at this second or later.
+fn expect<R: LocalFiles + Eprint>(
+    downloading: &mut Downloading<'_, R>,
+    facts: Facts,
+    asked_at: u64,
+) {
     if let (Some(size), Some(moment)) = (facts.size, moment_of(facts)) {
-        downloading.expect(size, moment);
+        downloading.expect(size, moment, asked_at);
     }
 }
 

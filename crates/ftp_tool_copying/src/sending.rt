@@ -7,7 +7,7 @@ use crate::telling::shown;
 use crate::trouble::Trouble;
 use ftp_facts::Text;
 use ftp_operation::{Answer, Op};
-use ftp_tool_asking::{ClientSession, Request};
+use ftp_tool_asking::{ClientSession, Request, Ticket};
 use ftp_tool_local::{Content, LocalFiles, Reading};
 use ftp_tool_places::{OpenBelow, Places};
 use ftp_tool_transfer::{Sending, Source, Uploading, Wrong, limit_held};
@@ -28,6 +28,8 @@ pub struct Upward<'a> {
     pub to: &'a str,
     /// How many octets it was listed with.
     pub size: Option<u64>,
+    /// By which its upload is answered, where it was asked ahead (`foresee_drawn`).
+    pub ahead: Option<Ticket>,
 }
 
 /// Uploads a file, over breaks; the server has to have its size then. Gives how many octets it has. A file that is not small is read as it goes. `is_blind` as of
@@ -47,7 +49,7 @@ where
 {
     if is_drawn(file.size) {
         if let Some(opened) = rt.open_below(mirror.folder, file.below)? {
-            return copy_drawn(rt, alloc, seat, mirror, (opened, file.to), is_blind);
+            return copy_drawn(rt, alloc, seat, mirror, (opened, file), is_blind);
         }
     }
     let count = uploaded(rt, alloc, seat, mirror, file.below, file.to)?;
@@ -71,7 +73,7 @@ fn copy_drawn<R, S>(
     alloc: Global,
     seat: &mut S,
     mirror: &Mirror<'_>,
-    (opened, to): (OpenBelow, &str),
+    (opened, file): (OpenBelow, Upward<'_>),
     is_blind: &mut bool,
 ) -> Result<u64, Trouble>
 where
@@ -83,8 +85,8 @@ where
     if total > mirror.limit {
         return Err(Trouble::TooLarge(total, mirror.limit));
     }
-    let there = mirror.there(alloc, to)?;
-    let head = note_head(alloc, to)?;
+    let there = mirror.there(alloc, file.to)?;
+    let head = note_head(alloc, file.to)?;
     let source = Source::file(path.as_str(), source);
     let mut uploading = Uploading::new(
         rt,
@@ -95,6 +97,7 @@ where
         mirror.openings,
     );
     uploading.begin_notes(head.as_str());
+    uploading.go_by(file.ahead);
     let may_be_ahead = seat.ahead() > 0 && total <= AHEAD;
     if *is_blind || may_be_ahead {
         uploading.blind();
@@ -109,23 +112,24 @@ where
     sent
 }
 
-/// Asks ahead that a file goes, which is read as it goes, and then how many octets of it the server has.
+/// Asks ahead that a file goes, which is read as it goes, and then how many octets of it the server has. Gives by which ticket that is answered, where it was
+/// asked.
 pub fn foresee_drawn<R, S>(
     rt: &R,
     alloc: Global,
     seat: &mut S,
     mirror: &Mirror<'_>,
     below: &str,
-) -> Result<(), Trouble>
+) -> Result<Option<Ticket>, Trouble>
 where
     R: Places + LocalFiles,
     S: ClientSession,
 {
     let Some(opened) = rt.open_below(mirror.folder, below)? else {
-        return Ok(());
+        return Ok(None);
     };
     if opened.source.total > mirror.limit {
-        return Ok(());
+        return Ok(None);
     }
     let there = mirror.there(alloc, below)?;
     let sending = Sending {
@@ -136,8 +140,7 @@ where
         how: mirror.how,
         openings: mirror.openings,
     };
-    let _asked = sending.foresee(rt, alloc, seat)?;
-    Ok(())
+    Ok(sending.foresee(rt, alloc, seat)?)
 }
 
 /// What a note of an upload begins with.

@@ -4,8 +4,8 @@ use ftp_operation::Answer;
 use ftp_tool_asking::{ClientSession, LastReply, SessionFault};
 use ftp_tool_local::LocalFiles;
 use ftp_tool_single::{
-    Download, Job, OUTPUT, Parts, Target, discard, keep_part, leave, place_text, prepare, stamp_of,
-    tell_unwritten,
+    Download, Job, OUTPUT, Parts, Target, Targets, discard, keep_part, leave, place_text, prepare,
+    stamp_of, tell_unwritten,
 };
 use ftp_tool_status::Status;
 use ftp_tool_transfer::{Downloading, limit_held};
@@ -22,17 +22,23 @@ pub struct Getting<'a> {
     pub parts: Parts,
     /// Whether the last change of a file is to be at the server's moment of it.
     pub moment: bool,
+    /// Where the files of the same command line go, where there are several.
+    pub targets: Option<&'a Targets>,
 }
 
 impl<'a> Getting<'a> {
     /// The download of the file at a path of the server into one here.
-    fn job<'b>(&self, path: &str, file: &'b str) -> io::Result<Job<'b>> {
+    fn job<'b>(&self, path: &str, file: &'b str) -> io::Result<Job<'b>>
+    where
+        'a: 'b,
+    {
         Ok(Job {
             alloc: self.alloc,
             download: Download {
                 file,
                 parts: self.parts,
                 moment: self.moment,
+                targets: self.targets,
             },
             place: place_text(self.alloc, &self.asked.at(path))?,
         })
@@ -106,6 +112,12 @@ impl<'a, R: LocalFiles + Print + Eprint> Fetched<'a, R> {
             is_new: true,
             fault: None,
         })
+    }
+
+    /// It can't be written here, since another file of the command line goes there.
+    pub fn refuse(&mut self, error: Error) {
+        self.is_new = false;
+        self.fault = Some(error);
     }
 
     /// Makes the part of a file of which nothing was asked yet, or takes up one that is kept.

@@ -1,7 +1,7 @@
 // A file that is one of several which are sent.
 use crate::errands::Errand;
 use ftp_operation::Answer;
-use ftp_tool_asking::{ClientSession, LastReply, Phase, SessionFault, SessionTask, at};
+use ftp_tool_asking::{ClientSession, LastReply, Phase, SessionFault, SessionTask, Ticket, at};
 use ftp_tool_local::LocalFiles;
 use ftp_tool_single::{Loaded, Target, TooLarge, load};
 use ftp_tool_status::Status;
@@ -48,7 +48,8 @@ pub struct Sent<'a, R> {
     hand: Hand<'a, R>,
     /// The file as it was opened, where it is asked ahead.
     sending: Option<Sending<'a>>,
-    is_ahead: bool,
+    /// By which its upload is answered, where it was asked ahead.
+    ahead: Option<Ticket>,
 }
 
 /// By hand, as above.
@@ -61,7 +62,7 @@ impl<'a, R> Drop for Sent<'a, R> {
             path: _,
             hand: _,
             sending: _,
-            is_ahead: _,
+            ahead: _,
         } = self;
     }
 }
@@ -76,7 +77,7 @@ impl<'a, R: LocalFiles + Input + Eprint> Sent<'a, R> {
             path,
             hand: Hand::Nothing,
             sending: None,
-            is_ahead: false,
+            ahead: None,
         }
     }
 
@@ -128,30 +129,33 @@ impl<'a, R: LocalFiles + Input + Eprint> Sent<'a, R> {
 
 impl<'a, R: LocalFiles + Input + Eprint> Errand for Sent<'a, R> {
     fn foresee<S: ClientSession>(&mut self, seat: &mut S) {
-        if self.is_ahead {
+        if self.is_ahead() {
             return;
         }
         self.take_up();
         if let Some(sending) = self.sending {
             let foreseen = sending.foresee(self.rt, self.putting.alloc, seat);
-            self.is_ahead = foreseen.unwrap_or(false);
+            self.ahead = foreseen.unwrap_or(None);
         }
     }
 
     fn is_ahead(&self) -> bool {
-        self.is_ahead
+        self.ahead.is_some()
     }
 
     fn forget(&mut self) {
-        self.is_ahead = false;
+        self.ahead = None;
     }
 
     fn ask<S: ClientSession>(&mut self, seat: &mut S) -> Result<Answer<Global>, SessionFault> {
         self.take_up();
-        self.is_ahead = false;
+        let ahead = self.ahead.take();
         self.sending = None;
         match &mut self.hand {
-            Hand::Upload(uploading) => uploading.play(seat),
+            Hand::Upload(uploading) => {
+                uploading.go_by(ahead);
+                uploading.play(seat)
+            }
             Hand::Unread(stop) => Err(*stop),
             Hand::Nothing | Hand::TooLarge(_) => Ok(Answer::Done),
         }

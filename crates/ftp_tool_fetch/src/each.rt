@@ -5,7 +5,7 @@ use ftp_tool_errands::{
     Errands, Fetched, Getting, Often, Putting, Removed, Sent, Waiting, done_all,
 };
 use ftp_tool_local::LocalFiles;
-use ftp_tool_single::{Parts, Target};
+use ftp_tool_single::{Parts, Target, Targets};
 use ftp_tool_status::Status;
 use std::alloc::Global;
 use std::env::Env;
@@ -30,9 +30,13 @@ impl Drop for Pair {
 
 /// What is done with each of several files.
 #[derive(Clone, Copy)]
-pub enum Each {
-    /// It is downloaded; `moment`: its last change is to be at the server's moment of the file.
-    Get { parts: Parts, moment: bool },
+pub enum Each<'a> {
+    /// It is downloaded; `moment`: its last change is to be at the server's moment of the file; `targets`: where the files of the same command line go.
+    Get {
+        parts: Parts,
+        moment: bool,
+        targets: Option<&'a Targets>,
+    },
     /// It is uploaded.
     Put,
     /// It is removed from the server.
@@ -41,7 +45,12 @@ pub enum Each {
 
 /// Does the same with each of several files of a server, over as many control connections as are asked for, and gives the worst exit status. One that fails
 /// does not stop the others; it is told in its turn.
-pub fn fetch_each<R>(rt: &R, asked: &Target<'_>, each: Each, pairs: &[Pair]) -> io::Result<Status>
+pub fn fetch_each<R>(
+    rt: &R,
+    asked: &Target<'_>,
+    each: Each<'_>,
+    pairs: &[Pair],
+) -> io::Result<Status>
 where
     R: Net<Listener = TcpListener, Stream = TcpStream>
         + Files<File = File>
@@ -60,7 +69,7 @@ fn fetched_each<R>(
     rt: &R,
     alloc: Global,
     asked: &Target<'_>,
-    each: Each,
+    each: Each<'_>,
     pairs: &[Pair],
 ) -> io::Result<Status>
 where
@@ -68,13 +77,18 @@ where
 {
     let mut noticed = LastReply::new();
     let done = match each {
-        Each::Get { parts, moment } => get_each(
+        Each::Get {
+            parts,
+            moment,
+            targets,
+        } => get_each(
             rt,
             Getting {
                 alloc,
                 asked: *asked,
                 parts,
                 moment,
+                targets,
             },
             pairs,
             &mut noticed,

@@ -5,6 +5,7 @@ use ftp_operation::Answer;
 use ftp_reply::code::{NOT_IMPLEMENTED, UNKNOWN};
 use ftp_tool_asking::{LastReply, Phase, SessionFault, at, say};
 use ftp_tool_connection::{Converses, Logins};
+use ftp_tool_errands::Getting;
 use ftp_tool_local::LocalFiles;
 use ftp_tool_single::{Download, Simple, Target, Wish, ask_for, do_simple, get, make_all, put};
 use ftp_tool_status::Status;
@@ -56,10 +57,21 @@ where
     R: Converses + Logins + LocalFiles + Input + Print + Eprint,
 {
     let mut noticed = LastReply::new();
-    let on = &lanes_for(asked, task);
+    let on = &single_lane(asked);
     let done = match task {
         Task::Get(download) => get(rt, alloc, on, download, &mut noticed),
-        Task::GetMatching(download) => get_matching(rt, alloc, on, download, &mut noticed),
+        Task::GetMatching(download) => get_matching(
+            rt,
+            Getting {
+                alloc,
+                asked: *asked,
+                parts: download.parts,
+                moment: download.moment,
+                targets: download.targets,
+            },
+            download.file,
+            &mut noticed,
+        ),
         Task::Put(file) => put(rt, alloc, on, file, &mut noticed),
         Task::List(lines) => list(rt, alloc, on, lines, &mut noticed),
         Task::Simple(simple) => do_simple(rt, alloc, on, simple, &mut noticed),
@@ -67,18 +79,25 @@ where
     };
     match done {
         Ok(status) => Ok(status),
-        Err(stop) => stop.tell(rt, asked.subject(file_of(task))),
+        Err(stop) => tell_stop(rt, stop, asked, file_of(task)),
     }
 }
 
-/// What is asked of one file is asked over one control connection.
-fn lanes_for<'a>(asked: &Target<'a>, task: Task<'_>) -> Target<'a> {
-    match task {
-        Task::GetMatching(_) => *asked,
-        _ => Target {
-            at_once: 1,
-            ..*asked
-        },
+/// Tells why nothing was asked, or no more: of which place, and of which file of this end.
+fn tell_stop<'a, R: Eprint>(
+    rt: &R,
+    stop: SessionFault,
+    asked: &'a Target<'a>,
+    file: &'a str,
+) -> io::Result<Status> {
+    stop.tell(rt, asked.subject(file))
+}
+
+/// The same, asked over one control connection.
+fn single_lane<'a>(asked: &Target<'a>) -> Target<'a> {
+    Target {
+        at_once: 1,
+        ..*asked
     }
 }
 

@@ -13,7 +13,7 @@ use ftp_tool_listing::{Item, items_of_columns, items_of_facts};
 use ftp_tool_local::LocalFiles;
 use ftp_tool_pattern::{chosen_items, chosen_names};
 use ftp_tool_shown::Shown;
-use ftp_tool_single::{Download, Single, Target, Wish};
+use ftp_tool_single::{Single, Wish, source_of};
 use ftp_tool_status::Status;
 use ftp_tool_transfer::tell;
 use ftp_tool_words::{joined, last_part};
@@ -25,19 +25,22 @@ use std::{io, str};
 /// How often it goes on that got further over the control connections before.
 const ROUNDS: u32 = 1_000_000;
 
-/// Fetches the files of a directory whose names are of the pattern that the path ends in, in the order of their names, each into the folder that
-/// `download` names as its file, by its own name. Gives the worst status; 1 where no name is of the pattern.
-pub(crate) fn get_matching<R>(
-    rt: &R,
-    alloc: Global,
-    asked: &Target<'_>,
-    download: Download<'_>,
+/// Why a file is not fetched where another one of the same command line goes.
+const JUST_CREATED: &str =
+    "will not overwrite just-created: another file of the same name is asked for";
+
+/// Fetches the files of a directory whose names are of the pattern that the path ends in, in the order of their names, each into this
+/// folder by its own name. Gives the worst status; 1 where no name is of the pattern.
+pub(crate) fn get_matching<'a, R>(
+    rt: &'a R,
+    getting: Getting<'a>,
+    folder: &'a str,
     noticed: &mut LastReply,
 ) -> Result<Status, SessionFault>
 where
     R: Converses + Logins + LocalFiles + Print + Eprint,
 {
-    let mut matching = at(Phase::Asking, Matching::new(rt, alloc, asked, download))?;
+    let mut matching = Matching::new(rt, getting, folder);
     match walked(&mut matching, noticed) {
         Ok(answer) => {
             let finished = matching.finish(&answer, noticed);
@@ -73,7 +76,7 @@ where
     for _ in 0..ROUNDS {
         let before = matching.reach();
         let rt = matching.rt;
-        let asked = matching.asked;
+        let asked = matching.getting.asked;
         let answered = ask(rt, asked.server(), asked.user, noticed, matching);
         let is_lost = matches!(&answered, Ok(Answer::Lost));
         if !is_lost || matching.reach() == before {
@@ -90,7 +93,7 @@ struct Names<'a, R> {
     getting: Getting<'a>,
     dir: &'a str,
     /// Where the files go.
-    folder: String<Global>,
+    folder: &'a str,
     names: IntoIter<Text<Global>, Global>,
 }
 
@@ -125,20 +128,35 @@ impl<'a, R: LocalFiles + Print + Eprint> Names<'a, R> {
         let alloc = self.getting.alloc;
         let mut path = String::from_str(alloc, self.dir)?;
         path.push_str(text)?;
-        let file = joined(alloc, self.folder.as_str(), text)?;
+        let file = joined(alloc, self.folder, text)?;
+        let is_free = self.is_free(path.as_str(), file.as_str())?;
         let shown = format!(in alloc; "{}", Shown(name))?;
-        Fetched::new(self.rt, self.getting, path, file, Some(shown.as_str()))
+        let mut fetched = Fetched::new(self.rt, self.getting, path, file, Some(shown.as_str()))?;
+        if !is_free {
+            fetched.refuse(Error::new(ErrorKind::AlreadyExists, JUST_CREATED));
+        }
+        Ok(fetched)
+    }
+
+    /// Whether no other file of the command line goes where the file at a path is to go.
+    fn is_free(&self, path: &str, file: &str) -> io::Result<bool> {
+        match self.getting.targets {
+            Some(targets) => {
+                let asked = self.getting.asked.at(path);
+                let source = source_of(self.getting.alloc, &asked)?;
+                Ok(targets.claim(file, source.as_str())?)
+            }
+            None => Ok(true),
+        }
     }
 }
 
 /// The files of a directory whose names are of a pattern.
 struct Matching<'a, R> {
     rt: &'a R,
-    alloc: Global,
-    asked: Target<'a>,
-    /// Where the files go.
-    folder: String<Global>,
     getting: Getting<'a>,
+    /// Where the files go.
+    folder: &'a str,
     dir: &'a str,
     pattern: &'a str,
     /// The files, once the directory is listed.
@@ -150,10 +168,8 @@ impl<'a, R> Drop for Matching<'a, R> {
     fn drop(self) {
         let Self {
             rt: _,
-            alloc: _,
-            asked: _,
-            folder: _,
             getting: _,
+            folder: _,
             dir: _,
             pattern: _,
             files: _,
@@ -163,29 +179,16 @@ impl<'a, R> Drop for Matching<'a, R> {
 
 impl<'a, R: LocalFiles + Print + Eprint> Matching<'a, R> {
     /// Of which nothing was asked yet.
-    fn new(
-        rt: &'a R,
-        alloc: Global,
-        asked: &Target<'a>,
-        download: Download<'_>,
-    ) -> io::Result<Matching<'a, R>> {
-        let folder = String::from_str(alloc, download.file)?;
-        let (dir, pattern) = parted(asked.place.path);
-        Ok(Matching {
+    fn new(rt: &'a R, getting: Getting<'a>, folder: &'a str) -> Matching<'a, R> {
+        let (dir, pattern) = parted(getting.asked.place.path);
+        Matching {
             rt,
-            alloc,
-            asked: *asked,
+            getting,
             folder,
-            getting: Getting {
-                alloc,
-                asked: *asked,
-                parts: download.parts,
-                moment: download.moment,
-            },
             dir,
             pattern,
             files: None,
-        })
+        }
     }
 
     /// How far it got: how many files had their turn, and how many octets came of the one that has it.
@@ -207,7 +210,7 @@ impl<'a, R: LocalFiles + Print + Eprint> Matching<'a, R> {
         let answer = self.listed(seat)?;
         match self.chosen(&answer)? {
             Some(names) => {
-                self.take_up(names)?;
+                self.take_up(names);
                 Ok(None)
             }
             None => Ok(Some(answer)),
@@ -215,16 +218,15 @@ impl<'a, R: LocalFiles + Print + Eprint> Matching<'a, R> {
     }
 
     /// These are fetched.
-    fn take_up(&mut self, names: Vec<Text<Global>, Global>) -> Result<(), AllocError> {
+    fn take_up(&mut self, names: Vec<Text<Global>, Global>) {
         let waiting = Names {
             rt: self.rt,
             getting: self.getting,
             dir: self.dir,
-            folder: self.folder.clone()?,
+            folder: self.folder,
             names: names.into_iter(),
         };
-        self.files = Some(Errands::new(self.rt, self.alloc, waiting, "copied", Often::On));
-        Ok(())
+        self.files = Some(Errands::new(self.rt, self.getting.alloc, waiting, "copied", Often::On));
     }
 
     /// The entries of the directory, or its names where the server has no machine listing.
@@ -239,10 +241,10 @@ impl<'a, R: LocalFiles + Print + Eprint> Matching<'a, R> {
 
     fn single(&self, wish: Wish<'a>) -> Single<'a> {
         Single {
-            alloc: self.alloc,
+            alloc: self.getting.alloc,
             path: self.dir,
-            how: self.asked.how,
-            openings: self.asked.openings,
+            how: self.getting.asked.how,
+            openings: self.getting.asked.openings,
             wish,
         }
     }
@@ -256,11 +258,11 @@ impl<'a, R: LocalFiles + Print + Eprint> Matching<'a, R> {
         match answer {
             Answer::Octets(text) => {
                 let items = self.items(text.as_slice())?;
-                Ok(Some(chosen_items(self.alloc, pattern, items.as_slice())?))
+                Ok(Some(chosen_items(self.getting.alloc, pattern, items.as_slice())?))
             }
             Answer::Names(names) => {
                 let dir = self.dir.as_bytes();
-                Ok(Some(chosen_names(self.alloc, pattern, dir, names.as_slice())?))
+                Ok(Some(chosen_names(self.getting.alloc, pattern, dir, names.as_slice())?))
             }
             _ => Ok(None),
         }
@@ -268,9 +270,9 @@ impl<'a, R: LocalFiles + Print + Eprint> Matching<'a, R> {
 
     /// What the directory has, by a listing of it as text.
     fn items(&self, text: &[u8]) -> Result<Vec<Item<Global>, Global>, AllocError> {
-        match self.asked.openings.list_verb() {
-            ListVerb::Mlsd => items_of_facts(self.alloc, text),
-            ListVerb::List | ListVerb::Nlst => items_of_columns(self.alloc, text),
+        match self.getting.asked.openings.list_verb() {
+            ListVerb::Mlsd => items_of_facts(self.getting.alloc, text),
+            ListVerb::List | ListVerb::Nlst => items_of_columns(self.getting.alloc, text),
         }
     }
 
@@ -295,7 +297,7 @@ impl<'a, R: LocalFiles + Print + Eprint> Matching<'a, R> {
             }
             None => (0, Status::Done),
         };
-        let path = self.asked.place.path;
+        let path = self.getting.asked.place.path;
         match answer {
             Answer::Done if taken > 0 => Ok(worst),
             Answer::Done => told(
@@ -306,7 +308,7 @@ impl<'a, R: LocalFiles + Print + Eprint> Matching<'a, R> {
                 Status::Refused,
             ),
             _ => {
-                let stranger = self.asked.stranger();
+                let stranger = self.getting.asked.stranger();
                 Ok(tell(self.rt, path, stranger, answer, noticed)?.worse(worst))
             }
         }

@@ -1,11 +1,14 @@
 // A script of operations over one control connection: each is done and reported before the next begins.
+ghost use Rattle.std.specs.Prelude.{◌≡◌};
+ghost use Rattle.ftp_tool_fetch.specs.Running.{status_by};
+
 use ftp_facts::Text;
-use ftp_operation::Answer;
+use ftp_operation::Login;
 use ftp_tool_asking::{
     ClientSession, LastReply, Phase, Request, ServerAddress, SessionFault, SessionTask, Subject,
     at, told,
 };
-use ftp_tool_connection::{Converses, Logins, converse_as};
+use ftp_tool_connection::{Converses, Health, Logins};
 use ftp_tool_script::{NoScript, Order, Script, read_script, write_report};
 use ftp_tool_status::Status;
 use ftp_tool_words::User;
@@ -24,8 +27,9 @@ type Orders = Vec<Order<Text<Global>>, Global>;
 const NO_LOGIN: &[u8] = b"login nobody nothing\n";
 
 /// Does the script of standard input over one control connection to a server, and writes a report of each of its orders to standard output once it
-/// is done. Gives the exit status: 0; 1 where an order was refused or broke; 2 for a line that fits no form, and then nothing is sent; 3 where the
-/// control connection or a device failed, or memory was refused for the script or a report. What keeps it from a report is told on standard error.
+/// is done. Gives the exit status: 0; 1 where an order was refused or broke, or the server ended the control connection, by 421 too; 2 for a line that fits no
+/// form, and then nothing is sent; 3 where the control connection or a device failed, or memory was refused for the script or a report. What keeps it from a
+/// report is told on standard error.
 pub fn run<R>(rt: &R, server: ServerAddress<'_>) -> io::Result<Status>
 where
     R: Net<Listener = TcpListener, Stream = TcpStream>
@@ -80,7 +84,7 @@ where
                 alloc,
                 orders: Some(orders),
             };
-            rt.converse(server, login, &mut LastReply::new(), &mut all)
+            play_all(rt, server, login, &mut all)
         }
         Err(fault) => tell_fault(rt, fault),
     }
@@ -103,11 +107,35 @@ where
                 alloc,
                 orders: Some(orders),
             };
-            converse_as(rt, server, user, &mut LastReply::new(), &mut all)
+            match at(Phase::Login, rt.login(server.host, user)) {
+                Ok(login) => play_all(rt, server, login, &mut all),
+                Err(stop) => Err(stop),
+            }
         }
         Err(NoScript::Line(number)) => { tell_fault(rt, NoScript::Line(number.saturating_sub(1))) }
         Err(fault) => tell_fault(rt, fault),
     }
+}
+
+/// Does the orders of a script over a control connection, and gives the exit status.
+fn play_all<R: Converses + Print>(
+    rt: &R,
+    server: ServerAddress<'_>,
+    login: Login<Global>,
+    all: &mut All<'_, R>,
+) -> Result<Status, SessionFault> {
+    let health = Health::new();
+    match rt.converse_noticing(server, login, &mut LastReply::new(), &health, all) {
+        Ok(worst) => Ok(status_by(worst, health.has_failed())),
+        Err(stop) => Err(stop),
+    }
+}
+
+/// The exit status behind the worst one of all reports.
+fn status_by(worst: Status, has_failed: bool) -> Status
+    ensures { result ≡ status_by worst has_failed }
+{
+    if has_failed { Status::Failed } else { worst }
 }
 
 /// Tells why there is no script.
@@ -175,7 +203,7 @@ where
     S: ClientSession,
 {
     let answer = seat.answer(request_of(order));
-    report(rt, alloc, &answer)
+    write_report(alloc, &answer, &mut io::writer(rt))
 }
 
 /// The request of an order.
@@ -183,14 +211,5 @@ fn request_of(order: Order<Text<Global>>) -> Request {
     match order.into_parts() {
         Ok(op) => Request::One(Some(op)),
         Err((path, octets, how)) => Request::Upload(Some((path, octets)), how),
-    }
-}
-
-/// Writes the report of an answer, and gives its status: failed, where the control connection did.
-fn report<R: Print>(rt: &R, alloc: Global, answer: &Answer<Global>) -> io::Result<Status> {
-    let status = write_report(alloc, answer, &mut io::writer(rt))?;
-    match answer {
-        Answer::Lost => Ok(Status::Failed),
-        _ => Ok(status),
     }
 }

@@ -8,6 +8,7 @@ use Rattle.ftp_reply.specs.declared.code.TheConstants.{NOT_IMPLEMENTED, UNAVAILA
 use Rattle.ftp_tool_lanes.specs.declared.ahead.What.{What}
 use Rattle.ftp_tool_lanes.specs.declared.ahead.What.TheVariants as Whats
 use Rattle.ftp_tool_asking.specs.declared.request.Request.{Request}
+use Rattle.ftp_tool_asking.specs.declared.session.Ticket.{Ticket}
 use Rattle.ftp_tool_asking.specs.declared.request.Request.TheVariants.{One, Upload, Download, Drawn}
 
 -- what an operation without octets of a file asks of which path, where it is asked ahead: a listing, that a file is removed, its size, or its moment
@@ -36,6 +37,12 @@ asked_ahead (Download (Some op) terms) = fetched_ahead op
 asked_ahead (Upload (Some file) how) = Some (Whats.Upload, file.0)
 asked_ahead (Drawn (Some op) span) = sent_ahead op
 asked_ahead request = None
+
+-- what was asked ahead by one ticket or by none is the answer to what is asked by one or none: what went over its data connection is of nobody else
+abbrev pub is_for : (held asked : Option Ticket) → Bool
+is_for (Some held) (Some asked) = held.number == asked.number
+is_for None None = true
+is_for held asked = false
 
 -- a fact of a file: it is told by a reply alone (RFC 3659, sections 3 and 4)
 abbrev pub is_fact : What → Bool

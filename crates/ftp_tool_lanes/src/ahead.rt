@@ -1,12 +1,12 @@
 // What is asked ahead of its turn, and how it is known again.
 ghost use Rattle.std.specs.Prelude.{◌≡◌, IfSome, IsTrue, Some};
 ghost use Rattle.std.specs.Option.{option_map};
-ghost use Rattle.ftp_tool_lanes.specs.Ahead.{asked_ahead, is_done, is_fact, is_given, is_removed, is_told, leaves_all, says_none, wants_login};
+ghost use Rattle.ftp_tool_lanes.specs.Ahead.{asked_ahead, is_done, is_fact, is_for, is_given, is_removed, is_told, leaves_all, says_none, wants_login};
 
 use ftp_facts::Text;
 use ftp_operation::{Answer, Op};
 use ftp_reply::code::{NOT_IMPLEMENTED, UNAVAILABLE, UNKNOWN};
-use ftp_tool_asking::{Cargo, Ending, Request};
+use ftp_tool_asking::{Cargo, Ending, Request, Ticket};
 use std::alloc::Global;
 
 /// What can be asked ahead of a path.
@@ -118,6 +118,18 @@ fn parts_of(request: &Request) -> Option<(What, &[u8])>
         Request::Upload(Some((path, _)), _) => Some((What::Upload, path.as_slice())),
         Request::Drawn(Some(Op::Put(path, _, _)), _) => Some((What::Upload, path.as_slice())),
         _ => None,
+    }
+}
+
+/// Whether what was asked ahead by this ticket, or by none, is the answer to what is asked by one or none: what went over its data connection is of whoever
+/// has its ticket, and of nobody else.
+pub(crate) fn is_for(held: Option<Ticket>, asked: Option<Ticket>) -> bool
+    ensures { result ≡ is_for held asked }
+{
+    match (held, asked) {
+        (Some(held), Some(asked)) => held.number == asked.number,
+        (None, None) => true,
+        _ => false,
     }
 }
 

@@ -4,7 +4,9 @@ use crate::row::Row;
 use crate::seat::{Came, Doing, Seat};
 use ftp_control::TURNS;
 use ftp_operation::Answer;
-use ftp_tool_asking::{Cargo, ClientSession, Ending, Freight, LastReply, Request, Said, say};
+use ftp_tool_asking::{
+    Cargo, ClientSession, Ending, Freight, LastReply, Request, Said, Ticket, say,
+};
 use ftp_tool_lane::TakesTurns;
 use ftp_tool_looking::{Awaits, Leaving};
 use ftp_tool_sockets::monotonic_millis;
@@ -44,8 +46,12 @@ pub struct Lanes<'n, 'r, R, L> {
     last: Option<usize>,
     /// Over which lane it was asked ahead, where more was asked behind it and is not given yet.
     row: Option<usize>,
+    /// How many tickets were given out.
+    tickets: u64,
     /// For how many seconds the server may be silent.
     timeout: u32,
+    /// Until when all is to be done, in milliseconds of the monotonic clock; none: without a limit.
+    until: Option<u64>,
 }
 
 /// By hand: a derived drop is proved again, part by part, wherever they are let go.
@@ -61,19 +67,21 @@ impl<'n, 'r, R, L: Drop> Drop for Lanes<'n, 'r, R, L> {
             ending: _,
             last: _,
             row: _,
+            tickets: _,
             timeout: _,
+            until: _,
         } = self;
     }
 }
 
 impl<'n, 'r, R: Eprint, L: TakesTurns + Drop> Lanes<'n, 'r, R, L> {
-    /// Nothing was asked yet.
+    /// Nothing was asked yet. The server may be silent for so many seconds, and all is to be done until a moment of the monotonic clock, if one is said.
     pub fn new(
         rt: &'r R,
         alloc: Global,
         seats: Vec<Seat<L>, Global>,
         noticed: &'n mut LastReply,
-        timeout: u32,
+        (timeout, until): (u32, Option<u64>),
     ) -> Lanes<'n, 'r, R, L> {
         noticed.begin();
         Lanes {
@@ -86,21 +94,25 @@ impl<'n, 'r, R: Eprint, L: TakesTurns + Drop> Lanes<'n, 'r, R, L> {
             ending: Ending::Answered,
             last: None,
             row: None,
+            tickets: 0,
             timeout,
+            until,
         }
     }
 
-    /// Over which lane this is asked ahead: behind what was given last, of which else nothing more is given, or over another one.
-    fn place_of(&mut self, request: &Request) -> Option<usize> {
+    /// Over which lane this is asked ahead, by this ticket or by none: behind what was given last, of which else nothing more is given, or over another one.
+    fn place_of(&mut self, request: &Request, ticket: Option<Ticket>) -> Option<usize> {
         if let Some(place) = self.row.take() {
             if let Some(seat) = self.seats.get_mut(place) {
-                if seat.has_ahead(request) {
+                if seat.has_ahead(request, ticket) {
                     return Some(place);
                 }
                 seat.forget();
             }
         }
-        self.seats.iter().position(|seat| seat.has_ahead(request))
+        self.seats
+            .iter()
+            .position(|seat| seat.has_ahead(request, ticket))
     }
 
     /// Whether something of the same path is asked ahead.
@@ -196,9 +208,9 @@ impl<'n, 'r, R: Eprint, L: TakesTurns + Drop> Lanes<'n, 'r, R, L> {
         None
     }
 
-    /// What this was answered ahead, once it is; none where it was not asked ahead, or its answer is not given.
-    fn given(&mut self, request: &Request) -> Option<Came> {
-        let place = self.place_of(request)?;
+    /// What this was answered ahead, once it is; none where it was not asked ahead, by this ticket or by none, or its answer is not given.
+    fn given(&mut self, request: &Request, ticket: Option<Ticket>) -> Option<Came> {
+        let place = self.place_of(request, ticket)?;
         self.await_row(place);
         let seat = self.seats.get_mut(place)?;
         let mut done = seat.take_done()?;
@@ -260,27 +272,49 @@ impl<'n, 'r, R: Eprint, L: TakesTurns + Drop> Lanes<'n, 'r, R, L> {
         }
         self.noticed.keep(seat.lane.last_reply());
         if seat.lane.is_gone() && seat.lane.is_late() {
-            self.noticed.fell_silent(self.timeout);
+            if is_past(self.until) {
+                self.noticed.ran_out();
+            } else {
+                self.noticed.fell_silent(self.timeout);
+            }
         }
     }
 
-    /// Asks these ahead, one directly behind another, over a lane that is idle, with what goes over the data connection of the first transfer.
-    fn begin_row(&mut self, requests: Vec<Request, Global>, cargo: Cargo) {
+    /// Asks these ahead, one directly behind another, over an idle lane, with what goes over the data connection of the first transfer, which is given by
+    /// its ticket. Says whether they are asked.
+    fn begin_row(
+        &mut self,
+        requests: Vec<Request, Global>,
+        cargo: Cargo,
+        ticket: Option<Ticket>,
+    ) -> bool {
         if requests.iter().any(|request| self.is_ahead(request)) {
-            return;
+            return false;
         }
         let Some(first) = requests.first() else {
-            return;
+            return false;
         };
         self.try_out(first);
         let Some(place) = self.idle_place(first) else {
-            return;
+            return false;
         };
-        let Some(row) = Row::of(self.alloc, requests, cargo) else {
-            return;
+        let Some(row) = Row::of(self.alloc, requests, cargo, ticket) else {
+            return false;
         };
-        if let Some(seat) = self.seats.get_mut(place) {
-            seat.begin_row(row);
+        match self.seats.get_mut(place) {
+            Some(seat) => {
+                seat.begin_row(row);
+                true
+            }
+            None => false,
+        }
+    }
+
+    /// A ticket that was not given out before.
+    fn next_ticket(&mut self) -> Ticket {
+        self.tickets = self.tickets.saturating_add(1);
+        Ticket {
+            number: self.tickets,
         }
     }
 
@@ -357,6 +391,14 @@ impl<'a> Display for Fewer<'a> {
     }
 }
 
+/// Whether a moment of the monotonic clock has come.
+fn is_past(until: Option<u64>) -> bool {
+    match until {
+        Some(until) => until <= monotonic_millis(),
+        None => false,
+    }
+}
+
 /// A row of which nothing is asked.
 fn row_of_nothing() -> pollfd {
     pollfd {
@@ -424,12 +466,10 @@ fn await_leaving(leaving: &[Leaving], millis: u64) {
 
 impl<'n, 'r, R: Eprint, L: TakesTurns + Drop> ClientSession for Lanes<'n, 'r, R, L> {
     fn answer(&mut self, request: Request) -> Answer<Global> {
-        if let Some(came) = self.given(&request) {
-            if came.cargo.is_own() {
-                return came.into_answer();
-            }
+        match self.given(&request, None) {
+            Some(came) => came.into_answer(),
+            None => self.asked(request, Cargo::Own).into_answer(),
         }
-        self.asked(request, Cargo::Own).into_answer()
     }
 
     fn answer_carried<T: Freight>(
@@ -437,9 +477,6 @@ impl<'n, 'r, R: Eprint, L: TakesTurns + Drop> ClientSession for Lanes<'n, 'r, R,
         request: Request,
         home: &Cell<Option<T>>,
     ) -> Answer<Global> {
-        if let Some(answer) = self.answer_ahead(&request, home) {
-            return answer;
-        }
         let cargo = match home.replace(None) {
             Some(carried) => match carried.load(self.alloc) {
                 Ok(cargo) => cargo,
@@ -456,10 +493,11 @@ impl<'n, 'r, R: Eprint, L: TakesTurns + Drop> ClientSession for Lanes<'n, 'r, R,
 
     fn answer_ahead<T: Freight>(
         &mut self,
+        ticket: Ticket,
         request: &Request,
         home: &Cell<Option<T>>,
     ) -> Option<Answer<Global>> {
-        landed(self.given(request)?, home)
+        landed(self.given(request, Some(ticket))?, home)
     }
 
     fn came(&self) -> &[u8] {
@@ -496,12 +534,22 @@ impl<'n, 'r, R: Eprint, L: TakesTurns + Drop> ClientSession for Lanes<'n, 'r, R,
     }
 
     fn foresee_row(&mut self, requests: Vec<Request, Global>) {
-        self.begin_row(requests, Cargo::Own);
+        let _begun = self.begin_row(requests, Cargo::Own, None);
     }
 
-    fn foresee_carried<T: Freight>(&mut self, requests: Vec<Request, Global>, carried: T) {
-        if let Ok(cargo) = carried.load(self.alloc) {
-            self.begin_row(requests, cargo);
+    fn foresee_carried<T: Freight>(
+        &mut self,
+        requests: Vec<Request, Global>,
+        carried: T,
+    ) -> Option<Ticket> {
+        let Ok(cargo) = carried.load(self.alloc) else {
+            return None;
+        };
+        let ticket = self.next_ticket();
+        if self.begin_row(requests, cargo, Some(ticket)) {
+            Some(ticket)
+        } else {
+            None
         }
     }
 

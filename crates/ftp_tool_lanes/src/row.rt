@@ -1,6 +1,6 @@
 // What is asked ahead over one of several control connections, one thing after another, and what was answered of it.
-use crate::ahead::{Done, Key, is_fact, is_given, is_transfer};
-use ftp_tool_asking::{Cargo, Request};
+use crate::ahead::{Done, Key, is_fact, is_for, is_given, is_transfer};
+use ftp_tool_asking::{Cargo, Request, Ticket};
 use std::alloc::Global;
 use std::mem;
 
@@ -11,6 +11,8 @@ struct Step {
     request: Option<Request>,
     /// What goes over its data connection, until it is asked.
     cargo: Cargo,
+    /// By which it is given alone, where something of its own goes over its data connection.
+    ticket: Option<Ticket>,
     /// Once it is answered.
     done: Option<Done>,
 }
@@ -22,6 +24,7 @@ impl Drop for Step {
             key: _,
             request: _,
             cargo: _,
+            ticket: _,
             done: _,
         } = self;
     }
@@ -41,9 +44,14 @@ impl Drop for Row {
 }
 
 impl Row {
-    /// These, in their order, and what goes over the data connection of the first transfer; none where there is none, where one of them is not asked ahead,
-    /// or memory is refused.
-    pub(crate) fn of(alloc: Global, requests: Vec<Request, Global>, cargo: Cargo) -> Option<Row> {
+    /// These, in their order, and what goes over the data connection of the first transfer, which then is given by its ticket alone; none where there is none,
+    /// where one of them is not asked ahead, or memory is refused.
+    pub(crate) fn of(
+        alloc: Global,
+        requests: Vec<Request, Global>,
+        cargo: Cargo,
+        ticket: Option<Ticket>,
+    ) -> Option<Row> {
         let mut cargo = cargo;
         let mut steps = Vec::new(alloc);
         for request in requests {
@@ -53,10 +61,12 @@ impl Row {
             } else {
                 Cargo::Own
             };
+            let held = if carried.is_own() { None } else { ticket };
             let step = Step {
                 key,
                 request: Some(request),
                 cargo: carried,
+                ticket: held,
                 done: None,
             };
             if steps.push(step).is_err() {
@@ -91,10 +101,10 @@ impl Row {
         false
     }
 
-    /// Whether this is what is given next.
-    pub(crate) fn is_of(&self, request: &Request) -> bool {
+    /// Whether this, by this ticket or by none, is what is given next.
+    pub(crate) fn is_of(&self, request: &Request, ticket: Option<Ticket>) -> bool {
         match self.steps.first() {
-            Some(step) => step.key.is_of(request),
+            Some(step) => is_for(step.ticket, ticket) && step.key.is_of(request),
             None => false,
         }
     }

@@ -3,7 +3,7 @@ use crate::ahead::Done;
 use crate::row::Row;
 use ftp_operation::{Answer, Op};
 use ftp_reply::code::NOT_LOGGED_IN;
-use ftp_tool_asking::{Cargo, Request};
+use ftp_tool_asking::{Cargo, Request, Ticket};
 use ftp_tool_lane::TakesTurns;
 use ftp_tool_looking::Awaits;
 use std::alloc::Global;
@@ -123,10 +123,10 @@ impl<L: TakesTurns + Drop> Seat<L> {
         self.is_idle() && matches!(self.stand, Stand::Untried)
     }
 
-    /// Whether this is given next of what is asked ahead over it.
-    pub(crate) fn has_ahead(&self, request: &Request) -> bool {
+    /// Whether this, by this ticket or by none, is given next of what is asked ahead over it.
+    pub(crate) fn has_ahead(&self, request: &Request, ticket: Option<Ticket>) -> bool {
         match &self.ahead {
-            Some(row) => row.is_of(request),
+            Some(row) => row.is_of(request, ticket),
             None => false,
         }
     }

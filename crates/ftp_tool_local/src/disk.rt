@@ -1,9 +1,13 @@
 // What is asked of this machine's files by names alone, as a trait without types of its own: what stands on it is proved for less than on the system's
 // files, which bring two types and their bounds.
+ghost use Rattle.std.specs.Prelude.{ℕ, IfOk, ⊤};
+ghost use Rattle.ftp_tool_local.specs.declared.open_part.OpenPart.{OpenPart};
+
 use crate::content::{Reading, read_from};
+use crate::identity::Look;
 use crate::open_part::OpenPart;
 use crate::place::Standing;
-use crate::writing::{Writing, create_beside, open_again, write_beside, write_into, write_new};
+use crate::writing::{create_beside, open_again, write_into, write_new};
 use ftp_facts::Text;
 use std::alloc::Global;
 use std::fs::{File, Files};
@@ -11,13 +15,28 @@ use std::io::ErrorKind;
 use std::path::PathBuf;
 use std::{fs, io};
 
+/// A part that stands, open again.
+#[derive(Drop)]
+pub(crate) struct Reopened {
+    pub(crate) opened: File,
+    /// How many octets it has.
+    pub(crate) count: u64,
+    pub(crate) look: Look,
+}
+
 /// What is asked of files by their names.
 pub(crate) trait Disk {
+    /// The system told that a part has so many octets.
+    ghost has_length: { OpenPart → (length : ℕ) → Type 0 } = { λ part length. ⊤ };
+
     /// All octets of a file, where it has `limit` octets at most.
     fn read(&self, name: &str, limit: u64) -> io::Result<Reading>;
 
     /// What stands at a name, where links are followed.
     fn standing_at(&self, name: &str) -> io::Result<Standing>;
+
+    /// What has this very name, be it a link; none where nothing has it.
+    fn look_at(&self, name: &str) -> io::Result<Option<Look>>;
 
     /// The permissions of the file that has this very name; none where no file has it, as where a link has.
     fn mode_at(&self, name: &str) -> io::Result<Option<u32>>;
@@ -27,14 +46,18 @@ pub(crate) trait Disk {
     /// The name that a link has, from the directory that the link is in; none where no link has this name.
     fn link_at(&self, name: &PathBuf<Global>) -> io::Result<Option<PathBuf<Global>>>;
 
-    /// Makes a file beside this one, to replace one of these permissions, where there is one; one that may be kept has no note yet.
-    fn create_beside(&self, file: &str, kept: Option<u32>, is_noted: bool) -> io::Result<OpenPart>;
+    /// Makes a file beside this one, to replace one of these permissions, where there is one; one that may be kept has no note yet. Its number is none of
+    /// those that are passed over.
+    fn create_beside(
+        &self,
+        file: &str,
+        kept: Option<u32>,
+        is_noted: bool,
+        passed: &[u32],
+    ) -> io::Result<OpenPart>;
 
-    /// Opens a part that stands, to be written behind what it has, and tells how many octets that are; none where another process has it open.
-    fn open_again(&self, name: &str) -> io::Result<Option<(File, u64)>>;
-
-    /// Writes a file that is made just now, beside this one, and gives its name. Where that fails, what was written is removed again.
-    fn write_beside(&self, file: &str, writing: Writing<'_>) -> io::Result<String<Global>>;
+    /// Opens a part that stands, to be written behind what it has; none where another process has it open. Nothing is written.
+    fn open_again(&self, name: &str) -> io::Result<Option<Reopened>>;
 
     /// Writes octets behind what stands at a name that is no file's.
     fn write_into(&self, name: &str, pieces: &[Text<Global>]) -> io::Result<()>;
@@ -43,6 +66,14 @@ pub(crate) trait Disk {
     fn write_new(&self, name: &str, octets: &[u8]) -> io::Result<()>;
 
     fn rename(&self, from: &str, to: &str) -> io::Result<()>;
+
+    /// How many octets a part has.
+    fn length(&self, part: &OpenPart) -> io::Result<u64>
+        ensures { IfOk result (λ length. has_length part.now length) };
+
+    /// Renames a part that is whole: the system told that it has so many octets.
+    fn rename_whole(&self, part: &OpenPart, count: u64, from: &str, to: &str) -> io::Result<()>
+        requires { has_length part.now count };
 
     fn remove(&self, name: &str) -> io::Result<()>;
 }
@@ -56,8 +87,15 @@ impl<R: Files<File = File> + AllocGlobal> Disk for R {
         standing_at(self, name)
     }
 
+    fn look_at(&self, name: &str) -> io::Result<Option<Look>> {
+        look_at(self, name)
+    }
+
     fn mode_at(&self, name: &str) -> io::Result<Option<u32>> {
-        mode_at(self, name)
+        match look_at(self, name)? {
+            Some(look) => Ok(mode_of(look.standing)),
+            None => Ok(None),
+        }
     }
 
     fn exists(&self, name: &str) -> io::Result<bool> {
@@ -72,22 +110,28 @@ impl<R: Files<File = File> + AllocGlobal> Disk for R {
         from_directory(self.alloc(), name, target)
     }
 
-    fn create_beside(&self, file: &str, kept: Option<u32>, is_noted: bool) -> io::Result<OpenPart> {
-        create_beside(self, self.alloc(), file, kept, is_noted)
+    fn create_beside(
+        &self,
+        file: &str,
+        kept: Option<u32>,
+        is_noted: bool,
+        passed: &[u32],
+    ) -> io::Result<OpenPart> {
+        create_beside(self, self.alloc(), file, kept, is_noted, passed)
     }
 
-    fn open_again(&self, name: &str) -> io::Result<Option<(File, u64)>> {
+    fn open_again(&self, name: &str) -> io::Result<Option<Reopened>> {
         match open_again(self, name)? {
             Some(opened) => {
-                let count = opened.metadata()?.len();
-                Ok(Some((opened, count)))
+                let found = opened.metadata()?;
+                Ok(Some(Reopened {
+                    opened,
+                    count: found.len(),
+                    look: Look::of(&found),
+                }))
             }
             None => Ok(None),
         }
-    }
-
-    fn write_beside(&self, file: &str, writing: Writing<'_>) -> io::Result<String<Global>> {
-        write_beside(self, self.alloc(), file, writing)
     }
 
     fn write_into(&self, name: &str, pieces: &[Text<Global>]) -> io::Result<()> {
@@ -99,6 +143,14 @@ impl<R: Files<File = File> + AllocGlobal> Disk for R {
     }
 
     fn rename(&self, from: &str, to: &str) -> io::Result<()> {
+        fs::rename(self, from, to)
+    }
+
+    fn length(&self, part: &OpenPart) -> io::Result<u64> {
+        Ok(part.writer().metadata()?.len())
+    }
+
+    fn rename_whole(&self, _part: &OpenPart, _count: u64, from: &str, to: &str) -> io::Result<()> {
         fs::rename(self, from, to)
     }
 
@@ -115,14 +167,19 @@ fn standing_at<R: Files>(files: &R, name: &str) -> io::Result<Standing> {
     }
 }
 
-fn mode_at<R: Files>(files: &R, name: &str) -> io::Result<Option<u32>> {
+fn look_at<R: Files>(files: &R, name: &str) -> io::Result<Option<Look>> {
     match fs::symlink_metadata(files, name) {
-        Ok(found) => match Standing::of(&found) {
-            Standing::File(mode) => Ok(Some(mode)),
-            _ => Ok(None),
-        },
+        Ok(found) => Ok(Some(Look::of(&found))),
         Err(error) if error.kind() == ErrorKind::NotFound => Ok(None),
         Err(error) => Err(error),
+    }
+}
+
+/// The permissions of a file.
+fn mode_of(standing: Standing) -> Option<u32> {
+    match standing {
+        Standing::File(mode) => Some(mode),
+        _ => None,
     }
 }
 

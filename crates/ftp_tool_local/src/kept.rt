@@ -3,14 +3,14 @@ ghost use Rattle.std.specs.Prelude.{◌≡◌};
 ghost use Rattle.ftp_tool_local.specs.Note.{is_part_of};
 
 use crate::content::Reading;
-use crate::disk::Disk;
+use crate::disk::{Disk, Reopened};
+use crate::identity::{is_lone_file, is_own_part};
 use crate::note::{GROWING, Note, note_in};
 use crate::open_part::OpenPart;
 use crate::part::beside;
 use crate::place::{Place, Standing, place_of};
-use crate::writing::NAMES;
+use crate::writing::PARTS;
 use std::alloc::{AllocError, Global};
-use std::fs::File;
 use std::io;
 use std::io::ErrorKind;
 
@@ -34,12 +34,24 @@ pub struct Kept {
 pub enum Beside {
     /// A part with its note.
     Kept(Kept),
+    /// A part of this name, which has a note that fits and is not gone on with, since it is a link, no regular file, or called otherwise too.
+    Refused(String<Global>),
     /// A part of which there is no note, or one that does not fit.
     Unnoted,
     Nothing,
 }
 
-/// The first part beside a file that is what its note says, of the file at this place of a server, and that no other process has open.
+/// What stands at the name of a part.
+#[derive(Drop)]
+enum Found {
+    Kept(Kept),
+    /// A link, what is no regular file, or a file that has another name too: nothing is written there.
+    Foreign,
+    /// No part that is gone on with.
+    Other,
+}
+
+/// The first part beside a file that is what its note says, of the file at this place of a server, that has one name, and that no other process has open.
 pub(crate) fn kept_beside<D: Disk>(
     disk: &D,
     alloc: Global,
@@ -60,10 +72,16 @@ fn kept_at<D: Disk>(
     place: &[u8],
     mode: Option<u32>,
 ) -> io::Result<Beside> {
-    for number in 0..NAMES {
-        if let Some(kept) = kept_as(disk, alloc, name, number, place, mode)? {
-            return Ok(Beside::Kept(kept));
+    let mut refused = None;
+    for number in 0..PARTS {
+        match kept_as(disk, alloc, name, number, place, mode)? {
+            Found::Kept(kept) => return Ok(Beside::Kept(kept)),
+            Found::Foreign if refused.is_none() => refused = Some(number),
+            Found::Foreign | Found::Other => {}
         }
+    }
+    if let Some(number) = refused {
+        return Ok(Beside::Refused(beside(alloc, name, number)?));
     }
     let first = beside(alloc, name, 0)?;
     Ok(if disk.exists(first.as_str())? {
@@ -81,27 +99,47 @@ fn kept_as<D: Disk>(
     number: u32,
     place: &[u8],
     mode: Option<u32>,
-) -> io::Result<Option<Kept>> {
+) -> io::Result<Found> {
     let part = beside(alloc, name, number)?;
     let Some(note) = noted(disk, alloc, part.as_str(), place)? else {
-        return Ok(None);
+        return Ok(Found::Other);
     };
-    match opened_again(disk, part.as_str())? {
-        Some((opened, count)) if is_part_of(note, count) => Ok(Some(Kept {
-            part: OpenPart::new(alloc, number, opened, mode)?,
-            count,
-            note,
-        })),
-        _ => Ok(None),
+    match disk.look_at(part.as_str())? {
+        Some(look) if is_lone_file(look) => {}
+        Some(_) => return Ok(Found::Foreign),
+        None => return Ok(Found::Other),
     }
+    let Some(again) = disk.open_again(part.as_str())? else {
+        return Ok(Found::Other);
+    };
+    let named = disk.look_at(part.as_str())?.map(|look| look.id);
+    if !is_own_part(again.look, named) {
+        return Ok(Found::Foreign);
+    }
+    taken_up(alloc, again, note, number, mode)
 }
 
-/// A part that stands, open again; none where no file stands there, and where another process has it open.
-fn opened_again<D: Disk>(disk: &D, part: &str) -> io::Result<Option<(File, u64)>> {
-    if !matches!(disk.standing_at(part)?, Standing::File(_)) {
-        return Ok(None);
+/// A part that is open again, where it is what its note says.
+fn taken_up(
+    alloc: Global,
+    again: Reopened,
+    note: Note,
+    number: u32,
+    mode: Option<u32>,
+) -> io::Result<Found> {
+    let Reopened {
+        opened,
+        count,
+        look: _,
+    } = again;
+    if !is_part_of(note, count) {
+        return Ok(Found::Other);
     }
-    disk.open_again(part)
+    Ok(Found::Kept(Kept {
+        part: OpenPart::new(alloc, number, opened, mode)?,
+        count,
+        note,
+    }))
 }
 
 /// Whether a part of so many octets is what its note says.

@@ -5,6 +5,7 @@
 mod change;
 mod content;
 mod disk;
+mod identity;
 mod kept;
 mod local_files;
 mod note;
@@ -16,6 +17,7 @@ mod writing;
 
 pub use change::Change;
 pub use content::{Content, Reading, read_from, read_most};
+pub use identity::{FileId, Look, is_lone_file, is_own_part, is_same_file};
 pub use kept::{Beside, Kept};
 pub use local_files::LocalFiles;
 pub use note::{GROWING, Note, note_in, note_of};
@@ -23,4 +25,4 @@ pub use open_part::OpenPart;
 pub use open_source::OpenSource;
 pub use part::beside;
 pub use place::{Standing, Way};
-pub use writing::Flush;
+pub use writing::{Flush, PARTS};

@@ -1,4 +1,5 @@
 // A part of a file that is open.
+use crate::identity::Look;
 use std::alloc::{AllocError, Global};
 use std::fs::File;
 use std::io;
@@ -38,6 +39,11 @@ impl OpenPart {
     /// The same, for somebody else who writes behind what it has too.
     pub fn shared(&self) -> Result<Rc<File, Global>, AllocError> {
         self.opened.clone()
+    }
+
+    /// What the system says of it, whatever became of its name.
+    pub(crate) fn look(&self) -> io::Result<Look> {
+        Ok(Look::of(&self.opened.metadata()?))
     }
 
     /// Leaves its first octets, so many.

@@ -3,10 +3,11 @@ ghost use Rattle.std.specs.Prelude.{◌≡◌, IfOk, OnOk, string_bytes};
 ghost use Rattle.ftp_tool_local.specs.Part.{part_name};
 
 use crate::disk::Disk;
-use crate::kept::{forget_note, write_note};
+use crate::identity::is_same_file;
+use crate::kept::{forget_note, name_of_note, write_note};
 use crate::open_part::OpenPart;
 use crate::place::{Place, place_of};
-use crate::writing::{Flush, Writing, settle};
+use crate::writing::{Flush, Writing, settle, write_to};
 use ftp_facts::{Moment, Text};
 use itoa::Buffer;
 use std::alloc::{AllocError, Global};
@@ -34,7 +35,7 @@ pub(crate) fn write_over<D: Disk>(
                 moment,
                 flush,
             };
-            replace(disk, name.as_str(), writing)
+            replace(disk, alloc, name.as_str(), writing)
         }
         Place::Device => disk.write_into(file, pieces),
     }
@@ -43,6 +44,7 @@ pub(crate) fn write_over<D: Disk>(
 /// Writes the octets of a file beside this very name, and moves it over what has the name: no link is followed.
 pub(crate) fn write_at<D: Disk>(
     disk: &D,
+    alloc: Global,
     name: &str,
     pieces: &[Text<Global>],
     moment: Option<Moment>,
@@ -54,18 +56,46 @@ pub(crate) fn write_at<D: Disk>(
         moment,
         flush,
     };
-    replace(disk, name, writing)
+    replace(disk, alloc, name, writing)
 }
 
 /// Writes a file beside its name, flushes it where that comes first, and moves it over the name. Where that fails, what was written beside is removed
 /// again.
-fn replace<D: Disk>(disk: &D, file: &str, writing: Writing<'_>) -> io::Result<()> {
-    let made = disk.write_beside(file, writing)?;
-    let moved = disk.rename(made.as_str(), file);
-    if moved.is_err() {
-        let _gone = disk.remove(made.as_str());
+fn replace<D: Disk>(disk: &D, alloc: Global, file: &str, writing: Writing<'_>) -> io::Result<()> {
+    let part = disk.create_beside(file, writing.kept, false, &[])?;
+    let name = beside(alloc, file, part.number)?;
+    let done = match write_to(&part, writing) {
+        Ok(()) => move_named(disk, &part, name.as_str(), file),
+        Err(error) => Err(error),
+    };
+    if done.is_err() {
+        let _gone = remove_own(disk, &part, name.as_str());
     }
-    moved
+    done
+}
+
+/// Gives a part the name of its file, where its own name leads to it still. Between the look and the rename another program can change that.
+fn move_named<D: Disk>(disk: &D, part: &OpenPart, name: &str, file: &str) -> io::Result<()> {
+    check_named(disk, part, name)?;
+    disk.rename(name, file)
+}
+
+/// Removes a part by its name, where that leads to it still.
+fn remove_own<D: Disk>(disk: &D, part: &OpenPart, name: &str) -> io::Result<()> {
+    check_named(disk, part, name)?;
+    disk.remove(name)
+}
+
+/// Fails where a name does not lead to this part: another file has it, or a link, or none has.
+fn check_named<D: Disk>(disk: &D, part: &OpenPart, name: &str) -> io::Result<()> {
+    let named = disk.look_at(name)?.map(|look| look.id);
+    if is_same_file(part.look()?.id, named) {
+        return Ok(());
+    }
+    Err(Error::new(
+        ErrorKind::Other,
+        "its part was replaced or removed by others",
+    ))
 }
 
 /// Makes the part of a file beside its name; none where octets go into what is no file, as it stands.
@@ -74,10 +104,11 @@ pub(crate) fn begin_part<D: Disk>(
     alloc: Global,
     file: &str,
     is_noted: bool,
+    passed: &[u32],
 ) -> io::Result<Option<OpenPart>> {
     match &place_of(disk, alloc, file)? {
         Place::File { name, mode } => {
-            Ok(Some(disk.create_beside(name.as_str(), *mode, is_noted)?))
+            Ok(Some(disk.create_beside(name.as_str(), *mode, is_noted, passed)?))
         }
         Place::Device => Ok(None),
     }
@@ -85,21 +116,45 @@ pub(crate) fn begin_part<D: Disk>(
 
 /// Makes the part of a file beside this very name: no link is followed.
 pub(crate) fn begin_at<D: Disk>(disk: &D, name: &str) -> io::Result<OpenPart> {
-    disk.create_beside(name, disk.mode_at(name)?, false)
+    disk.create_beside(name, disk.mode_at(name)?, false, &[])
 }
 
-/// Moves a part that is whole over what has this very name, be it a link. Where that fails, the part stands as it was.
+/// Moves a part that has so many octets over what has this very name, be it a link. Where that fails, the part stands as it was.
 pub(crate) fn finish_at<D: Disk>(
     disk: &D,
     alloc: Global,
     name: &str,
     part: &OpenPart,
+    count: u64,
     moment: Option<Moment>,
     flush: Flush,
-) -> io::Result<()> {
+) -> io::Result<()>
+    ensures { OnOk result (D.has_length part.now count) }
+{
     settle(part, moment, flush)?;
     let made = beside(alloc, name, part.number)?;
-    disk.rename(made.as_str(), name)
+    move_over(disk, part, count, made.as_str(), name)
+}
+
+/// Moves a part over a name, where its own name leads to it still and it has as many octets as came of its file; else it fails, and what has the name stays.
+fn move_over<D: Disk>(
+    disk: &D,
+    part: &OpenPart,
+    count: u64,
+    made: &str,
+    name: &str,
+) -> io::Result<()>
+    ensures { OnOk result (D.has_length part.now count) }
+{
+    check_named(disk, part, made)?;
+    let length = disk.length(part)?;
+    if length != count {
+        return Err(Error::new(
+            ErrorKind::InvalidData,
+            "its part has not as many octets as came of it; what stood there stays",
+        ));
+    }
+    disk.rename_whole(part, count, made, name)
 }
 
 /// Removes a part beside this very name.
@@ -110,23 +165,28 @@ pub(crate) fn discard_at<D: Disk>(
     part: &OpenPart,
 ) -> io::Result<()> {
     let made = beside(alloc, name, part.number)?;
-    disk.remove(made.as_str())
+    remove_own(disk, part, made.as_str())
 }
 
-/// Moves a part that is whole over its file, with the permissions of that; its note goes then. Where that fails, the part stands as it was.
+/// Moves a part that has so many octets over its file, with the permissions of that; its note goes then. Where that fails, the part stands as it was: nothing
+/// behind the rename can fail.
 pub(crate) fn finish_part<D: Disk>(
     disk: &D,
     alloc: Global,
     file: &str,
     part: &OpenPart,
+    count: u64,
     moment: Option<Moment>,
     flush: Flush,
-) -> io::Result<()> {
+) -> io::Result<()>
+    ensures { OnOk result (D.has_length part.now count) }
+{
     settle(part, moment, flush)?;
     let file = file_of(disk, alloc, file)?;
     let name = beside(alloc, file.as_str(), part.number)?;
-    disk.rename(name.as_str(), file.as_str())?;
-    forget_note(disk, alloc, name.as_str())?;
+    let note = name_of_note(alloc, name.as_str())?;
+    move_over(disk, part, count, name.as_str(), file.as_str())?;
+    let _gone = disk.remove(note.as_str());
     Ok(())
 }
 
@@ -139,7 +199,7 @@ pub(crate) fn discard_part<D: Disk>(
 ) -> io::Result<()> {
     let name = name_of(disk, alloc, file, part)?;
     forget_note(disk, alloc, name.as_str())?;
-    disk.remove(name.as_str())
+    remove_own(disk, part, name.as_str())
 }
 
 /// Writes the note of a part, and flushes it, in the place of the one that it had.
@@ -150,13 +210,25 @@ pub(crate) fn note_part<D: Disk>(
     part: &OpenPart,
     note: &[u8],
 ) -> io::Result<()> {
-    let name = name_of(disk, alloc, file, part)?;
+    let name = own_name(disk, alloc, file, part)?;
     forget_note(disk, alloc, name.as_str())?;
     write_note(disk, alloc, name.as_str(), note)
 }
 
-/// What a part of a file is called.
-pub(crate) fn name_of<D: Disk>(
+/// What a part of a file is called; fails where that name does not lead to it.
+pub(crate) fn own_name<D: Disk>(
+    disk: &D,
+    alloc: Global,
+    file: &str,
+    part: &OpenPart,
+) -> io::Result<String<Global>> {
+    let name = name_of(disk, alloc, file, part)?;
+    check_named(disk, part, name.as_str())?;
+    Ok(name)
+}
+
+/// The name that a part of a file got.
+fn name_of<D: Disk>(
     disk: &D,
     alloc: Global,
     file: &str,

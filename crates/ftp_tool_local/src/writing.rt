@@ -11,7 +11,7 @@ use std::time::{Duration, SystemTime, UNIX_EPOCH};
 use std::{fs, io};
 
 /// How many names are tried beside a file: its own with `.ftp-part` behind, and more with `-1`, `-2` and so on behind that.
-pub(crate) const NAMES: u32 = 100;
+pub const PARTS: u32 = 100;
 
 /// The permissions of a file that has no predecessor, less the umask.
 const NEW_MODE: u32 = 0o666;
@@ -36,34 +36,20 @@ pub(crate) struct Writing<'a> {
     pub(crate) flush: Flush,
 }
 
-/// Writes a file that is made beside another, and gives its name. Where that fails, what was written is removed again.
-pub(crate) fn write_beside<R: Files<File = File>>(
-    files: &R,
-    alloc: Global,
-    file: &str,
-    writing: Writing<'_>,
-) -> io::Result<String<Global>> {
-    let part = create_beside(files, alloc, file, writing.kept, false)?;
-    let name = beside(alloc, file, part.number)?;
-    match write_to(&part, writing) {
-        Ok(()) => Ok(name),
-        Err(error) => {
-            let _gone = fs::remove_file(files, name.as_str());
-            Err(error)
-        }
-    }
-}
-
 /// Makes a file beside another, by the first name that is free: what stands there may be of another program or of the user, and stays. One that may be
-/// kept, which has a note beside it, takes a name by which no note stands yet.
+/// kept, which has a note beside it, takes a name by which no note stands yet. No name of a number among `passed` is taken.
 pub(crate) fn create_beside<R: Files<File = File>>(
     files: &R,
     alloc: Global,
     file: &str,
     kept: Option<u32>,
     is_noted: bool,
+    passed: &[u32],
 ) -> io::Result<OpenPart> {
-    for number in 0..NAMES {
+    for number in 0..PARTS {
+        if passed.contains(&number) {
+            continue;
+        }
         let name = beside(alloc, file, number)?;
         if is_noted && has_note(files, alloc, name.as_str())? {
             continue;
@@ -120,7 +106,7 @@ fn has_note<R: Files>(files: &R, alloc: Global, part: &str) -> io::Result<bool> 
 }
 
 /// Writes the octets of a file, and flushes it where that comes first.
-fn write_to(part: &OpenPart, writing: Writing<'_>) -> io::Result<()> {
+pub(crate) fn write_to(part: &OpenPart, writing: Writing<'_>) -> io::Result<()> {
     let mut opened = part.writer();
     for piece in writing.pieces {
         opened.write_all(piece.as_slice())?;

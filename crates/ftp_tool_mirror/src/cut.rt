@@ -11,6 +11,8 @@ use std::io::Eprint;
 
 /// A download that the end of a control connection cut off.
 pub(crate) struct Cut<'a, R> {
+    /// The path of its file below both roots.
+    below: String<Global>,
     downloading: Downloading<'a, R>,
     /// Where its file goes, if it goes to one.
     to: Option<String<Global>>,
@@ -20,6 +22,7 @@ pub(crate) struct Cut<'a, R> {
 impl<'a, R> Drop for Cut<'a, R> {
     fn drop(self) {
         let Self {
+            below: _,
             downloading: _,
             to: _,
         } = self;
@@ -32,18 +35,37 @@ impl<'a, R: LocalFiles + Eprint> Cut<'a, R> {
         self.downloading.came().count()
     }
 
+    /// Whether it is of the file at this path.
+    pub(crate) fn is_of(&self, below: &str) -> bool {
+        self.below.as_str() == below
+    }
+
+    /// Other control connections begin, over which nothing was asked ahead.
+    pub(crate) fn forget_ahead(&mut self) {
+        self.downloading.forget_ahead();
+    }
+
     fn into_downloading(self) -> Downloading<'a, R> {
-        let Cut { downloading, to: _ } = self;
+        let Cut {
+            below: _,
+            downloading,
+            to: _,
+        } = self;
         downloading
     }
 }
 
-/// A copy of a name, where there is one.
-fn copied_name(alloc: Global, name: Option<&str>) -> Result<Option<String<Global>>, AllocError> {
-    match name {
-        Some(name) => Ok(Some(String::from_str(alloc, name)?)),
-        None => Ok(None),
-    }
+/// Copies of a name and of another one, where there is one.
+fn copied_names(
+    alloc: Global,
+    below: &str,
+    to: Option<&str>,
+) -> Result<(String<Global>, Option<String<Global>>), AllocError> {
+    let to = match to {
+        Some(name) => Some(String::from_str(alloc, name)?),
+        None => None,
+    };
+    Ok((String::from_str(alloc, below)?, to))
 }
 
 impl<'a, R: Machine> Walk<'a, R> {
@@ -61,7 +83,9 @@ impl<'a, R: Machine> Walk<'a, R> {
         };
         match download(&mut downloading, seat) {
             Ok(()) => Ok(downloading),
-            Err(Trouble::Lost) if !downloading.is_spent() => Err(self.cut_off(downloading, to)),
+            Err(Trouble::Lost) if !downloading.is_spent() => {
+                Err(self.cut_off(downloading, below, to))
+            }
             Err(trouble) => {
                 self.discard(&downloading, to);
                 Err(match trouble {
@@ -99,10 +123,19 @@ impl<'a, R: Machine> Walk<'a, R> {
     }
 
     /// The control connection ended in the middle of a download, which goes on over another one.
-    fn cut_off(&mut self, downloading: Downloading<'a, R>, to: Option<&str>) -> Trouble {
-        match copied_name(self.alloc, to) {
-            Ok(to) => {
-                self.cut = Some(Cut { downloading, to });
+    fn cut_off(
+        &mut self,
+        downloading: Downloading<'a, R>,
+        below: &str,
+        to: Option<&str>,
+    ) -> Trouble {
+        match copied_names(self.alloc, below, to) {
+            Ok((below, to)) => {
+                self.cut = Some(Cut {
+                    below,
+                    downloading,
+                    to,
+                });
                 Trouble::Lost
             }
             Err(AllocError) => {

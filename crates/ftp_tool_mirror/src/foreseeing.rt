@@ -5,8 +5,8 @@ use ftp_facts::Text;
 use ftp_operation::Op;
 use ftp_tool_asking::{ClientSession, Request, Terms};
 use ftp_tool_copying::{
-    AHEAD, Doing, Mirror, Trouble, facts_here, foresee_drawn, is_drawn, listing_request, moment_of,
-    octets_of, size_request,
+    AHEAD, Doing, Mirror, Trouble, facts_here, is_drawn, listing_request, moment_of, octets_of,
+    size_request,
 };
 use ftp_tool_listing::Facts;
 use ftp_tool_places::Places;
@@ -41,7 +41,7 @@ where
     }
     if let (Request::Upload(_, _), Chore::Deed(Deed::Copy(facts))) = (&asked, work.chore) {
         if is_drawn(facts.size) {
-            let _asked = foresee_drawn(rt, alloc, seat, mirror, below);
+            let _asked = prepared.foresee_sent((rt, alloc), seat, mirror, below);
             return;
         }
     }

@@ -7,6 +7,7 @@ mod foreseeing;
 mod machine;
 mod mirroring;
 mod prepared;
+mod removing;
 mod replacing;
 mod unlisted;
 mod walk;

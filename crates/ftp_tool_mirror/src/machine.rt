@@ -4,6 +4,7 @@ use ftp_tool_places::Places;
 use std::fs::{File, Files};
 use std::io;
 use std::io::{Eprint, Print, Write};
+use std::time::Clock;
 
 /// Who has files and folders, and tells what is done.
 pub(crate) trait Machine: LocalFiles + Places + Eprint {
@@ -14,7 +15,10 @@ pub(crate) trait Machine: LocalFiles + Places + Eprint {
     fn tell_line(&self, line: &[u8]) -> io::Result<()>;
 }
 
-impl<R: Files<File = File> + Print + Eprint + AllocGlobal + Clone + Drop> Machine for R {
+impl<R> Machine for R
+where
+    R: Files<File = File> + Clock + Print + Eprint + AllocGlobal + Clone + Drop,
+{
     fn tell_would(&self, what: &str, name: &str) -> io::Result<()> {
         println!(self; "{what} {name}")
     }

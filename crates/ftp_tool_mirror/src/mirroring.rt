@@ -5,6 +5,7 @@ use ftp_operation::Answer;
 use ftp_tool_asking::{LastReply, SessionFault, Subject, say, told};
 use ftp_tool_connection::{Converses, Logins, ask};
 use ftp_tool_copying::Mirror;
+use ftp_tool_local::LocalFiles;
 use ftp_tool_status::Status;
 use std::alloc::Global;
 use std::env::Env;
@@ -37,6 +38,10 @@ where
         + Clone
         + Drop,
 {
+    let asked = Mirror {
+        begun: rt.present(),
+        ..asked
+    };
     mirrored(rt, rt.alloc(), &asked)
 }
 

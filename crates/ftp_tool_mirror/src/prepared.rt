@@ -1,7 +1,7 @@
-// Downloads that are asked ahead of their turn, each with the part of its file here to which it goes as it comes.
+// Files that are asked ahead of their turn: downloads, each with the part of its file here to which it goes as it comes, and uploads.
 use crate::machine::Machine;
-use ftp_tool_asking::{ClientSession, Request};
-use ftp_tool_copying::{Mirror, Trouble, begun, discard};
+use ftp_tool_asking::{ClientSession, Request, Ticket};
+use ftp_tool_copying::{Mirror, Trouble, begun, discard, foresee_drawn};
 use ftp_tool_listing::Facts;
 use ftp_tool_transfer::Downloading;
 use std::alloc::Global;
@@ -32,15 +32,32 @@ impl<'a, R> Prepared<'a, R> {
     }
 }
 
+/// An upload that was asked ahead, and by which ticket it is answered.
+struct Sent {
+    below: String<Global>,
+    ticket: Ticket,
+}
+
+/// By hand, as above.
+impl Drop for Sent {
+    fn drop(self) {
+        let Self {
+            below: _,
+            ticket: _,
+        } = self;
+    }
+}
+
 /// Those that are asked ahead, and did not have their turn yet.
 pub(crate) struct AllPrepared<'a, R> {
     all: Vec<Prepared<'a, R>, Global>,
+    sent: Vec<Sent, Global>,
 }
 
 /// By hand, as above.
 impl<'a, R> Drop for AllPrepared<'a, R> {
     fn drop(self) {
-        let Self { all: _ } = self;
+        let Self { all: _, sent: _ } = self;
     }
 }
 
@@ -49,6 +66,7 @@ impl<'a, R: Machine> AllPrepared<'a, R> {
     pub(crate) fn new(alloc: Global) -> AllPrepared<'a, R> {
         AllPrepared {
             all: Vec::new(alloc),
+            sent: Vec::new(alloc),
         }
     }
 
@@ -83,6 +101,41 @@ impl<'a, R: Machine> AllPrepared<'a, R> {
         }
     }
 
+    /// Asks a file ahead that is sent, where a control connection is free for that.
+    pub(crate) fn foresee_sent<S: ClientSession>(
+        &mut self,
+        (rt, alloc): (&'a R, Global),
+        seat: &mut S,
+        mirror: &Mirror<'_>,
+        below: &str,
+    ) -> Result<(), Trouble> {
+        let name = String::from_str(alloc, below)?;
+        let Some(ticket) = foresee_drawn(rt, alloc, seat, mirror, below)? else {
+            return Ok(());
+        };
+        let sent = Sent {
+            below: name,
+            ticket,
+        };
+        match self.sent.push(sent) {
+            Ok(()) => Ok(()),
+            Err(_) => Err(Trouble::Memory),
+        }
+    }
+
+    /// By which ticket the upload of a file is answered that has its turn now, where it was asked ahead.
+    pub(crate) fn take_sent(&mut self, below: &str) -> Option<Ticket> {
+        let place = self
+            .sent
+            .iter()
+            .position(|sent| sent.below.as_str() == below)?;
+        if place >= self.sent.len() {
+            return None;
+        }
+        let sent = self.sent.remove(place);
+        Some(sent.ticket)
+    }
+
     fn place_of(&self, below: &str) -> Option<usize> {
         self.all
             .iter()
@@ -103,6 +156,7 @@ impl<'a, R: Machine> AllPrepared<'a, R> {
         for prepared in self.all.iter_mut() {
             prepared.downloading.forget_ahead();
         }
+        self.sent.clear();
     }
 
     /// Removes the parts of those that had no turn.

@@ -1,10 +1,10 @@
-// What comes in the place of something else: it is made beside it, that is renamed aside, and removed last.
+// What comes in the place of something else: it is made beside it, that is renamed aside, and removed last; by one rename where one does.
 use crate::machine::Machine;
 use crate::walk::Walk;
 use ftp_operation::Op;
 use ftp_tool_asking::ClientSession;
-use ftp_tool_copying::{Doing, Trouble, done_by, stands_there};
-use ftp_tool_listing::Listing;
+use ftp_tool_copying::{Doing, Trouble, done_by, stands_there, word_of};
+use ftp_tool_listing::{Facts, Listing};
 use ftp_tool_local::Change;
 use ftp_tool_plan::{Deed, Way};
 use ftp_tool_todo::Chore;
@@ -35,15 +35,32 @@ impl<'a, R: Machine> Walk<'a, R> {
                 self.do_deed(seat, deed, below)?;
                 self.do_deed(seat, removal, below)
             }
-            (Doing::All, Deed::Copy(facts)) => {
-                let coming = self.free_beside(seat, below, COMING)?;
-                self.copy_to(seat, below, facts, coming.as_str())?;
-                self.exchange(seat, removal, coming.as_str(), below)?;
-                self.tell_done("copy", below);
-                Ok(())
-            }
+            (Doing::All, Deed::Copy(facts)) => self.replace_by_file(seat, removal, facts, below),
             (Doing::All, _) => self.replace_by_dir(seat, removal, below),
         }
+    }
+
+    /// Puts a file in the place of something else. Of this machine what is no directory is replaced by one rename, so that its path is never missing; a rename
+    /// puts no file in the place of a directory, and no directory in that of a file (rename(2)).
+    fn replace_by_file<S: ClientSession>(
+        &mut self,
+        seat: &mut S,
+        removal: Deed,
+        facts: Facts,
+        below: &str,
+    ) -> Result<(), Trouble> {
+        if let (Way::Down, Deed::RemoveFile) = (self.mirror.rules.way, removal) {
+            self.copy_to(seat, below, facts, below)?;
+            self.tally.add_change(Change::RemoveFile);
+            self.tell_done("copy", below);
+            self.tell_done(word_of(Change::RemoveFile), below);
+            return Ok(());
+        }
+        let coming = self.free_beside(seat, below, COMING)?;
+        self.copy_to(seat, below, facts, coming.as_str())?;
+        self.exchange(seat, removal, coming.as_str(), below)?;
+        self.tell_done("copy", below);
+        Ok(())
     }
 
     /// Puts a directory in the place of something else, once it is known what stands in it at the source.

@@ -4,18 +4,17 @@ use crate::foreseeing::foresee;
 use crate::machine::Machine;
 use crate::prepared::AllPrepared;
 use ftp_operation::Answer;
-use ftp_tool_asking::{ClientSession, SessionFault, SessionTask};
+use ftp_tool_asking::{ClientSession, SessionFault, SessionTask, Ticket};
 use ftp_tool_copying::{
     Deeds, Doing, Mirror, Trouble, Upward, change_there, copy_up, deed_line, discard, entries_here,
-    entries_there, is_current, is_same, leave, reason_told, shown, stands_there, tell,
-    tell_no_text, tell_trouble, word_of,
+    entries_there, is_current, is_same, leave, reason_told, shown, tell, tell_no_text,
+    tell_trouble, word_of,
 };
 use ftp_tool_listing::{Facts, Listing};
 use ftp_tool_local::Change;
-use ftp_tool_plan::{Deed, Extra, Rules, Way};
+use ftp_tool_plan::{Deed, Way};
 use ftp_tool_todo::{Chore, Progress, Settled, Tally, Todo, Work, tell_too_many};
 use std::alloc::{AllocError, Global};
-use std::io::ErrorKind;
 
 /// A mirror on its way.
 pub(crate) struct Walk<'a, R> {
@@ -79,12 +78,24 @@ impl<'a, R: Machine> Walk<'a, R> {
         (self.todo.taken(), came)
     }
 
-    /// Tells what will be asked of the server next, so that it may be asked over other control connections meanwhile.
+    /// Other control connections begin, over which nothing was asked ahead.
+    fn begin(&mut self) {
+        self.prepared.forget();
+        if let Some(cut) = &mut self.cut {
+            cut.forget_ahead();
+        }
+    }
+
+    /// Tells what will be asked of the server next, so that it may be asked over other control connections meanwhile. A download that was cut off goes on in
+    /// its turn: its file is not asked for ahead once more.
     fn foresee<S: ClientSession>(&mut self, seat: &mut S) {
         for behind in 0..seat.ahead() {
             let Some(work) = self.todo.coming(behind) else {
                 return;
             };
+            if is_cut_at(&self.cut, work.below.as_str()) {
+                continue;
+            }
             let at = (self.rt, self.alloc);
             foresee(at, seat, self.mirror, &mut self.prepared, work);
         }
@@ -158,29 +169,6 @@ impl<'a, R: Machine> Walk<'a, R> {
         }
     }
 
-    /// Counts what stands in a directory of the target that is to be removed; where it can't be listed, it stays.
-    fn count<S: ClientSession>(
-        &mut self,
-        seat: &mut S,
-        number: usize,
-        below: &str,
-    ) -> Result<(), Trouble> {
-        let target = self.target(seat, below);
-        match &target {
-            Ok(Listing::Whole(items)) => self.todo.put_counts(number, below, items.as_slice()),
-            Ok(Listing::CutOff) => {
-                self.todo.keep(number);
-                Ok(())
-            }
-            Err(trouble) => {
-                if !matches!(trouble, Trouble::Lost | Trouble::Memory) {
-                    self.todo.keep(number);
-                }
-                Err(*trouble)
-            }
-        }
-    }
-
     /// Once all else is done: the removals are next, where so many may be done. Says whether there is more to do.
     fn settle(&mut self) -> bool {
         match self.todo.settle(self.mirror.rules.extra) {
@@ -192,43 +180,6 @@ impl<'a, R: Machine> Walk<'a, R> {
                 false
             }
         }
-    }
-
-    /// Whether the source has something of a path, as it says of that alone.
-    fn stands_at_source<S: ClientSession>(
-        &self,
-        seat: &mut S,
-        below: &str,
-        is_dir: bool,
-    ) -> Result<bool, Trouble> {
-        match self.mirror.rules.way {
-            Way::Down => stands_there(self.alloc, seat, self.mirror, below, is_dir),
-            Way::Up => self.stands_here(below),
-        }
-    }
-
-    /// Whether something stands in the folder of this machine; where its directory does not, or is none, nothing does.
-    fn stands_here(&self, below: &str) -> Result<bool, Trouble> {
-        match self.rt.found(self.mirror.folder, below) {
-            Ok(found) => Ok(found.is_some()),
-            Err(error) if error.kind() == ErrorKind::NotFound => Ok(false),
-            Err(error) if error.kind() == ErrorKind::NotADirectory => Ok(false),
-            Err(error) => Err(Trouble::Here(error)),
-        }
-    }
-
-    /// Removes something, unless the source says that it has it.
-    fn remove_lacking<S: ClientSession>(
-        &mut self,
-        seat: &mut S,
-        deed: Deed,
-        below: &str,
-    ) -> Result<(), Trouble> {
-        let is_dir = matches!(deed, Deed::RemoveDir);
-        if self.stands_at_source(seat, below, is_dir)? {
-            return Err(Trouble::Stands);
-        }
-        self.do_deed(seat, deed, below)
     }
 
     pub(crate) fn do_deed<S: ClientSession>(
@@ -326,7 +277,13 @@ impl<'a, R: Machine> Walk<'a, R> {
             Way::Down => self.copy_down(seat, below, facts, to),
             Way::Up => {
                 let size = facts.size;
-                let file = Upward { below, to, size };
+                let ahead = self.ahead_of(below, to);
+                let file = Upward {
+                    below,
+                    to,
+                    size,
+                    ahead,
+                };
                 copy_up(
                     self.rt,
                     self.alloc,
@@ -336,6 +293,15 @@ impl<'a, R: Machine> Walk<'a, R> {
                     &mut self.is_blind,
                 )
             }
+        }
+    }
+
+    /// By which ticket the upload of a file is answered, where it was asked ahead and goes to the file of its own name.
+    fn ahead_of(&mut self, below: &str, to: &str) -> Option<Ticket> {
+        if to == below {
+            self.prepared.take_sent(below)
+        } else {
+            None
         }
     }
 
@@ -422,7 +388,7 @@ impl<'a, R: Machine> Walk<'a, R> {
     }
 
     /// What stands in a directory of the target.
-    fn target<S: ClientSession>(
+    pub(crate) fn target<S: ClientSession>(
         &self,
         seat: &mut S,
         below: &str,
@@ -460,22 +426,6 @@ impl<'a, R: Machine> Walk<'a, R> {
                 Ok(entries_here(self.rt, self.alloc, folder, below, mirror.excluded)?)
             }
         }
-    }
-
-    /// Removes all that stands in a directory of the target, and the directory behind that.
-    pub(crate) fn empty_dir<S: ClientSession>(
-        &mut self,
-        seat: &mut S,
-        below: &str,
-    ) -> Result<(), Trouble> {
-        let target = self.target(seat, below)?;
-        self.todo.put(Chore::RemoveEmptied, below)?;
-        let nothing = Listing::Whole(Vec::new(self.alloc));
-        let rules = Rules {
-            extra: Extra::Any,
-            ..self.mirror.rules
-        };
-        self.todo.plan(rules, below, &nothing, &target)
     }
 
     /// Changes the target beside the octets of files.
@@ -550,9 +500,17 @@ impl<'a, R: Machine> Walk<'a, R> {
     }
 }
 
+/// Whether a download of the file at this path was cut off, and goes on in its turn.
+fn is_cut_at<'a, R: Machine>(cut: &Option<Cut<'a, R>>, below: &str) -> bool {
+    match cut {
+        Some(cut) => cut.is_of(below),
+        None => false,
+    }
+}
+
 impl<'a, R: Machine> SessionTask<Result<Answer<Global>, SessionFault>> for Walk<'a, R> {
     fn play<S: ClientSession>(&mut self, seat: &mut S) -> Result<Answer<Global>, SessionFault> {
-        self.prepared.forget();
+        self.begin();
         for _ in 0..u64::MAX {
             self.foresee(seat);
             let Some(work) = self.todo.next() else {

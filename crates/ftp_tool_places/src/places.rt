@@ -5,6 +5,7 @@ use ftp_tool_local::{Change, Flush, LocalFiles, OpenPart, OpenSource, Reading};
 use std::alloc::Global;
 use std::fs::{File, Files, Metadata};
 use std::io::{Error, ErrorKind};
+use std::time::Clock;
 use std::{fs, io};
 
 /// What stands under a name of a directory.
@@ -72,6 +73,7 @@ pub trait Places {
         root: &str,
         below: &str,
         part: &OpenPart,
+        count: u64,
         moment: Option<Moment>,
         flush: Flush,
     ) -> io::Result<()>;
@@ -86,7 +88,7 @@ pub trait Places {
     fn rename_below(&self, root: &str, below: &str, name: &str) -> io::Result<()>;
 }
 
-impl<R: Files<File = File> + AllocGlobal> Places for R {
+impl<R: Files<File = File> + Clock + AllocGlobal> Places for R {
     fn sightings(&self, root: &str, below: &str, most: usize) -> io::Result<Sightings> {
         let folder = Folder::reach(self.alloc(), root, below)?;
         seen(self, self.alloc(), &folder, most)
@@ -138,12 +140,13 @@ impl<R: Files<File = File> + AllocGlobal> Places for R {
         root: &str,
         below: &str,
         part: &OpenPart,
+        count: u64,
         moment: Option<Moment>,
         flush: Flush,
     ) -> io::Result<()> {
         let (folder, name) = parent(self.alloc(), root, below)?;
         let path = folder.path_of(self.alloc(), name)?;
-        self.finish_at(path.as_str(), part, moment, flush)
+        self.finish_at(path.as_str(), part, count, moment, flush)
     }
 
     fn discard_below(&self, root: &str, below: &str, part: &OpenPart) -> io::Result<()> {

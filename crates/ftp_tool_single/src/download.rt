@@ -1,6 +1,7 @@
 // A download: what is asked for, and what is left of it at this end.
 use crate::single::ask_at;
 use crate::target::Target;
+use crate::targets::Targets;
 use ftp_facts::Moment;
 use ftp_operation::{Answer, How};
 use ftp_settings::{Mode, Structure};
@@ -11,7 +12,7 @@ use ftp_tool_status::{Arrival, Status};
 use ftp_tool_transfer::{
     Came, Downloading, Part, Stamp, is_counted, limit_held, tell, tell_too_large,
 };
-use std::alloc::Global;
+use std::alloc::{AllocError, Global};
 use std::io;
 use std::io::{Eprint, Error, Print, Write};
 
@@ -36,6 +37,8 @@ pub struct Download<'a> {
     pub parts: Parts,
     /// Whether its last change is to be at the server's moment of the file.
     pub moment: bool,
+    /// Where the files of the same command line go, where there are several.
+    pub targets: Option<&'a Targets>,
 }
 
 /// A download, and the place of its file at a server.
@@ -121,12 +124,14 @@ pub fn prepare<R: LocalFiles + Eprint>(
         file,
         parts,
         moment: _,
+        targets: _,
     } = job.download;
     if file == OUTPUT {
         return Ok(());
     }
     if parts != Parts::Continued || !resume(rt, job, downloading)? {
-        match rt.begin_part(file, parts != Parts::Dropped)? {
+        let passed = passed_over(job)?;
+        match rt.begin_part(file, parts != Parts::Dropped, passed.as_slice())? {
             Some(part) => downloading.pour_into(part),
             None => return Ok(()),
         }
@@ -135,6 +140,14 @@ pub fn prepare<R: LocalFiles + Eprint>(
         downloading.note_as(file, job.place.as_str())?;
     }
     Ok(())
+}
+
+/// The numbers of parts whose names are those of other files of the command line.
+fn passed_over(job: &Job<'_>) -> Result<Vec<u32, Global>, AllocError> {
+    match job.download.targets {
+        Some(targets) => targets.parts(job.download.file),
+        None => Ok(Vec::new(job.alloc)),
+    }
 }
 
 /// Takes up a part that is kept beside the file, and says whether there is one; where it has no note that fits, that is told.
@@ -148,6 +161,15 @@ fn resume<R: LocalFiles + Eprint>(
             let Kept { part, count, note } = kept;
             downloading.go_on_in(part, count, note.size, Moment::new(note.moment));
             Ok(true)
+        }
+        Beside::Refused(name) => {
+            let _told = say(
+                rt,
+                "note: ",
+                &name,
+                " is a link, or no file of one name; it stays, and the download begins anew beside it",
+            );
+            Ok(false)
         }
         Beside::Unnoted => {
             let _told = say(
@@ -328,7 +350,7 @@ fn written<R: LocalFiles + Print + Eprint>(
     }
     let moment = moment_for(rt, job.download, downloading);
     match came.part() {
-        Some(part) => rt.finish_part(file, part, moment, Flush::First),
+        Some(part) => rt.finish_part(file, part, came.count(), moment, Flush::First),
         None => rt.write_over(file, came.pieces(), moment, Flush::First),
     }
 }
@@ -380,6 +402,7 @@ pub fn keep_part<R: LocalFiles + Eprint>(
         file,
         parts,
         moment: _,
+        targets: _,
     } = job.download;
     let came = downloading.came();
     let Some(part) = came.part() else {

@@ -8,6 +8,7 @@ mod parents;
 mod simple;
 mod single;
 mod target;
+mod targets;
 mod upload;
 
 pub use download::{
@@ -18,4 +19,5 @@ pub use parents::make_all;
 pub use simple::{Simple, do_simple, report};
 pub use single::{Single, Wish, ask_for};
 pub use target::Target;
+pub use targets::{Targets, source_of};
 pub use upload::{Loaded, TooLarge, load, put};

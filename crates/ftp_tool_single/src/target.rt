@@ -13,6 +13,8 @@ pub struct Target<'a> {
     pub openings: &'a Openings,
     /// For how many seconds the server may be silent; 0: without a limit.
     pub timeout: u32,
+    /// Until when all is to be done, in milliseconds of the system's monotonic clock; none: without a limit.
+    pub until: Option<u64>,
     /// Whether a transfer that takes more than a second is told of, each second at most.
     pub progress: bool,
     /// The most octets a second over a data connection; 0: without a limit.
@@ -30,9 +32,23 @@ impl<'a> Target<'a> {
             host: self.place.host,
             port: self.place.port,
             timeout: self.timeout,
+            until: self.until,
             progress: self.progress,
             rate: self.rate,
             at_once: self.at_once,
+        }
+    }
+
+    /// The same, of several that are asked one after another: all are to be done until the moment of the first, which is noted here.
+    pub fn within(self, until: &mut Option<u64>) -> Target<'a> {
+        let first = match *until {
+            Some(first) => Some(first),
+            None => self.until,
+        };
+        *until = first;
+        Target {
+            until: first,
+            ..self
         }
     }
 

@@ -1,10 +1,12 @@
 -- What follows a try of an upload (own choice: RFC 959, section 3.5, leaves the recovery of a transfer to the user). Sizes are those
 -- of SIZE, in type I (RFC 3659, section 4).
-use Rattle.std.specs.Prelude.{ℕ, ◌==◌, ◌&&◌, ◌||◌, Bool, true, false, not, nat_le, if◌then◌else◌}
+use Rattle.std.specs.Prelude.{ℕ, ◌-◌, ◌==◌, ◌&&◌, ◌||◌, Bool, true, false, not, nat_le, if◌then◌else◌}
 use Rattle.ftp_tool_status.specs.declared.step.There.{There}
 use Rattle.ftp_tool_status.specs.declared.step.There.TheVariants as Theres
 use Rattle.ftp_tool_status.specs.declared.step.Ended.{Ended}
 use Rattle.ftp_tool_status.specs.declared.step.Ended.TheVariants as Ends
+use Rattle.ftp_tool_status.specs.declared.step.Front.{Front}
+use Rattle.ftp_tool_status.specs.declared.step.Front.TheVariants as Fronts
 use Rattle.ftp_tool_status.specs.declared.step.Step.{Step}
 use Rattle.ftp_tool_status.specs.declared.step.Step.TheVariants as Steps
 use Rattle.ftp_tool_status.specs.declared.step.Transfer.{Transfer}
@@ -51,6 +53,16 @@ behind_unended t (Theres.Octets count) = if count == t.total then Steps.Done els
 behind_unended t Theres.Nothing = Steps.Tell
 behind_unended t Theres.Untold = Steps.Tell
 behind_unended t Theres.Lost = Steps.Tell
+
+-- of a front of so many octets the last 65,536 are read back, from this one on: it may be another's, of whatever size
+abbrev pub front_from : ℕ → ℕ
+front_from count = count - 65536
+
+-- where a try would go on behind so many octets, of which the last are these: behind the source's own alone
+abbrev pub behind_front : ℕ → Front → Step
+behind_front count Fronts.Own = Steps.From count
+behind_front count Fronts.Other = Steps.From 0
+behind_front count Fronts.Lost = Steps.Lost
 
 -- behind each, where this is there
 abbrev pub follows : Transfer → Ended → There → Step

@@ -1,8 +1,10 @@
 -- Which file a server has at a path, as far as it tells, and when what came of a download is of one file alone (own choice). Sizes are those of SIZE,
 -- in type I, and moments those of MDTM, in seconds from 1970 (RFC 3659, sections 3 and 4).
-use Rattle.std.specs.Prelude.{ℕ, ◌==◌, ◌&&◌, Bool, true, false, not, nat_le, nat_lt, Option, Some, None, if◌then◌else◌}
+use Rattle.std.specs.Prelude.{ℕ, ◌+◌, ◌==◌, ◌&&◌, Bool, true, false, not, nat_le, nat_lt, Option, Some, None, if◌then◌else◌}
 use Rattle.ftp_tool_status.specs.declared.version.Size.{Size}
 use Rattle.ftp_tool_status.specs.declared.version.Size.TheVariants as Sizes
+use Rattle.ftp_tool_status.specs.declared.version.LastChange.{LastChange}
+use Rattle.ftp_tool_status.specs.declared.version.LastChange.TheVariants as Changes
 use Rattle.ftp_tool_status.specs.declared.version.Version.{Version}
 use Rattle.ftp_tool_status.specs.declared.version.Arrival.{Arrival}
 use Rattle.ftp_tool_status.specs.declared.version.Arrival.TheVariants as Arrivals
@@ -22,13 +24,34 @@ abbrev pub size_told : Size → Option ℕ
 size_told (Sizes.Told total) = Some total
 size_told size = None
 
+-- a change behind the time at which the server was asked has another moment than this one: it was asked two seconds behind it, or later
+abbrev pub is_settled : (moment asked : ℕ) → Bool
+is_settled moment asked = nat_le (moment + 2) asked
+
+-- when a file was changed last of which this moment is told, where it was asked then
+abbrev pub last_change : Option ℕ → ℕ → LastChange
+last_change (Some moment) asked = if is_settled moment asked then Changes.Settled moment else Changes.Recent moment
+last_change None asked = Changes.Untold
+
+-- the moment, where the server tells it
+abbrev pub moment_told : LastChange → Option ℕ
+moment_told (Changes.Recent moment) = Some moment
+moment_told (Changes.Settled moment) = Some moment
+moment_told Changes.Untold = None
+
+-- the moment, where a later change has another one
+abbrev pub settled_moment : LastChange → Option ℕ
+settled_moment (Changes.Settled moment) = Some moment
+settled_moment (Changes.Recent moment) = None
+settled_moment Changes.Untold = None
+
 -- the server has the file of before, as far as it tells: its size and its moment are those of before
 abbrev pub stays : Version → Version → Bool
-stays before now = is_as_before (size_told before.size) (size_told now.size) && is_as_before before.moment now.moment
+stays before now = is_as_before (size_told before.size) (size_told now.size) && is_as_before (moment_told before.changed) (moment_told now.changed)
 
--- the file is seen to be the one of before: its size and its moment were told, and are told again
+-- the file is seen to be the one of before: its size and its moment were told, and are told again, and a change in between had another moment
 abbrev pub is_seen_again : Version → Version → Bool
-is_seen_again before now = is_told_again (size_told before.size) (size_told now.size) && is_told_again before.moment now.moment
+is_seen_again before now = is_told_again (size_told before.size) (size_told now.size) && is_told_again (settled_moment before.changed) (moment_told now.changed)
 
 -- so many octets are not more than the file has, where its size is told
 abbrev pub has_so_many : Option ℕ → ℕ → Bool

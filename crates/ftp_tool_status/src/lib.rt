@@ -12,6 +12,8 @@ mod version;
 pub use measure::{Measure, Unit, measured, unit_for};
 pub use pace::{Pace, Rest, Span, pace_of};
 pub use status::Status;
-pub use step::{Ended, Step, There, Transfer, follows};
+pub use step::{Ended, Front, Step, There, Transfer, behind_front, follows, front_from};
 pub use tries::follows_download;
-pub use version::{Arrival, Size, Version, arrived, is_too_large, resumes, stays};
+pub use version::{
+    Arrival, LastChange, Size, Version, arrived, is_too_large, last_change, resumes, stays,
+};

@@ -1,6 +1,6 @@
 // What follows a try of an upload, by values alone.
 ghost use Rattle.std.specs.Prelude.{◌≡◌};
-ghost use Rattle.ftp_tool_status.specs.Steps.{behind_broken, behind_done, behind_failed, behind_unended, follows, is_own};
+ghost use Rattle.ftp_tool_status.specs.Steps.{behind_broken, behind_done, behind_failed, behind_front, behind_unended, follows, front_from, is_own};
 
 /// What is there of a file: what a server tells by SIZE (RFC 3659, section 4), or what came to this end.
 #[derive(Clone, Copy)]
@@ -58,6 +58,38 @@ pub enum Step {
     Missing,
     /// All is asked anew over another control connection.
     Lost,
+}
+
+/// How many octets of a front are read back, and those before them not (own choice).
+const READ_BACK: u64 = 65_536;
+
+/// What the last octets are of the front that a server has of an upload, which are read back before the upload goes on behind it.
+#[derive(Clone, Copy)]
+pub enum Front {
+    /// The source's own at that place.
+    Own,
+    /// Others, or the server does not give them.
+    Other,
+    /// The control connection ended before they came.
+    Lost,
+}
+
+/// From which octet on a front of so many octets is read back.
+pub fn front_from(count: u64) -> u64
+    ensures { result ≡ front_from count }
+{
+    count.saturating_sub(READ_BACK)
+}
+
+/// What follows where a try would go on behind so many octets, of which the last are these: it goes on behind the source's own alone, and else begins anew.
+pub fn behind_front(count: u64, front: Front) -> Step
+    ensures { result ≡ behind_front count front }
+{
+    match front {
+        Front::Own => Step::From(count),
+        Front::Other => Step::From(0),
+        Front::Lost => Step::Lost,
+    }
 }
 
 /// What follows a try that ended so, where this is there then.

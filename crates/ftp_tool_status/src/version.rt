@@ -1,6 +1,9 @@
 // Which file a server has, and how a download of it stands, by values alone.
 ghost use Rattle.std.specs.Prelude.{◌≡◌};
-ghost use Rattle.ftp_tool_status.specs.Version.{arrived, has_so_many, is_as_before, is_seen_again, is_told_again, is_too_large, resumes, size_told, stays};
+ghost use Rattle.ftp_tool_status.specs.Version.{arrived, has_so_many, is_as_before, is_seen_again, is_settled, is_told_again, is_too_large, last_change, moment_told, resumes, settled_moment, size_told, stays};
+
+/// How many seconds behind a moment no other change of a file has the same moment: servers tell whole seconds, and some file systems even ones alone.
+const SETTLING: u64 = 2;
 
 /// What is known of the size of a file that is downloaded.
 #[derive(Clone, Copy)]
@@ -17,12 +20,21 @@ pub enum Size {
     Past,
 }
 
+/// When a file was changed last, in seconds from the beginning of 1970, as its server tells.
+#[derive(Clone, Copy)]
+pub enum LastChange {
+    Untold,
+    /// It was told at that moment, or so soon behind it that a later change may have the same one.
+    Recent(u64),
+    /// It was told so much later that a change behind that has another moment.
+    Settled(u64),
+}
+
 /// Which file a server has at a path, as far as it tells.
 #[derive(Clone, Copy)]
 pub struct Version {
     pub size: Size,
-    /// When it was changed last, in seconds from the beginning of 1970.
-    pub moment: Option<u64>,
+    pub changed: LastChange,
 }
 
 /// How a download stands that the server says is done.
@@ -42,8 +54,50 @@ pub enum Arrival {
     Past,
 }
 
+/// When a file was changed last of which a server tells this moment, where it was asked then: both in seconds from the beginning of 1970, the one by the
+/// clock of the server, the other by that of this machine.
+///
+/// A server does not tell what its clock shows. So it is assumed that its clock is not behind this one by more than the file's age: for a file that was
+/// changed an hour ago, by not more than an hour. A moment that lies ahead is recent. That a moment was set by hand, as by `cp -p`, nothing tells.
+pub fn last_change(moment: Option<u64>, asked: u64) -> LastChange
+    ensures { result ≡ last_change moment asked }
+{
+    match moment {
+        Some(moment) if is_settled(moment, asked) => LastChange::Settled(moment),
+        Some(moment) => LastChange::Recent(moment),
+        None => LastChange::Untold,
+    }
+}
+
+/// Whether a later change than one at this moment has another moment, if it comes behind the time at which the server was asked.
+fn is_settled(moment: u64, asked: u64) -> bool
+    ensures { result ≡ is_settled moment asked }
+{
+    moment <= asked && SETTLING <= asked - moment
+}
+
+/// The moment, where the server tells it.
+fn moment_told(changed: LastChange) -> Option<u64>
+    ensures { result ≡ moment_told changed }
+{
+    match changed {
+        LastChange::Recent(moment) | LastChange::Settled(moment) => Some(moment),
+        LastChange::Untold => None,
+    }
+}
+
+/// The moment, where a later change has another one.
+fn settled_moment(changed: LastChange) -> Option<u64>
+    ensures { result ≡ settled_moment changed }
+{
+    match changed {
+        LastChange::Settled(moment) => Some(moment),
+        LastChange::Untold | LastChange::Recent(_) => None,
+    }
+}
+
 /// Where a download goes on of which so many octets came of the file `before`, where the server has the file `now`: after them where it tells size and
-/// moment, and these are those of before; else it begins anew.
+/// moment, these are those of before, and a change since it was asked before had another moment; else it begins anew.
 pub fn resumes(before: Version, now: Version, came: u64) -> u64
     ensures { result ≡ resumes before now came }
 {
@@ -59,15 +113,15 @@ pub fn stays(before: Version, now: Version) -> bool
     ensures { result ≡ stays before now }
 {
     is_as_before(size_told(before.size), size_told(now.size))
-        && is_as_before(before.moment, now.moment)
+        && is_as_before(moment_told(before.changed), moment_told(now.changed))
 }
 
-/// Whether size and moment were told, and are told again.
+/// Whether size and moment were told, so long behind the moment that a later change had another one, and are told again.
 fn is_seen_again(before: Version, now: Version) -> bool
     ensures { result ≡ is_seen_again before now }
 {
     is_told_again(size_told(before.size), size_told(now.size))
-        && is_told_again(before.moment, now.moment)
+        && is_told_again(settled_moment(before.changed), moment_told(now.changed))
 }
 
 /// Whether a file of this size has so many octets.

@@ -10,11 +10,12 @@ use ftp_client_steps::MOST_TRIES;
 use ftp_facts::{Moment, Text};
 use ftp_operation::{Answer, How, Op};
 use ftp_tool_asking::{
-    ClientSession, Ending, Openings, Poured, Request, SessionFault, SessionTask, Terms, say,
+    ClientSession, Ending, Openings, Poured, Request, SessionFault, SessionTask, Terms, Ticket, say,
 };
 use ftp_tool_local::{LocalFiles, OpenPart};
 use ftp_tool_status::{
-    Arrival, Ended, Size, Step, Version, arrived, follows_download, is_too_large, resumes,
+    Arrival, Ended, LastChange, Size, Step, Version, arrived, follows_download, is_too_large,
+    last_change, resumes,
 };
 use std::alloc::{AllocError, Global};
 use std::cell::Cell;
@@ -66,9 +67,11 @@ pub struct Downloading<'a, R> {
     /// What the server told last of the file.
     size: Size,
     stamp: Stamp,
+    /// When it was asked for that, or before that, in seconds from the beginning of 1970, by this machine's clock.
+    asked_at: u64,
     sight: Sight,
-    /// Whether all of the file was asked for ahead.
-    is_ahead: bool,
+    /// By which its first try is answered, where all of the file was asked for ahead.
+    ahead: Option<Ticket>,
 }
 
 /// By hand: a derived drop is proved again, part by part, wherever a download is let go.
@@ -88,8 +91,9 @@ impl<'a, R> Drop for Downloading<'a, R> {
             begun: _,
             size: _,
             stamp: _,
+            asked_at: _,
             sight: _,
-            is_ahead: _,
+            ahead: _,
         } = self;
     }
 }
@@ -121,11 +125,15 @@ impl<'a, R: LocalFiles + Eprint> Downloading<'a, R> {
             came: Came::new(alloc),
             noting: None,
             left: MOST_TRIES,
-            begun: Version { size, moment: None },
+            begun: Version {
+                size,
+                changed: LastChange::Untold,
+            },
             size,
             stamp: Stamp::Unasked,
+            asked_at: 0,
             sight: Sight::Asked,
-            is_ahead: false,
+            ahead: None,
         })
     }
 
@@ -146,15 +154,18 @@ impl<'a, R: LocalFiles + Eprint> Downloading<'a, R> {
         self.came = Came::into_part(self.alloc, part, 0);
     }
 
-    /// The same, where the part has octets of a file of this size that was changed last at this moment, as its note says: the download goes on behind them
-    /// where the server has that file still, and else begins anew. Without a moment, and in settings in which octets are not counted, it begins anew.
+    /// The same, where the part has octets of a file of this size that was changed last at this moment, as its note says, which is none of a recent
+    /// moment: the download goes on behind them where the server has that file still, and else begins anew. Without a moment, and in settings in which octets are not counted, it begins anew.
     pub fn go_on_in(&mut self, part: OpenPart, count: u64, total: u64, moment: Option<Moment>) {
         self.came = Came::into_part(self.alloc, part, count);
         match moment {
             Some(moment) if is_counted(self.how) => {
                 self.size = Size::Told(total);
                 self.stamp = Stamp::Told(moment);
-                self.begun = self.version();
+                self.begun = Version {
+                    size: self.size,
+                    changed: LastChange::Settled(moment.seconds),
+                };
             }
             _ => self.came.cut(0),
         }
@@ -166,10 +177,11 @@ impl<'a, R: LocalFiles + Eprint> Downloading<'a, R> {
         Ok(())
     }
 
-    /// The server has just listed the file with this size and this moment: the first try asks for neither. Where the listing lacks one of them, both
-    /// are asked for, and `expect` is not called.
-    pub fn expect(&mut self, total: u64, moment: Moment) {
+    /// The server listed the file with this size and this moment, and was asked for that at this second or later: the first try asks for neither. Where the
+    /// listing lacks one of them, both are asked for, and `expect` is not called.
+    pub fn expect(&mut self, total: u64, moment: Moment, asked_at: u64) {
         if is_counted(self.how) {
+            self.asked_at = asked_at;
             self.size = Size::Told(total);
             self.stamp = Stamp::Told(moment);
             self.begun = self.version();
@@ -214,7 +226,7 @@ impl<'a, R: LocalFiles + Eprint> Downloading<'a, R> {
     fn version(&self) -> Version {
         Version {
             size: self.size,
-            moment: self.moment().map(|moment| moment.seconds),
+            changed: last_change(self.moment().map(|moment| moment.seconds), self.asked_at),
         }
     }
 
@@ -273,6 +285,9 @@ impl<'a, R: LocalFiles + Eprint> Downloading<'a, R> {
 
     /// Asks which file the server has: for its size and its moment. Says whether anything more is answered over this control connection.
     fn look<S: ClientSession>(&mut self, seat: &mut S) -> bool {
+        if !self.is_ahead() {
+            self.asked_at = self.rt.present();
+        }
         self.look_at_size(seat) && self.look_at_moment(seat)
     }
 
@@ -325,6 +340,7 @@ impl<'a, R: LocalFiles + Eprint> Downloading<'a, R> {
     fn turn<S: ClientSession>(&mut self, seat: &mut S) -> Turn {
         let opened = seat.opened();
         let before = self.came.count();
+        let was_ahead = self.is_ahead();
         self.left = self.left.saturating_sub(1);
         self.note();
         let Ok(asked) = self.asked(seat) else {
@@ -339,6 +355,9 @@ impl<'a, R: LocalFiles + Eprint> Downloading<'a, R> {
             drop(answer);
             self.size = Size::Past;
             return Turn::Over(Answer::Done);
+        }
+        if !was_ahead {
+            self.asked_at = self.rt.present();
         }
         let step = self.step_behind(seat, &answer, seat.opened() > opened);
         self.follow(answer, step)

@@ -1,6 +1,6 @@
 // The note beside the part of a download, as octets come.
 use ftp_tool_local::{GROWING, LocalFiles, Note, OpenPart, note_of};
-use ftp_tool_status::{Size, Version};
+use ftp_tool_status::{LastChange, Size, Version};
 use std::alloc::{AllocError, Global};
 use std::io;
 
@@ -54,7 +54,8 @@ impl Noting {
         Ok(())
     }
 
-    /// Writes the note of a part that has so many octets, where the server told the size and the moment of the file that they are of; says whether it did.
+    /// Writes the note of a part that has so many octets, where the server told the size and the moment of the file that they are of, and the moment is
+    /// not recent; says whether it did.
     pub(crate) fn write<R: LocalFiles>(
         &self,
         rt: &R,
@@ -65,7 +66,7 @@ impl Noting {
     ) -> io::Result<bool> {
         let Version {
             size: Size::Told(size),
-            moment: Some(moment),
+            changed: LastChange::Settled(moment),
         } = begun
         else {
             return Ok(false);

@@ -3,7 +3,7 @@ use crate::trying::{is_counted, size_request};
 use ftp_client_stream::{Drawing, Inlet};
 use ftp_facts::Text;
 use ftp_operation::{How, Op};
-use ftp_tool_asking::{ClientSession, Openings, Request};
+use ftp_tool_asking::{ClientSession, Openings, Request, Ticket};
 use ftp_tool_local::{LocalFiles, OpenSource};
 use ftp_tool_status::Span;
 use std::alloc::Global;
@@ -28,8 +28,9 @@ pub struct Sending<'a> {
 
 impl<'a> Sending<'a> {
     /// Asks ahead of its turn what the first try of an upload (`Uploading`) asks behind the size of what stands there, where a control connection is free for
-    /// that: that all octets of the file go, and then their size. Nothing is asked where the file has changed. Says whether it was asked.
-    pub fn foresee<R, S>(&self, rt: &R, alloc: Global, seat: &mut S) -> io::Result<bool>
+    /// that: that all octets of the file go, and then their size. Nothing is asked where the file has changed. Gives by which
+    /// ticket its upload is answered (`Uploading::go_by`), where it was asked.
+    pub fn foresee<R, S>(&self, rt: &R, alloc: Global, seat: &mut S) -> io::Result<Option<Ticket>>
     where
         R: LocalFiles,
         S: ClientSession,
@@ -40,16 +41,15 @@ impl<'a> Sending<'a> {
             None => false,
         };
         if !is_taken {
-            return Ok(false);
+            return Ok(None);
         }
         let Some(opened) = self.opened(rt)? else {
-            return Ok(false);
+            return Ok(None);
         };
         let start = if self.how.marks { Some(0) } else { None };
         let inlet = Inlet::new(opened.opened, self.total);
         let drawing = Drawing::new(self.how.representation, start, inlet, alloc)?;
-        seat.foresee_carried(row, drawing);
-        Ok(true)
+        Ok(seat.foresee_carried(row, drawing))
     }
 
     /// The file, open at its first octet, where it is as it was.

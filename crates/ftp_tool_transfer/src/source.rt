@@ -5,7 +5,7 @@ use ftp_tool_local::{LocalFiles, OpenSource};
 use std::alloc::Global;
 use std::fs::File;
 use std::io;
-use std::io::{Error, ErrorKind};
+use std::io::{Error, ErrorKind, Read};
 use std::time::SystemTime;
 
 /// What a data connection of an upload carries: octets of a file, as they are read.
@@ -84,6 +84,43 @@ impl<'a> Source<'a> {
         }
     }
 
+    /// Those from one place to another. Fails where the file has changed since it was opened first.
+    pub(crate) fn piece<R: LocalFiles>(
+        &self,
+        rt: &R,
+        alloc: Global,
+        (from, to): (u64, u64),
+    ) -> io::Result<Vec<u8, Global>> {
+        match self {
+            Source::File(file) => {
+                let mut opened = file.open_again(rt, from)?;
+                read_piece(alloc, &mut opened.opened, to.saturating_sub(from))
+            }
+            Source::Kept(octets) => {
+                let (front, _) = octets.split_at(octets.len().min(to as usize));
+                let (_, piece) = front.split_at(front.len().min(from as usize));
+                Ok(Vec::from_slice(alloc, piece)?)
+            }
+        }
+    }
+
+    /// Why what a data connection carried is not the file as it was opened first: it could not be read, or it has changed by the last octet where all is said
+    /// to be done; none where it is.
+    pub(crate) fn fault(&self, home: Option<Drawn>, is_done: bool) -> Option<Error> {
+        let Some(drawing) = home else {
+            return Some(Error::from(ErrorKind::NotConnected));
+        };
+        let inlet = drawing.into_source();
+        let fault = inlet.fault();
+        if fault.is_some() || !is_done {
+            return fault;
+        }
+        match self {
+            Source::File(file) => file.check(inlet.reader()).err(),
+            Source::Kept(_) => None,
+        }
+    }
+
     /// A copy of those that stay here, from one of them on; none of a file.
     pub(crate) fn copy_from(&self, alloc: Global, from: u64) -> io::Result<Vec<u8, Global>> {
         match self {
@@ -121,17 +158,31 @@ impl<'a> FileSource<'a> {
                 return Ok(opened);
             }
         }
-        Err(Error::new(
-            ErrorKind::InvalidData,
-            "it has changed since the upload began",
-        ))
+        Err(changed())
+    }
+
+    /// Fails where a file, which was read, has another size or moment than this one had when it was opened first.
+    fn check(&self, read: &File) -> io::Result<()> {
+        let found = read.metadata()?;
+        if found.len() == self.total && found.modified().ok() == self.changed {
+            Ok(())
+        } else {
+            Err(changed())
+        }
     }
 }
 
-/// Why a file could not be read that a data connection carried, if it could not.
-pub(crate) fn unread(home: Option<Drawn>) -> Option<Error> {
-    match home {
-        Some(drawing) => drawing.into_source().fault(),
-        None => Some(Error::from(ErrorKind::NotConnected)),
-    }
+/// By what a file is refused that is not as it was when it was opened first.
+fn changed() -> Error {
+    Error::new(
+        ErrorKind::InvalidData,
+        "it has changed since the upload began",
+    )
+}
+
+/// So many octets that a reader gives next; fewer where it ends before.
+fn read_piece<F: Read>(alloc: Global, reader: &mut F, count: u64) -> io::Result<Vec<u8, Global>> {
+    let mut octets = Vec::new(alloc);
+    let _count = reader.take(count).read_to_end(&mut octets)?;
+    Ok(octets)
 }

@@ -1,5 +1,7 @@
 // What uploads and downloads that go on have in common.
 ghost use Rattle.std.specs.Prelude.{◌≡◌};
+ghost use Rattle.ftp_operation.specs.declared.answer.Answer.{Answer};
+ghost use Rattle.ftp_tool_status.specs.declared.step.Front.{Front};
 ghost use Rattle.ftp_tool_transfer.specs.Trying.{ended_by, there_by};
 
 use ftp_facts::Text;
@@ -7,7 +9,7 @@ use ftp_operation::{Answer, How, Op};
 use ftp_reply::code::{GIVEN_UP, UNAVAILABLE};
 use ftp_settings::{Kind, Structure};
 use ftp_tool_asking::Request;
-use ftp_tool_status::{Ended, There};
+use ftp_tool_status::{Ended, Front, There};
 use std::alloc::{AllocError, Global};
 
 /// Whether SIZE counts the octets of the transfer: in type I and file structure.
@@ -52,5 +54,22 @@ pub(crate) fn there_of(answer: &Answer<Global>) -> There
         Answer::Refused(UNAVAILABLE) => There::Nothing,
         Answer::Lost | Answer::Strange => There::Lost,
         _ => There::Untold,
+    }
+}
+
+/// What was read back of the end of a front, beside the source's own octets at that place.
+pub(crate) fn front_of(answer: &Answer<Global>, own: &[u8]) -> Front
+    ensures { result ≡ Front.Own → answer.now ≡ Answer.Octets own.now }
+{
+    match answer {
+        Answer::Octets(octets) => {
+            if octets.as_slice() == own {
+                Front::Own
+            } else {
+                Front::Other
+            }
+        }
+        Answer::Lost | Answer::Strange => Front::Lost,
+        _ => Front::Other,
     }
 }

@@ -1,16 +1,19 @@
 // An upload, which goes on where the server has it: over breaks, and where a 226 came and not all is there.
-use crate::source::{Source, unread};
+use crate::source::{Drawn, Source};
 use crate::telling::{Had, Part, tell};
-use crate::trying::{ended_of, is_counted, size_request, there_of};
+use crate::trying::{ended_of, front_of, is_counted, size_request, there_of};
 use ftp_client_steps::MOST_TRIES;
 use ftp_facts::Text;
 use ftp_operation::{Answer, How, Op};
 use ftp_reply::code::UNAVAILABLE;
 use ftp_tool_asking::{
-    ClientSession, LastReply, Openings, Phase, Request, SessionFault, SessionTask, at, say, told,
+    ClientSession, Ending, LastReply, Openings, Phase, Request, SessionFault, SessionTask, Terms,
+    Ticket, at, say, told,
 };
 use ftp_tool_local::LocalFiles;
-use ftp_tool_status::{Ended, Span, Status, Step, There, Transfer, follows};
+use ftp_tool_status::{
+    Ended, Front, Span, Status, Step, There, Transfer, behind_front, follows, front_from,
+};
 use std::alloc::{AllocError, Global};
 use std::cell::Cell;
 use std::io;
@@ -19,7 +22,7 @@ use std::io::Eprint;
 /// What stands for the octets of a file in an operation of which others go: some, so that their end is awaited.
 const STAND_IN: &[u8] = b"-";
 
-/// An upload, until the server answers to it.
+/// An upload, until the server answers to it. It goes on behind what the server has only where the end of that is read back, and is the source's own.
 pub struct Uploading<'a, R> {
     rt: &'a R,
     alloc: Global,
@@ -34,6 +37,10 @@ pub struct Uploading<'a, R> {
     is_blind: bool,
     /// What the server has, where it says that all is done and that is not the file.
     wrong: Option<Wrong>,
+    /// By which its first try is answered, where that was asked ahead.
+    ahead: Option<Ticket>,
+    /// How many data connections brought fronts back that the server has.
+    looks: u32,
 }
 
 /// By hand: a derived drop is proved again, part by part, wherever an upload is let go.
@@ -50,6 +57,8 @@ impl<'a, R> Drop for Uploading<'a, R> {
             upload: _,
             is_blind: _,
             wrong: _,
+            ahead: _,
+            looks: _,
         } = self;
     }
 }
@@ -79,6 +88,8 @@ impl<'a, R: LocalFiles + Eprint> Uploading<'a, R> {
             openings,
             is_blind: false,
             wrong: None,
+            ahead: None,
+            looks: 0,
         }
     }
 
@@ -95,6 +106,11 @@ impl<'a, R: LocalFiles + Eprint> Uploading<'a, R> {
     /// That is so, of an upload before this one.
     pub fn blind(&mut self) {
         self.is_blind = true;
+    }
+
+    /// Its first try was asked ahead over these control connections, and is answered by this ticket; none: it was not.
+    pub fn go_by(&mut self, ahead: Option<Ticket>) {
+        self.ahead = ahead;
     }
 
     /// What the server has of an upload that it says is done, where that is not the file.
@@ -150,7 +166,51 @@ impl<'a, R: LocalFiles + Eprint> Uploading<'a, R> {
         self.upload.left = self.upload.left.saturating_sub(1);
         let answer = self.asked(seat, from)?;
         let step = self.step_behind(seat, &answer, seat.opened() > opened);
+        let step = self.step_seen(seat, step)?;
         Ok(self.follow(answer, step, from))
+    }
+
+    /// The same step; one that goes on behind what the server has, once that is read back.
+    fn step_seen<S: ClientSession>(&mut self, seat: &mut S, step: Step) -> io::Result<Step> {
+        let Step::From(count) = step else {
+            return Ok(step);
+        };
+        if count == 0 {
+            return Ok(step);
+        }
+        Ok(behind_front(count, self.front(seat, count)?))
+    }
+
+    /// What the last octets are of the front that the server has, of so many.
+    fn front<S: ClientSession>(&mut self, seat: &mut S, count: u64) -> io::Result<Front> {
+        let start = front_from(count);
+        let own = self.source.piece(self.rt, self.alloc, (start, count))?;
+        let opened = seat.opened();
+        let answer = seat.answer(self.front_request(start, count)?);
+        self.looks = self
+            .looks
+            .saturating_add(seat.opened().saturating_sub(opened));
+        let front = front_of(&answer, own.as_slice());
+        drop(answer);
+        Ok(match seat.ending() {
+            Ending::PastLimit => Front::Other,
+            Ending::Answered | Ending::Unended => front,
+        })
+    }
+
+    /// What reads the front back that the server has, from one octet to another (RFC 3659, section 5).
+    fn front_request(&self, start: u64, count: u64) -> io::Result<Request> {
+        let path = self.path()?;
+        let how = self.openings.how(self.how);
+        let op = match start {
+            0 => Op::Get(path, how),
+            start => Op::GetFrom(path, start, how),
+        };
+        let terms = Terms {
+            most: count.saturating_sub(start),
+            total: Some(count),
+        };
+        Ok(Request::Download(Some(op), terms))
     }
 
     /// What the server answers to a try; where it does not know how its data connection is asked for, to the same asked for otherwise.
@@ -181,14 +241,29 @@ impl<'a, R: LocalFiles + Eprint> Uploading<'a, R> {
         };
         let request = Request::Drawn(Some(self.operation(from, stand_in)?), span);
         let home = Cell::new(Some(drawing));
-        let answer = seat.answer_carried(request, &home);
-        match unread(home.into_inner()) {
+        let answer = match self.answered_ahead(seat, &request, &home) {
+            Some(answer) => answer,
+            None => seat.answer_carried(request, &home),
+        };
+        let is_done = matches!(&answer, Answer::Done);
+        match self.source.fault(home.into_inner(), is_done) {
             None => Ok(answer),
             Some(error) => {
                 drop(answer);
                 Err(error)
             }
         }
+    }
+
+    /// What is answered to a first try that was asked ahead, if that is given; then what went is in the cell.
+    fn answered_ahead<S: ClientSession>(
+        &mut self,
+        seat: &mut S,
+        request: &Request,
+        home: &Cell<Option<Drawn>>,
+    ) -> Option<Answer<Global>> {
+        let ticket = self.ahead.take()?;
+        seat.answer_ahead(ticket, request, home)
     }
 
     /// What is asked for a try.
@@ -273,7 +348,7 @@ impl<'a, R: LocalFiles + Eprint> Uploading<'a, R> {
     /// Tells how many tries the upload took, or why it is not done, and gives the exit status.
     pub fn finish(&self, answer: &Answer<Global>, noticed: &LastReply) -> io::Result<Status> {
         match (answer, self.wrong) {
-            (Answer::Done, None) => self.tell_tries(noticed.opened()),
+            (Answer::Done, None) => self.tell_tries(noticed.opened().saturating_sub(self.looks)),
             (Answer::Done, Some(Wrong::Octets(count))) => self.tell_wrong(count),
             (Answer::Done, Some(Wrong::Nothing)) => self.tell_missing(noticed),
             _ => {

@@ -5,19 +5,22 @@ ghost use Rattle.ftp_tool_transfer.specs.Ahead.{is_foreseen};
 use crate::downloading::{Downloading, Sight, Stamp};
 use crate::trying::{moment_request, size_request};
 use ftp_operation::Answer;
-use ftp_tool_asking::{ClientSession, Request};
+use ftp_tool_asking::{ClientSession, Request, Ticket};
 use ftp_tool_local::LocalFiles;
 use ftp_tool_status::Size;
 use std::alloc::{AllocError, Global};
 use std::cell::Cell;
 use std::io::Eprint;
-use std::mem;
 
 impl<'a, R: LocalFiles + Eprint> Downloading<'a, R> {
     /// Asks ahead of its turn what its first try asks, where a control connection is free for that: which file the server has, all of it, and again which file
     /// the server has. What comes goes to the part as it comes; where there is none, or something came before, nothing is asked.
     pub fn foresee<S: ClientSession>(&mut self, seat: &mut S) {
-        if !is_foreseen(self.is_ahead, self.came.part().is_some(), self.came.count()) {
+        if !is_foreseen(
+            self.is_ahead(),
+            self.came.part().is_some(),
+            self.came.count(),
+        ) {
             return;
         }
         if let Ok(row) = self.row() {
@@ -34,19 +37,19 @@ impl<'a, R: LocalFiles + Eprint> Downloading<'a, R> {
             return;
         }
         if let Ok(Some(pouring)) = self.came.pouring(self.how.representation) {
-            seat.foresee_carried(row, pouring);
-            self.is_ahead = true;
+            self.asked_at = self.rt.present();
+            self.ahead = seat.foresee_carried(row, pouring);
         }
     }
 
     /// Whether it was asked ahead, and its turn did not come yet.
     pub fn is_ahead(&self) -> bool {
-        self.is_ahead
+        self.ahead.is_some()
     }
 
     /// The control connections over which it was asked ahead are gone: what came over them is left.
     pub fn forget_ahead(&mut self) {
-        if mem::replace(&mut self.is_ahead, false) {
+        if self.ahead.take().is_some() {
             self.came.cut(0);
         }
     }
@@ -79,13 +82,11 @@ impl<'a, R: LocalFiles + Eprint> Downloading<'a, R> {
         seat: &mut S,
         request: &Request,
     ) -> Option<Answer<Global>> {
-        if !self.is_ahead {
-            return None;
-        }
+        let ticket = self.ahead?;
         let home = Cell::new(None);
-        match seat.answer_ahead(request, &home) {
+        match seat.answer_ahead(ticket, request, &home) {
             Some(answer) => {
-                self.is_ahead = false;
+                self.ahead = None;
                 self.take_poured(home, &answer);
                 Some(answer)
             }

@@ -1,0 +1,2 @@
+-- The exit status of `run`.
+pub mod Running
