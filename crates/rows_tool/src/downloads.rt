@@ -21,6 +21,9 @@ const FILE: &str = "came";
 /// How many octets the file had.
 const TOTAL: u64 = 10;
 
+/// When the server was asked for a listing, in seconds from the beginning of 1970.
+const LISTED: u64 = 1_000;
+
 /// What is known of the file before.
 #[derive(Clone, Copy)]
 pub(crate) enum Known {
@@ -55,7 +58,7 @@ fn tell(
         }
         (Known::Listed, Some(moment)) => {
             downloading.pour_into(part);
-            downloading.expect(TOTAL, moment);
+            downloading.expect(TOTAL, moment, LISTED);
         }
         _ => downloading.pour_into(part),
     }
@@ -72,7 +75,7 @@ pub(crate) fn put(
     let openings = Openings::new(row.opening);
     let mut downloading = Downloading::new(rt, rt.alloc(), "a", row.how, &openings)?;
     downloading.put_terms(LIMIT, stamp_of(known));
-    let Some(part) = rt.begin_part(FILE, false)? else {
+    let Some(part) = rt.begin_part(FILE, false, &[])? else {
         return Err(Error::from(ErrorKind::InvalidInput));
     };
     tell(&mut downloading, known, part)?;

@@ -1,11 +1,11 @@
-// A handle whose standard input has a text, and at whose ports clients may wait already.
+// A handle whose standard input has a text, at whose ports clients may wait already, and which may connect to a server that said all its replies.
 use std::alloc::{Allocator, Global};
 use std::cell::RefCell;
 use std::fmt::Display;
 use std::fs::{Files, Metadata, OpenOptions, Permissions};
 use std::io;
 use std::io::{BufRead, Eprint, Lines, Print, Write};
-use std::net::{Net, SocketAddr, TcpListener, TcpStream};
+use std::net::{Net, Shutdown, SocketAddr, TcpListener, TcpStream};
 use std::time::{Clock, Duration};
 
 /// What a client sends over each data connection that it opens.
@@ -71,7 +71,48 @@ impl<'a> Company<'a> {
     }
 }
 
-/// Who connects to a port as soon as it is listened at.
+/// A server at the control connection that is opened, which says all its replies at once.
+#[derive(Drop)]
+pub(crate) struct Answering<'a> {
+    /// What it says behind a greeting of 1,024 octets, so that it is read by another read.
+    pub(crate) says: &'a [u8],
+    /// What becomes of its end then.
+    pub(crate) then: Then,
+    /// Its end, where that stays.
+    pub(crate) end: RefCell<Option<TcpStream>>,
+}
+
+/// What becomes of the end of a server that said all its replies.
+#[derive(Clone, Copy)]
+pub(crate) enum Then {
+    /// It ends in order, and still takes what comes.
+    Ended,
+    /// It is gone: what comes finds a reset.
+    Gone,
+}
+
+impl<'a> Answering<'a> {
+    /// A control connection to it, at a port of this address that the system chooses.
+    fn meet(&self, rt: &HostRuntime, addr: SocketAddr) -> io::Result<TcpStream> {
+        let listener = rt.bind(SocketAddr::new(addr.ip(), 0))?;
+        let client = rt.connect(listener.local_addr()?)?;
+        let (mut end, _) = listener.accept()?;
+        end.write_all(b"220 ")?;
+        end.write_all(&[b'a'; 1_018])?;
+        end.write_all(b"\r\n")?;
+        end.write_all(self.says)?;
+        match self.then {
+            Then::Ended => {
+                end.shutdown(Shutdown::Write)?;
+                drop(self.end.try_replace(Some(end)));
+            }
+            Then::Gone => drop(end),
+        }
+        Ok(client)
+    }
+}
+
+/// Who connects to a port as soon as it is listened at, or who is there where one is connected to.
 #[derive(Clone, Copy)]
 enum Meets<'a> {
     Nobody,
@@ -79,6 +120,7 @@ enum Meets<'a> {
     Sender,
     Guests(&'a Guests<'a>),
     Company(&'a Company<'a>),
+    Answering(&'a Answering<'a>),
 }
 
 /// Gives what another handle gives.
@@ -105,6 +147,19 @@ impl<'a> Handle<'a> {
             rt,
             text: b"",
             meets: Meets::Sender,
+        }
+    }
+
+    /// A handle whose standard input has this text, and which connects to this server.
+    pub(crate) fn asking(
+        rt: &'a HostRuntime,
+        text: &'a [u8],
+        server: &'a Answering<'a>,
+    ) -> Handle<'a> {
+        Handle {
+            rt,
+            text,
+            meets: Meets::Answering(server),
         }
     }
 
@@ -152,7 +207,7 @@ impl<'a> Net for Handle<'a> {
         let listener = self.rt.bind(addr)?;
         let port = listener.local_addr()?;
         match self.meets {
-            Meets::Nobody => {}
+            Meets::Nobody | Meets::Answering(_) => {}
             Meets::Sender => self.rt.connect(port)?.write_all(SENT.as_bytes())?,
             Meets::Guests(guests) => guests.come(self.rt, port)?,
             Meets::Company(company) => company.come(self.rt, port)?,
@@ -161,7 +216,10 @@ impl<'a> Net for Handle<'a> {
     }
 
     fn connect(&self, addr: SocketAddr) -> io::Result<TcpStream> {
-        self.rt.connect(addr)
+        match self.meets {
+            Meets::Answering(server) => server.meet(self.rt, addr),
+            _ => self.rt.connect(addr),
+        }
     }
 }
 

@@ -1,7 +1,8 @@
 //! For tests alone: what `serve` answers where nobody is served, or a folder, a file of accounts, an address or a port is refused, and sessions
 //! over the loopback; which places texts say, and what `run`, `get`, `put` and `ls` answer where nobody listens, or where nothing can be asked; what
 //! uploads and downloads ask of a server that answers so; scripts as `pair` and as `loop` play them; and rows of events in a world (RFC 959; RFC 3659).
-//! Before them the rows of the crates below, since what stands above an end costs more to prove and to build than its rows.
+//! Before them a script that both ends play in turns, and the rows of the crates below, since what stands above an end costs more to prove and to build
+//! than its rows.
 #![tactic(auto)]
 
 mod downloads;
@@ -20,6 +21,7 @@ mod several;
 mod soak;
 mod statuses;
 mod tries;
+mod turns;
 mod uploads;
 mod worlds;
 
@@ -73,8 +75,10 @@ const FILES: &[(&str, Rows)] = &[
     ("worlds", Rows::Worlds),
 ];
 
-/// Writes the rows of the crates below, and those of events.
+/// Writes the script of turns, the rows of the crates below, and those of events.
 fn others(rt: &HostRuntime) -> io::Result<()> {
+    let script = fs::read(rt, "turns")?;
+    turns::play(rt, rt.alloc(), script.as_slice())?;
     for (file, rows) in FILES {
         let script = fs::read(rt, *file)?;
         write(rt, &play_all(rt.alloc(), *rows, script.as_slice()))?;

@@ -1,6 +1,4 @@
-//! For tests alone: a script of operations, each asked by `ask` of `ftp_pair_turns`, at most so many octets a turn.
-#![tactic(auto)]
-
+// A script of operations, each asked by `ask` of `ftp_pair_turns`, at most so many octets a turn (RFC 959).
 use ftp_client::Client;
 use ftp_client_model::Near;
 use ftp_client_steps::ClientTransfer;
@@ -71,7 +69,7 @@ where
 }
 
 /// Asks for all of them, one after another.
-fn play<R, N, F>(
+fn ask_all<R, N, F>(
     (rt, alloc): (&R, Global),
     client: N,
     server: F,
@@ -133,7 +131,7 @@ where
 {
     let Script { login, orders } = script;
     match client_of::<C>(alloc, login) {
-        Some(client) => play((rt, alloc), client, server, orders),
+        Some(client) => ask_all((rt, alloc), client, server, orders),
         None => Ok(()),
     }
 }
@@ -155,16 +153,17 @@ where
     }
 }
 
-fn main(rt: HostRuntime) -> io::Result<()> {
-    let alloc = rt.alloc();
-    let Ok(script) = read_script(alloc, &mut rt.reader()) else {
+/// Plays a script by both ends in turns over a tree in memory, and writes the reports.
+pub fn play<R: Print>(rt: &R, alloc: Global, script: &[u8]) -> io::Result<()> {
+    let mut text = script;
+    let Ok(script) = read_script(alloc, &mut text) else {
         return println!(rt; "no script");
     };
     let Ok(accounts) = two_accounts(alloc) else {
-        return Ok(());
+        return println!(rt; "no accounts");
     };
-    play_by::<HostRuntime, OperationTransfer<Global>, TreeTransfer<Global, MemTree<Global>>>(
-        (&rt, alloc),
+    play_by::<R, OperationTransfer<Global>, TreeTransfer<Global, MemTree<Global>>>(
+        (rt, alloc),
         script,
         accounts,
     )
