@@ -72,17 +72,16 @@ def try_pattern(rows, lanes):
 
 
 def try_put(rows, lanes, rule=lambda number, place, line: None, name="by"):
-    """Files up, with one amid that is not there, and two of one name, of which the later one stays."""
+    """Files up, with one amid that is not there."""
     served, local = (rows.folder / it for it in ("served", "local"))
     fresh(served, local)
-    fill(local, {**FILES, "d/f03.csv": b"later"})
+    fill(local, FILES)
     (served / "in").mkdir()
     server = OwnServer(served)
     gate = Gate(server.port, rule)
-    words = [f"local/{it}" for it in AMID] + ["local/d/f03.csv"]
+    words = [f"local/{it}" for it in AMID]
     status, out, told = rows.tool("put", *words, f"127.0.0.1:{gate.port}/in/", "--parallel", str(lanes), "--timeout", "4")
-    wanted = {**FILES, "f03.csv": b"later"}
-    rows.row(f"put, {name} {lanes}: the files", tree_at(served / "in") == wanted, (status, told, sorted(tree_at(served / "in"))))
+    rows.row(f"put, {name} {lanes}: the files", tree_at(served / "in") == FILES, (status, told, sorted(tree_at(served / "in"))))
     errors = lines_of(told)
     rows.row(f"put, {name} {lanes}: what is told", (status, out, len(errors)) == (3, b"", 1) and b"note: not copied: local/none.csv\n" in told, (status, told))
     gate.close()
@@ -205,10 +204,12 @@ def try_changes(rows):
 
 
 def try_cuts(rows):
-    """Data connections are cut cleanly amid files that come at once: each goes on behind what came."""
+    """Data connections are cut cleanly amid files that come at once: each goes on behind what came, since none was changed just now."""
     served, many = (rows.folder / it for it in ("served", "many"))
     fresh(served, many)
     fill(served, FILES)
+    for name in FILES:
+        os.utime(served / name, (1_577_836_800, 1_577_836_800))
     server = OwnServer(served)
     relay = Relay(server.port, {2: 1_000, 5: 3_000, 6: 1})
     status, _, told = got(rows, relay.port, NAMES, "many", "--parallel", "4")

@@ -307,7 +307,11 @@ def standard_input(rows):
         drop(link, "RST")
         session.reply("226 done")
 
-    server = FakeServer({"SIZE": lambda session, _: session.reply(f"213 {len(there)}" if there else "550 no"), "STOR": part})
+    def back(session, _):
+        offset, session.offset = session.offset, 0
+        session.send(bytes(there[offset:]))
+
+    server = FakeServer({"SIZE": lambda session, _: session.reply(f"213 {len(there)}" if there else "550 no"), "STOR": part, "RETR": back})
     status, _, told = rows.tool_in(rows.folder, WHOLE, "put", "-", f"127.0.0.1:{server.port}/f")
     rows.row("put - goes on behind a break", (status, bytes(there)) == (0, WHOLE) and b"going on" in told, (status, len(there), told))
 

@@ -1,6 +1,6 @@
 #!/usr/bin/env python3
-"""What a server hears of the place and the user that words, URLs, the environment and a `.netrc` name; and which URLs are refused, with 2 and a sentence,
-before anything is said to a server.
+"""What a server hears of the place and the user that words, URLs, the environment and a `.netrc` name; and which words and URLs are refused, with 2 and a
+sentence, before anything is said to a server.
 """
 import os
 import subprocess
@@ -38,7 +38,23 @@ REFUSED = (
     "ftp://",
     "ftp://127.0.0.1:99999/a",
     "ftp://127.0.0.1:P/%FF",
+    "127.1:P/a",
+    "127.0.1:P/a",
+    "2130706433:P/a",
+    "127.0.0.01:P/a",
+    "127.0.0.1.:P/a",
+    "127.0.0.1.1:P/a",
+    "127.0.0.256:P/a",
+    "[127.1]:P/a",
+    "[::127.0.0.1]:P/a",
+    "[::ffff:127.0.0.1]:P/a",
+    "[::1%1]:P/a",
+    "[1::2::3]:P/a",
+    "[localhost:]:P/a",
 )
+# what `run --host` takes, and what it does not
+ADDRESSES = ("127.0.0.1", "::1", "0:0:0:0:0:0:0:1")
+NO_ADDRESSES = ("127.1", "1.2.3", "localhost", "127.0.0.1x", "[::1]", "::127.0.0.1", "::1%1", "127.0.0.01", "")
 
 
 def asks(rows, words, around=(), netrc=None, mode=0o600):
@@ -78,6 +94,9 @@ def tells(rows):
     """A refusal names what was refused, and what helps."""
     for words, parts in (
         (["cat", "::1:2121/a"], [b"'::1:2121/a'", b"in brackets"]),
+        (["cat", "127.1:2121/a"], [b"'127.1:2121/a'", b"<HOST:PORT/PATH>", b"four numbers"]),
+        (["mirror", "./a", "1.2.3/a"], [b"'1.2.3/a'", b"<TARGET>", b"four numbers"]),
+        (["run", "--host", "1.2.3", "--port", "1"], [b"'1.2.3'", b"--host <A>", b"four numbers"]),
         (["cat", "ftp://::1/a"], [b"'ftp://::1/a'", b"in brackets"]),
         (["cat", "127.0.0.1:1"], [b"'127.0.0.1:1'", b"a path is wanted"]),
         (["cat", "127.0.0.1:1/a", "--timeout", "2"], [b"to 127.0.0.1 at port 1:"]),
@@ -100,6 +119,16 @@ def tells(rows):
     for text, mode in (("machine 127.0.0.1 login night password q\n", 0o644), ('machine 127.0.0.1 login "night\n', 0o600)):
         told = asks(rows, ["cat", "127.0.0.1:1/a"], netrc=text, mode=mode)[2]
         rows.row(f".netrc {text!r} of mode {mode:o}: its path is told", told.endswith(f" {rows.folder}/.netrc\n".encode()), told)
+
+
+def run_hosts(rows):
+    """Nobody listens at port 1: an address is asked, and what is none refused."""
+    for host in ADDRESSES:
+        status, _, told = rows.tool_in(rows.folder, b"login a b\nwhere\n", "run", "--host", host, "--port", "1", "--timeout", "2")
+        rows.row(f"run --host {host}: asked", status == 3 and b"no connection" in told, (status, told))
+    for host in NO_ADDRESSES:
+        status, out, told = rows.tool_in(rows.folder, b"login a b\nwhere\n", "run", "--host", host, "--port", "1", "--timeout", "2")
+        rows.row(f"run --host {host!r}: refused", (status, out) == (2, b"") and b"--host <A>" in told, (status, out, told))
 
 
 def mirrored(rows):
@@ -131,6 +160,11 @@ def main():
     refused(rows, ["cat", "ftp://guest@127.0.0.1:P/a"], around={"FTP_PASSWORD": "p"})
     refused(rows, ["cat", "127.0.0.1:P/a", "--limit", "+5"])
     refused(rows, ["mirror", "127.0.0.1:P/a", "./local", "--limit", "+5"])
+    refused(rows, ["mirror", "127.1:P/a", "./local"])
+    refused(rows, ["mirror", "./local", "127.1:P/a"])
+    refused(rows, ["put", "./local", "127.1:P/a"])
+    refused(rows, ["rm", "127.0.0.1:P/a", "127.1:P/a"])
+    run_hosts(rows)
     os.mkfifo(rows.folder / "pipe", 0o600)
     refused(rows, ["cat", "127.0.0.1:P/a", "--user", "guest", "--password-file", "pipe"])
     refused(rows, ["cat", "127.0.0.1:P/a"], around={"NETRC": str(rows.folder / "pipe")})

@@ -1,7 +1,10 @@
 #!/usr/bin/env python3
-"""Several files of one `get` or `put`, and where they go; the words that ask one thing of a server; `ls --long` and `--json`; and `run --user`."""
+"""Several files of one `get` or `put`, and where they go; the words that ask one thing of a server; `ls --long` and `--json`; `run --user`; and
+a control connection that ends under `run`."""
 import json
 import os
+import socket
+import struct
 
 from hostile import FakeServer, OwnServer, Rows
 from mirror import fill, tree_at
@@ -112,6 +115,32 @@ def lost_rows(rows):
         rows.row(f"{words[0]}, the control connection ends", (status, asked) == (3, 1) and b"may be done" in told, (status, told, server.commands))
 
 
+def end(session, _):
+    """The server ends the control connection, in order."""
+    session.connection.shutdown(socket.SHUT_RDWR)
+
+
+def reset(session, _):
+    """It breaks."""
+    session.connection.setsockopt(socket.SOL_SOCKET, socket.SO_LINGER, struct.pack("ii", 1, 0))
+    raise OSError("it breaks")
+
+
+def ended_rows(rows):
+    """A control connection that ends in a script: a report like another where its server ended it, and a failure where it broke."""
+    for what, says, wanted in (
+        ("421, and open", "421 over", 1),
+        ("421, and ended", lambda session, _: (session.reply("421 over"), end(session, _)), 1),
+        ("ended", end, 1),
+        ("reset", reset, 3),
+    ):
+        for script, words in ((b"login a b\nup\nwhere\nwhere\n", ()), (b"up\nwhere\nwhere\n", ("--user", "anonymous"))):
+            server = FakeServer({"CDUP": "250 up", "PWD": says})
+            found = rows.tool_in(rows.folder, script, "run", "--host", "127.0.0.1", "--port", str(server.port), *words)
+            server.close()
+            rows.row(f"run {' '.join(words)}, {what}", found[:2] == (wanted, b"done\nlost\nlost\n"), found)
+
+
 def run_rows(rows, port):
     """A script whose user is said by the command line."""
     file = rows.folder / "password"
@@ -130,6 +159,7 @@ def run_rows(rows, port):
     ):
         status, out, told = rows.tool_in(rows.folder, script, "run", "--host", "127.0.0.1", "--port", str(port), *words)
         rows.row(f"run {' '.join(words)}, {script}", (status, out) == wanted, (status, out, told))
+    ended_rows(rows)
     _, _, told = rows.tool_in(rows.folder, b"where\nlook\n", "run", "--host", "127.0.0.1", "--port", str(port), *by_guest)
     rows.row("run --user, the second line fits no form", told == b"error: line 2 fits no form\n", told)
 
