@@ -2,7 +2,7 @@
 
 # the options of a subcommand
 _ftp_tool_options() {
-    local place='--user --password-file --active --extended --no-extended --progress --quiet --timeout --limit --type --stru --mode --help'
+    local place='--user --password-file --active --extended --no-extended --progress --quiet --timeout --max-time --limit --type --stru --mode --help'
     case $1 in
         get) echo "--keep --continue --moment --no-glob --limit-rate --parallel $place" ;;
         put) echo "--limit-rate --parallel $place" ;;
@@ -13,7 +13,7 @@ _ftp_tool_options() {
         mkdir) echo "--parents $place" ;;
         rmdir) echo "$place" ;;
         mv) echo "$place" ;;
-        mirror) echo "--delete --delete-any --dry-run --json --checksum --exclude --user --password-file --limit --limit-rate --active --extended --no-extended --no-flush --progress --parallel --quiet --timeout --help" ;;
+        mirror) echo "--delete --delete-any --dry-run --json --checksum --exclude --user --password-file --limit --limit-rate --active --extended --no-extended --no-flush --progress --parallel --quiet --timeout --max-time --help" ;;
         run) echo "--host --port --user --password-file --timeout --help" ;;
         serve) echo "--port --dir --sessions --at-once --at-once-per-host --until-input-ends --finish --host --accounts --log --keep --login --idle --idle-while-waited --session-while-waited --login-while-waited --passive-ports --passive-address --skip --most-octets --most-of-a-file --most-files --any --help" ;;
         password) echo "--rounds --help" ;;
@@ -33,7 +33,7 @@ _ftp_tool_values() {
         --type) echo A I ;;
         --stru) echo F R ;;
         --mode) echo S B ;;
-        --user | --timeout | --limit | --limit-rate | --parallel | --exclude | --host | --port | --rounds | --piece | --sessions) ;;
+        --user | --timeout | --max-time | --limit | --limit-rate | --parallel | --exclude | --host | --port | --rounds | --piece | --sessions) ;;
         --most-*) echo any ;;
         --login | --idle | --*-while-waited | --passive-ports | --passive-address) ;;
         *) case $1 in

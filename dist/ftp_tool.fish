@@ -30,6 +30,7 @@ complete -c ftp_tool -n '__fish_seen_subcommand_from get put ls cat size rm mkdi
 complete -c ftp_tool -n '__fish_seen_subcommand_from get put ls cat size rm mkdir rmdir mv mirror' -l progress -d 'tells how far it is'
 complete -c ftp_tool -n '__fish_seen_subcommand_from get put ls cat size rm mkdir rmdir mv mirror' -s q -l quiet -d 'tells errors alone'
 complete -c ftp_tool -n '__fish_seen_subcommand_from get put ls cat size rm mkdir rmdir mv mirror run' -l timeout -x -d 'seconds of silence that end a control connection'
+complete -c ftp_tool -n '__fish_seen_subcommand_from get put ls cat size rm mkdir rmdir mv mirror' -l max-time -x -d 'seconds that all may take'
 complete -c ftp_tool -n '__fish_seen_subcommand_from get put ls cat size rm mkdir rmdir mv mirror' -l limit -x -d 'the most octets of a file'
 complete -c ftp_tool -n '__fish_seen_subcommand_from get put mirror' -l limit-rate -x -d 'the most octets a second'
 complete -c ftp_tool -n '__fish_seen_subcommand_from get put ls cat size rm mkdir rmdir mv frame' -l type -x -a 'A I' -d 'ASCII or image'
