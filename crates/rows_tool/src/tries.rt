@@ -1,12 +1,22 @@
 // Uploads and downloads of `stdin`, a line each.
 use crate::downloads::Known;
-use crate::statuses::HOW;
 use crate::{downloads, uploads};
 use ftp_operation::How;
-use ftp_settings::{Kind, Representation};
+use ftp_settings::{Kind, Mode, Representation, Structure};
 use ftp_tool_asking::Opening;
 use rows_base::{Paper, cut, found, split};
 use std::io;
+
+const HOW: How = How {
+    representation: Representation {
+        kind: Kind::Image,
+        structure: Structure::File,
+        mode: Mode::Stream,
+    },
+    marks: false,
+    active: false,
+    extended: false,
+};
 
 /// An upload or a download.
 #[derive(Clone, Copy)]
