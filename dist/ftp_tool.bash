@@ -1,41 +1,50 @@
 # Completion of ftp_tool for bash, as /usr/local/share/bash-completion/completions/ftp_tool. Places of a server are not completed.
+# `scripts/options` makes this file of dist/options.
 
 # the options of a subcommand
 _ftp_tool_options() {
-    local place='--user --password-file --active --extended --no-extended --progress --quiet --timeout --max-time --limit --type --stru --mode --help'
     case $1 in
-        get) echo "--keep --continue --moment --no-glob --limit-rate --parallel $place" ;;
-        put) echo "--limit-rate --parallel $place" ;;
-        ls) echo "--long --json $place" ;;
-        cat) echo "$place" ;;
-        size) echo "$place" ;;
-        rm) echo "--parallel $place" ;;
-        mkdir) echo "--parents $place" ;;
-        rmdir) echo "$place" ;;
-        mv) echo "$place" ;;
-        mirror) echo "--delete --delete-any --dry-run --json --checksum --exclude --user --password-file --limit --limit-rate --active --extended --no-extended --no-flush --progress --parallel --quiet --timeout --max-time --help" ;;
-        run) echo "--host --port --user --password-file --timeout --help" ;;
-        serve) echo "--port --dir --sessions --at-once --at-once-per-host --until-input-ends --finish --host --accounts --log --keep --login --idle --idle-while-waited --session-while-waited --login-while-waited --passive-ports --passive-address --skip --most-octets --most-of-a-file --most-files --any --help" ;;
-        password) echo "--rounds --help" ;;
-        dialogue) echo "--piece --help" ;;
-        facts) echo "--help" ;;
-        frame) echo "--type --stru --mode --marks --read --help" ;;
-        loop) echo "--help" ;;
-        pair) echo "--piece --transcript --roots --help" ;;
+        get) echo '--user --password-file --active --extended --no-extended --quiet --timeout --max-time --limit --limit-rate --parallel --progress --type
+            --stru --mode --keep --continue --moment --no-glob --help' ;;
+        put) echo '--user --password-file --active --extended --no-extended --quiet --timeout --max-time --limit --limit-rate --parallel --progress --type
+            --stru --mode --help' ;;
+        ls) echo '--user --password-file --active --extended --no-extended --quiet --timeout --max-time --limit --progress --type --stru --mode --long --json
+            --help' ;;
+        cat) echo '--user --password-file --active --extended --no-extended --quiet --timeout --max-time --limit --progress --type --stru --mode --help' ;;
+        size) echo '--user --password-file --active --extended --no-extended --quiet --timeout --max-time --limit --progress --type --stru --mode --help' ;;
+        rm) echo '--user --password-file --active --extended --no-extended --quiet --timeout --max-time --limit --parallel --progress --type --stru --mode
+            --help' ;;
+        mkdir) echo '--user --password-file --active --extended --no-extended --quiet --timeout --max-time --limit --progress --type --stru --mode --parents
+            --help' ;;
+        rmdir) echo '--user --password-file --active --extended --no-extended --quiet --timeout --max-time --limit --progress --type --stru --mode --help' ;;
+        mv) echo '--user --password-file --active --extended --no-extended --quiet --timeout --max-time --limit --progress --type --stru --mode --help' ;;
+        mirror) echo '--user --password-file --active --extended --no-extended --quiet --timeout --max-time --limit --limit-rate --parallel --delete
+            --delete-any --dry-run --json --progress --checksum --exclude --no-flush --help' ;;
+        run) echo '--user --password-file --timeout --host --port --help' ;;
+        serve) echo '--port --dir --host --accounts --sessions --at-once --at-once-per-host --until-input-ends --finish --log --keep --login --idle
+            --idle-while-waited --session-while-waited --login-while-waited --passive-ports --passive-address --skip --most-octets --most-of-a-file --most-files
+            --any --help' ;;
+        password) echo '--rounds --help' ;;
+        dialogue) echo '--piece --help' ;;
+        facts) echo '--help' ;;
+        frame) echo '--type --stru --mode --marks --read --help' ;;
+        loop) echo '--help' ;;
+        pair) echo '--piece --transcript --roots --help' ;;
     esac
 }
 
 # what comes after a word of a subcommand: files, directories, or one of the words that it writes
 _ftp_tool_values() {
     case $2 in
+        --user | --timeout | --max-time | --limit | --limit-rate | --parallel | --exclude | --rounds | --host | --port | --sessions | --at-once | \
+            --at-once-per-host | --finish | --login | --idle | --idle-while-waited | --session-while-waited | --login-while-waited | --passive-ports | \
+            --passive-address | --piece) ;;
         --password-file | --accounts) echo files ;;
-        --dir) echo directories ;;
         --type) echo A I ;;
         --stru) echo F R ;;
         --mode) echo S B ;;
-        --user | --timeout | --max-time | --limit | --limit-rate | --parallel | --exclude | --host | --port | --rounds | --piece | --sessions) ;;
-        --most-*) echo any ;;
-        --login | --idle | --*-while-waited | --passive-ports | --passive-address) ;;
+        --dir) echo directories ;;
+        --most-octets | --most-of-a-file | --most-files) echo any ;;
         *) case $1 in
             get | put) echo files ;;
             mirror) echo directories ;;
