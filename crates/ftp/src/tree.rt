@@ -1,9 +1,9 @@
 // Trees of files: in memory, and in a folder of a system.
 pub use ftp_direct::direct;
+pub use ftp_disk_host::{Host, SystemHost};
+pub use ftp_disk_tree::{DiskTree, LeftOut, LoadFault, Odd, Others, Unknown, open};
 pub use ftp_tree::{
     Broken, DirEntries, DirEntry, Draft, FileFacts, Limits, Name, NodeKind, Path, PathFault, Sight,
     SureTree, Tree, TreeFault,
 };
-pub use ftp_tree_disk::{DiskTree, LeftOut, LoadFault, Odd, Others, Unknown, open};
-pub use ftp_tree_host::{Host, SystemHost};
 pub use ftp_tree_memory::{Content, Folder, HeldTree, MemTree, Mirror};

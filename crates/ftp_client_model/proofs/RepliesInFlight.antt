@@ -12,7 +12,7 @@ use Rattle.ftp_nvt.proofs.CutLemmas.{decided}
 use Rattle.ftp_reply.specs.Lines.{Text, AreWithin}
 use Rattle.ftp_reply.specs.Reply.{IsCode, code_text, last_line, opening_line, begins_with_digits, written, but_last, inner_lines}
 use Rattle.ftp_reply.proofs.LawLemmas.{cut_after}
-use Rattle.ftp_cutting.specs.Machine.{after, gives}
+use Rattle.ftp_pieces.specs.Machine.{after, gives}
 use Rattle.ftp_ends.specs.Ear.{Ear, quiet, ear, ear_out, ear_step}
 use Rattle.ftp_client_model.specs.Calls.{reply_limit, line_taken, events_taken, hears_octet, hears, may_hear}
 use Rattle.ftp_client_model.specs.Dialogue.{answered}

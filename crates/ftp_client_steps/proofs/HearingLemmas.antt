@@ -2,8 +2,8 @@
 use Rattle.std.proofs.Common.{◌≡◌, ◌∙◌, ℕ, zero, suc, ◌<◌, ◌≤◌, List, [], ◌∷◌, ◌++◌, take, Option, refl, sym, ap, subst, append-nil, arith}
 use Rattle.std.specs.Prelude.{IsTrue}
 use Rattle.std.proofs.lemmas.List.{append_cancel_left}
-use Rattle.ftp_cutting.specs.Machine.{after}
-use Rattle.ftp_cutting.proofs.MachineLemmas.{after-append, gives-append}
+use Rattle.ftp_pieces.specs.Machine.{after}
+use Rattle.ftp_pieces.proofs.MachineLemmas.{after-append, gives-append}
 use Rattle.ftp_nvt.specs.Ear.{HasHeard, Hears, limit_of, line_of, event_list}
 use Rattle.ftp_nvt.specs.Fold.{Ear, ear, ear_of, ear_out, ear_step, quiet}
 use Rattle.ftp_nvt.specs.Lines.{NvtEvent, events}

@@ -3,9 +3,9 @@ use Rattle.std.proofs.Common.{◌≡◌, ◌∙◌, ℕ, List, [], ◌++◌, Boo
 use Rattle.std.specs.Prelude.{◌⊎◌}
 use Rattle.std.specs.Io.KnownBytes.{Appends, Consumes, Keeps}
 use Rattle.ftp_wire.specs.Decoder.{Decoder}
-use Rattle.ftp_client_stream.specs.Drawing.{Gives, Reads, Sends, Stays, left_to_go}
-use Rattle.ftp_client_stream.specs.Pouring.{Pours}
-use Rattle.ftp_client_stream.specs.declared.drawing.Drawing.{Drawing}
+use Rattle.ftp_client_stream.specs.SourceTransfer.{Gives, Reads, Sends, Stays, left_to_go}
+use Rattle.ftp_client_stream.specs.SinkTransfer.{Pours}
+use Rattle.ftp_client_stream.specs.declared.source_transfer.SourceTransfer.{SourceTransfer}
 
 -- a link that keeps what it had was given nothing
 keeps_appends : (before after : Option (List ℕ)) → Keeps before after → Appends before after []
@@ -27,7 +27,7 @@ pub pours_none : (before after : Option (List ℕ)) (d : Decoder) → Keeps befo
 pours_none before after d keeps = record { came = []; taken = keeps_consumes before after keeps; heard = refl }
 
 -- where nothing moves nothing went
-pub gives_none : {D A : Type 0} (gave : D → List ℕ) (left : D → ℕ) (link : Option (List ℕ)) (d : Drawing D A) → Gives gave left link link d d
+pub gives_none : {D A : Type 0} (gave : D → List ℕ) (left : D → ℕ) (link : Option (List ℕ)) (d : SourceTransfer D A) → Gives gave left link link d d
 gives_none gave left link d = record {
   drew = [];
   went = [];
@@ -38,7 +38,7 @@ gives_none gave left link d = record {
 }
 
 -- a source that failed leaves all as it was
-pub gives_stays : {D A : Type 0} (gave : D → List ℕ) (left : D → ℕ) (link : Option (List ℕ)) (old new : Drawing D A)
+pub gives_stays : {D A : Type 0} (gave : D → List ℕ) (left : D → ℕ) (link : Option (List ℕ)) (old new : SourceTransfer D A)
     → Stays gave old new → Gives gave left link link old new
 gives_stays gave left link old new stays = record {
   drew = [];
@@ -50,7 +50,7 @@ gives_stays gave left link old new stays = record {
 }
 
 -- what was read did not go where a link failed
-pub gives_read : {D A : Type 0} (gave : D → List ℕ) (left : D → ℕ) (before after : Option (List ℕ)) (old new : Drawing D A)
+pub gives_read : {D A : Type 0} (gave : D → List ℕ) (left : D → ℕ) (before after : Option (List ℕ)) (old new : SourceTransfer D A)
     → Reads gave left old new → Keeps before after → Gives gave left before after old new
 gives_read gave left before after old new reads keeps = record {
   drew = reads.drew;
@@ -62,7 +62,7 @@ gives_read gave left before after old new reads keeps = record {
 }
 
 -- octets were read, and then octets went
-pub gives_sent : {D A : Type 0} (gave : D → List ℕ) (left : D → ℕ) (before after : Option (List ℕ)) (old between new : Drawing D A)
+pub gives_sent : {D A : Type 0} (gave : D → List ℕ) (left : D → ℕ) (before after : Option (List ℕ)) (old between new : SourceTransfer D A)
     → Reads gave left old between → Sends before after between new → Gives gave left before after old new
 gives_sent gave left before after old between new reads sends = record {
   drew = reads.drew;

@@ -1,4 +1,4 @@
-pub mod DrawingLemmas
+pub mod SourceTransferLemmas
 pub mod GivingLemmas
-pub mod PouringLemmas
+pub mod SinkTransferLemmas
 pub mod ReadingLemmas

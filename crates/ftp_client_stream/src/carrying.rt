@@ -4,12 +4,12 @@ ghost use Rattle.std.specs.Io.{ReadsAtMost, WritesAtMost};
 ghost use Rattle.std.specs.Io.KnownBytes.{Appends, IsAtEnd};
 ghost use Rattle.std.specs.IoError.{error_kind};
 ghost use Rattle.ftp_wire.specs.Decoder.{is_whole};
-ghost use Rattle.ftp_client_stream.specs.Drawing.{Gives, left_to_go};
-ghost use Rattle.ftp_client_stream.specs.Pouring.{Pours};
+ghost use Rattle.ftp_client_stream.specs.SourceTransfer.{Gives, left_to_go};
+ghost use Rattle.ftp_client_stream.specs.SinkTransfer.{Pours};
 
-use crate::drawing::Drawing;
-use crate::pouring::Pouring;
+use crate::sink_transfer::SinkTransfer;
 use crate::source::{Source, Unread};
+use crate::source_transfer::SourceTransfer;
 use ftp_wire::Sink;
 use std::alloc::Allocator;
 use std::io;
@@ -28,7 +28,7 @@ pub trait Carries {
 
 /// What comes goes to the sink: a client hears nothing of it, and at the end of a whole file an empty one. A read that brought some ends as
 /// interrupted, so that the client's drive looks at its control connection before the next. A sink that refuses breaks the connection.
-impl<S: Sink> Carries for Pouring<S> {
+impl<S: Sink> Carries for SinkTransfer<S> {
     #[tactic(auto, using(crate::proofs::GivingLemmas::pours_none))]
     fn hear<L: Read>(&mut self, link: &mut L, room: &mut [u8]) -> io::Result<usize>
         ensures bound { ReadsAtMost result room.new }
@@ -59,7 +59,7 @@ impl<S: Sink> Carries for Pouring<S> {
 
 /// Octets of the source go, whatever a client gives; what it gives counts as gone once they all went. A write that moved some ends as interrupted, so
 /// that the client's drive looks at its control connection before the next. A source that fails breaks the connection.
-impl<D: Source, A: Allocator + Copy> Carries for Drawing<D, A> {
+impl<D: Source, A: Allocator + Copy> Carries for SourceTransfer<D, A> {
     fn hear<L: Read>(&mut self, link: &mut L, room: &mut [u8]) -> io::Result<usize> {
         link.read(room)
     }

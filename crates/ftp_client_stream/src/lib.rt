@@ -3,18 +3,18 @@
 #![tactic(auto)]
 
 mod carrying;
-mod drawing;
-mod inlet;
-mod outlet;
 mod ports;
-mod pouring;
+mod reader_source;
+mod sink_transfer;
 mod source;
+mod source_transfer;
 mod went;
+mod writer_sink;
 
 pub use carrying::Carries;
-pub use drawing::Drawing;
-pub use inlet::Inlet;
-pub use outlet::Outlet;
 pub use ports::{CarriedLink, CarriedPorts};
-pub use pouring::Pouring;
+pub use reader_source::ReaderSource;
+pub use sink_transfer::SinkTransfer;
 pub use source::{Source, Unread};
+pub use source_transfer::SourceTransfer;
+pub use writer_sink::WriterSink;

@@ -1,10 +1,10 @@
 // Data connections of one transfer, over which something else goes than its client gives and hears.
 ghost use Rattle.std.specs.Prelude.{◌≡◌, ⊤, None};
-ghost use Rattle.ftp_control.specs.Asking.{Closes};
+ghost use Rattle.ftp_ports.specs.Asking.{Closes};
 
 use crate::carrying::Carries;
-use ftp_control::{Accepted, Awaited, Beside, Duplex, For, Ports, Ready, Spoken, Whole};
 use ftp_endpoint::Endpoint;
+use ftp_ports::{Accepted, Awaited, Beside, Duplex, For, Ports, Ready, Spoken, Whole};
 use std::cell::Cell;
 use std::io;
 use std::io::{Error, ErrorKind, Read, Write};

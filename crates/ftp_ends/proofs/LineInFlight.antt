@@ -9,9 +9,9 @@ use Rattle.ftp_nvt.specs.Telnet.{data_octet, unit_ended, place_behind, bare_of}
 use Rattle.ftp_nvt.specs.declared.line.Stage.TheVariants.{Inside, AfterReturn}
 use Rattle.ftp_nvt.specs.declared.telnet.TelnetState.TheVariants as At
 use Rattle.ftp_nvt.proofs.CutLemmas.{decided}
-use Rattle.ftp_cutting.specs.Machine.{IsFront, after, gives}
+use Rattle.ftp_pieces.specs.Machine.{IsFront, after, gives}
 use Rattle.ftp_nvt.proofs.ReaderLemmas.{same_ear}
-use Rattle.ftp_cutting.proofs.MachineLemmas.{after-append, gives-append, gives-front}
+use Rattle.ftp_pieces.proofs.MachineLemmas.{after-append, gives-append, gives-front}
 use Rattle.ftp_ends.specs.Ear.{Ear, Unfinished, quiet, no_line, within_step, within_out, line_step, line_out, liner, unit_says, ear, ear_step, ear_out, line_len, EarHearsEachLine, EarDropsAnswer}
 
 -- ---- octets of which nothing is said

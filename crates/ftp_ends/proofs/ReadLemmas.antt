@@ -4,7 +4,7 @@ use Rattle.std.specs.Prelude.{nat_lt, if◌then◌else◌}
 use Rattle.std.specs.List.{flat_map}
 use Rattle.std.proofs.lemmas.Bool.{cond_both, ltb-false, ltb-true}
 use Rattle.std.proofs.lemmas.List.{length-take}
-use Rattle.ftp_cutting.specs.Machine.{after, gives}
+use Rattle.ftp_pieces.specs.Machine.{after, gives}
 use Rattle.ftp_nvt.specs.Fold.{Unfinished, Ear, no_line, past_limit, skipping, text_with, longer, ended_text, within_step, within_out, line_step, line_out, liner, unit_says, ear_step, ear_out}
 use Rattle.ftp_nvt.specs.Lines.{NvtEvent, line, too_long, owed}
 use Rattle.ftp_nvt.specs.Telnet.{TelnetUnit, bare_of, owed_of, unit_ended}

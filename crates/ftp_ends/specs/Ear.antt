@@ -4,7 +4,7 @@ use Rattle.std.specs.Prelude.{◌≡◌, ◌≤◌, ℕ, ◌+◌, List, [], ◌�
 use Rattle.ftp_nvt.specs.Lines.{line, Lacks, written_line}
 use Rattle.ftp_nvt.specs.declared.line.TheConstants.{LF, CR}
 use Rattle.ftp_nvt.specs.declared.telnet.TheConstants.{IAC, WONT, DONT}
-use Rattle.ftp_cutting.specs.Machine.{after, gives}
+use Rattle.ftp_pieces.specs.Machine.{after, gives}
 pub use Rattle.ftp_nvt.specs.Fold.{Unfinished, no_line, past_limit, skipping, text_with, longer, ended_text, within_step, within_out, line_step, line_out, liner, Ear, quiet, unit_says, ear_step, ear_out, ear}
 
 -- how many octets a text takes in its line, the end not counted: CR goes as CR NUL, and a doubled 255 is one

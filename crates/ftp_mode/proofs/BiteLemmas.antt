@@ -3,8 +3,8 @@ use Rattle.std.proofs.Common.{◌≡◌, ℕ, ◌+◌, ◌-◌, ◌<◌, ◌≤�
 use Rattle.std.specs.List.{AllByRecursion}
 use Rattle.std.proofs.Math.Seq.{take-add}
 use Rattle.std.proofs.lemmas.List.{take-map, take-take, length-take-le, length-map}
-use Rattle.ftp_cutting.specs.Machine.{after, gives}
-use Rattle.ftp_cutting.proofs.MachineLemmas.{after-append, gives-append}
+use Rattle.ftp_pieces.specs.Machine.{after, gives}
+use Rattle.ftp_pieces.proofs.MachineLemmas.{after-append, gives-append}
 use Rattle.ftp_mode.specs.declared.deframer.Deframer.{Deframer}
 use Rattle.ftp_mode.specs.declared.deframer.Bite.{Bite}
 use Rattle.ftp_mode.specs.declared.step.Part.{Part}

@@ -1,7 +1,7 @@
 -- The reader over a wire that was cut or stands in no text.
 use Rattle.std.proofs.Common.{◌≡◌, ℕ, ◌+◌, ◌-◌, ◌<◌, ◌≤◌, ◌^◌, inl, inr, List, [], ◌∷◌, ◌++◌, length, false, ◌==◌, ltb, refl, ap, sym, subst, ◌∙◌, arith, append-nil, length-append}
 use Rattle.std.proofs.lemmas.Bool.{eqb-false, ltb-false, false≢true}
-use Rattle.ftp_cutting.specs.Machine.{after, gives}
+use Rattle.ftp_pieces.specs.Machine.{after, gives}
 use Rattle.ftp_settings.specs.declared.representation.Structure.{Structure}
 use Rattle.ftp_settings.specs.declared.representation.Structure.TheVariants.{File, Record}
 use Rattle.ftp_repr.proofs.AsciiLemmas.{decided}

@@ -3,7 +3,7 @@ use Rattle.std.proofs.Common.{◌≡◌, ◌+◌, ◌<◌, ◌≤◌, ℕ, List,
 use Rattle.std.specs.Prelude.{if◌then◌else◌, ◌==◌, Bool, false}
 use Rattle.std.specs.List.{AllByRecursion}
 use Rattle.std.proofs.lemmas.List.{take_more_set, drop_more, drop-map, length-take-le}
-use Rattle.ftp_cutting.specs.Machine.{after, gives}
+use Rattle.ftp_pieces.specs.Machine.{after, gives}
 use Rattle.ftp_repr.specs.Signs.{Sign, octet, end_record}
 use Rattle.ftp_mode.specs.declared.framer.Stage.{Stage}
 use Rattle.ftp_mode.specs.declared.framer.Stage.TheVariants.{Copying, Free, Held, Filling, AtRecord, Leaving, Last, Closed}

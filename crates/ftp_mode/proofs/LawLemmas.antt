@@ -1,13 +1,13 @@
 -- The laws of the reader over whole files, for each mode, type and structure.
 use Rattle.std.proofs.Common.{◌≡◌, ℕ, ◌+◌, ◌<◌, ◌^◌, List, [], ◌∷◌, ◌++◌, map, length, refl, ap, sym, subst, ◌∙◌, append_assoc, append-nil}
-use Rattle.ftp_cutting.specs.Machine.{gives, IsFront}
+use Rattle.ftp_pieces.specs.Machine.{gives, IsFront}
 use Rattle.ftp_repr.specs.Signs.{Sign, octet, wire_octets, signs_of}
 use Rattle.ftp_settings.specs.Representation.{Form}
 use Rattle.ftp_repr.specs.Content.{content}
 use Rattle.ftp_settings.specs.declared.representation.Kind.{Kind}
 use Rattle.ftp_settings.specs.declared.representation.Structure.{Structure}
 use Rattle.ftp_settings.specs.declared.representation.Structure.TheVariants.{File, Record}
-use Rattle.ftp_cutting.proofs.MachineLemmas.{gives-front}
+use Rattle.ftp_pieces.proofs.MachineLemmas.{gives-front}
 use Rattle.ftp_repr.proofs.SignLemmas.{whole-signs_of, signs_of-cons}
 use Rattle.ftp_repr.proofs.ContentLemmas.{content-signs_of, content_front}
 use Rattle.ftp_settings.specs.declared.representation.Mode.{Mode}

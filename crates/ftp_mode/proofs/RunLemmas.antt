@@ -2,9 +2,9 @@
 use Rattle.std.proofs.Common.{◌≡◌, ◌≢◌, ℕ, zero, suc, ◌+◌, ◌-◌, ◌≤◌, List, [], ◌∷◌, ◌++◌, length, take, drop, map, false, ◌==◌, refl, ap, sym, ◌∙◌, arith, append_assoc, append-nil, length-append}
 use Rattle.std.proofs.lemmas.Bool.{ne_eqb}
 use Rattle.std.proofs.lemmas.List.{drop-map, map-append, take-append-drop}
-use Rattle.ftp_cutting.specs.Machine.{after, gives}
+use Rattle.ftp_pieces.specs.Machine.{after, gives}
 use Rattle.ftp_repr.specs.Signs.{Sign, octet}
-use Rattle.ftp_cutting.proofs.MachineLemmas.{gives-append}
+use Rattle.ftp_pieces.proofs.MachineLemmas.{gives-append}
 use Rattle.ftp_mode.specs.Block.{block_text}
 use Rattle.ftp_mode.specs.Count.{count_on}
 use Rattle.ftp_mode.specs.declared.framer.Framer.{Framer}

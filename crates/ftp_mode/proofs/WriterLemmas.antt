@@ -3,7 +3,7 @@ use Rattle.std.proofs.Common.{◌≡◌, ℕ, suc, ◌-◌, ◌/◌, ◌≤◌, 
 use Rattle.std.proofs.lemmas.Bool.{eqb-true, eqb-false}
 use Rattle.std.proofs.lemmas.List.{take_at}
 use Rattle.std.proofs.Math.Seq.{drop-append_seam}
-use Rattle.ftp_cutting.specs.Machine.{gives}
+use Rattle.ftp_pieces.specs.Machine.{gives}
 use Rattle.ftp_repr.specs.Signs.{Sign, octet, end_record, end_file}
 use Rattle.ftp_repr.proofs.AsciiLemmas.{decided}
 use Rattle.ftp_repr.proofs.SignLemmas.{IsWhole}

@@ -1,6 +1,6 @@
 -- The writer gives the one text of a whole file, in each mode, type and structure.
 use Rattle.std.proofs.Common.{◌≡◌, ℕ, ◌+◌, ◌<◌, ◌^◌, List, [], ◌∷◌, length, refl, ap, ◌∙◌, arith}
-use Rattle.ftp_cutting.specs.Machine.{gives}
+use Rattle.ftp_pieces.specs.Machine.{gives}
 use Rattle.ftp_repr.specs.Signs.{Sign, octet, signs_of}
 use Rattle.ftp_settings.specs.Representation.{Form}
 use Rattle.ftp_settings.specs.declared.representation.Structure.{Structure}

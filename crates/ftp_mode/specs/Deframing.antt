@@ -1,6 +1,6 @@
 -- What a deframer made of a piece.
 use Rattle.std.specs.Prelude.{◌≡◌, ℕ, ◌+◌, ◌-◌, ◌<◌, ◌≤◌, ◌⊎◌, List, [], ◌∷◌, ◌++◌, length, take}
-use Rattle.ftp_cutting.specs.Machine.{after, gives}
+use Rattle.ftp_pieces.specs.Machine.{after, gives}
 use Rattle.ftp_repr.specs.Signs.{end_record, end_file}
 use Rattle.ftp_mode.specs.declared.fault.FrameFault.{FrameFault}
 use Rattle.ftp_mode.specs.declared.step.Part.{Part}

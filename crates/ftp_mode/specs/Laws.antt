@@ -1,6 +1,6 @@
 -- What the reader makes of whole wires.
 use Rattle.std.specs.Prelude.{◌≡◌, ℕ, List, [], ◌∷◌, ◌++◌}
-use Rattle.ftp_cutting.specs.Machine.{after, gives}
+use Rattle.ftp_pieces.specs.Machine.{after, gives}
 use Rattle.ftp_repr.specs.Signs.{end_file}
 use Rattle.ftp_settings.specs.Representation.{Form}
 use Rattle.ftp_repr.specs.Content.{content}

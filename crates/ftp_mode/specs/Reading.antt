@@ -1,6 +1,6 @@
 -- The reader of a wire, octet by octet. The laws tie it to what whole wires read as.
 use Rattle.std.specs.Prelude.{ℕ, ◌-◌, List, [], ◌∷◌, ◌++◌, Bool, true, false, if◌then◌else◌, ◌&&◌, ◌==◌, nat_lt, length, IsTrue}
-use Rattle.ftp_cutting.specs.Machine.{Machine}
+use Rattle.ftp_pieces.specs.Machine.{Machine}
 use Rattle.ftp_repr.specs.Signs.{octet}
 use Rattle.ftp_settings.specs.declared.representation.Structure.{Structure}
 use Rattle.ftp_settings.specs.declared.representation.Structure.TheVariants.{File, Record}

@@ -1,6 +1,6 @@
 -- The writer of a wire, sign by sign. The laws tie it to the texts of whole files.
 use Rattle.std.specs.Prelude.{◌≡◌, ℕ, ◌%◌, ◌^◌, ◌<◌, List, [], ◌∷◌, ◌++◌, length, Bool, false, if◌then◌else◌, ◌&&◌, ◌==◌, nat_lt}
-use Rattle.ftp_cutting.specs.Machine.{Machine}
+use Rattle.ftp_pieces.specs.Machine.{Machine}
 use Rattle.ftp_repr.specs.Signs.{Sign, octet, end_record, end_file}
 use Rattle.ftp_settings.specs.declared.representation.Structure.{Structure}
 use Rattle.ftp_settings.specs.declared.representation.Structure.TheVariants.{File, Record}

@@ -1,7 +1,7 @@
 //! What holds of whole files and wires, in each mode, type and structure.
 
 ghost use Rattle.std.specs.Prelude.{◌≡◌, ◌+◌, ◌<◌, ◌^◌, ◌++◌, ◌↔◌, ℕ, List, map, length};
-ghost use Rattle.ftp_cutting.specs.Machine.{IsFront, after, gives};
+ghost use Rattle.ftp_pieces.specs.Machine.{IsFront, after, gives};
 ghost use Rattle.ftp_repr.specs.Signs.{Sign, signs_of};
 ghost use Rattle.ftp_settings.specs.Representation.{Form};
 ghost use Rattle.ftp_settings.specs.declared.representation.Structure.{Structure};

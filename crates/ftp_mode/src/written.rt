@@ -1,7 +1,7 @@
 //! What holds of a whole file's text, in each mode, type and structure.
 
 ghost use Rattle.std.specs.Prelude.{◌≡◌, ◌+◌, ◌<◌, ◌^◌, ℕ, List, length};
-ghost use Rattle.ftp_cutting.specs.Machine.{gives};
+ghost use Rattle.ftp_pieces.specs.Machine.{gives};
 ghost use Rattle.ftp_repr.specs.Signs.{signs_of};
 ghost use Rattle.ftp_settings.specs.Representation.{Form};
 ghost use Rattle.ftp_settings.specs.declared.representation.Structure.TheVariants.{File};

@@ -10,7 +10,7 @@ use Rattle.ftp_nvt.specs.declared.telnet.TelnetState.{TelnetState}
 use Rattle.ftp_nvt.specs.declared.telnet.TelnetState.TheVariants as At
 use Rattle.ftp_nvt.proofs.CutLemmas.{decided, no_leb, lines-append-octet, text_behind-append, last_octet-append, rest-append-octet, text_of-return, rest-nil}
 use Rattle.ftp_nvt.proofs.LineLemmas.{lines_added-is, lines_added-nil, events_behind-append}
-use Rattle.ftp_cutting.specs.Machine.{after, gives}
+use Rattle.ftp_pieces.specs.Machine.{after, gives}
 use Rattle.ftp_nvt.specs.Fold.{Unfinished, no_line, past_limit, skipping, text_with, longer, ended_text, within_step, within_out, line_step, line_out, liner, unit_says, ear, EarGivesEvents}
 
 -- ---- the unfinished line

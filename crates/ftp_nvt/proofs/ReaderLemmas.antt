@@ -11,7 +11,7 @@ use Rattle.ftp_nvt.specs.declared.line.Stage.{Stage}
 use Rattle.ftp_nvt.specs.declared.line.Stage.TheVariants.{Start, Inside, AfterReturn, Past}
 use Rattle.ftp_nvt.specs.declared.telnet.TelnetState.{TelnetState}
 use Rattle.ftp_nvt.specs.declared.telnet.TelnetState.TheVariants as At
-use Rattle.ftp_cutting.specs.Machine.{after}
+use Rattle.ftp_pieces.specs.Machine.{after}
 use Rattle.ftp_nvt.specs.Fold.{Unfinished, no_line, liner, line_at, Ear, quiet, ear, ReaderIsEar}
 use Rattle.ftp_nvt.proofs.FoldLemmas.{Stands, StandsBehind, same_line, stands_nil, say_all, first_stands}
 

@@ -12,7 +12,7 @@ use Rattle.ftp_nvt.specs.declared.line.Stage.TheVariants.{Start, Inside, AfterRe
 use Rattle.ftp_nvt.specs.declared.line.TheConstants.{NUL, LF, CR}
 use Rattle.ftp_nvt.specs.declared.telnet.TelnetState.{TelnetState}
 use Rattle.ftp_nvt.specs.declared.telnet.TelnetState.TheVariants as At
-use Rattle.ftp_cutting.specs.Machine.{Machine, after, gives}
+use Rattle.ftp_pieces.specs.Machine.{Machine, after, gives}
 
 -- ---- the unfinished line
 

@@ -5,8 +5,8 @@ use Rattle.std.specs.Cmp.Lexicographic.{pointwise}
 pub use Rattle.ftp_path.specs.Login.{is_user, is_password}
 use Rattle.ftp_path.specs.Path.{Names, is_within}
 use Rattle.ftp_operation.specs.Rights.{may_change}
-use Rattle.ftp_operation_secret.specs.Secret.{opens}
-use Rattle.ftp_operation_secret.specs.declared.secret.Secret.{Secret}
+use Rattle.ftp_secret.specs.Secret.{opens}
+use Rattle.ftp_secret.specs.declared.secret.Secret.{Secret}
 use Rattle.ftp_operation.specs.declared.account.Account.{Account as Held}
 use Rattle.ftp_operation.specs.declared.account.AccountsFault.{AccountsFault}
 use Rattle.ftp_operation.specs.declared.account.AccountsFault.TheVariants.{SameUser, NestedRoots}

@@ -6,9 +6,9 @@ ghost use Rattle.ftp_operation.specs.Account.{accounts_refusal, are_apart, are_d
 
 use crate::rights::Rights;
 use ftp_facts::Text;
-use ftp_operation_secret::Secret;
 use ftp_path::key::is_within;
 use ftp_path::{Path, is_password, is_user};
+use ftp_secret::Secret;
 use std::alloc::Allocator;
 use std::error::Error;
 use std::fmt;

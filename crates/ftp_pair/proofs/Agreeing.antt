@@ -2,17 +2,17 @@
 use Rattle.std.proofs.Common.{◌≡◌, ◌∙◌, Bool, true, List, [], ◌∷◌, ◌++◌, map, refl, sym, ap, subst, append-nil, append_assoc, Ok, Err}
 use Rattle.std.specs.Prelude.{IfOk}
 use Rattle.std.specs.declared.result.Result.{Result}
-use Rattle.ftp_pair_agreement.proofs.Theorems.{agrees-always, headline, quiet-is-answered, rest-is-quiet}
+use Rattle.laws_agreement.proofs.Theorems.{agrees-always, headline, quiet-is-answered, rest-is-quiet}
 use Rattle.ftp_server_model.specs.Machine.{IsReading, Reading}
-use Rattle.ftp_pair_world.specs.Agreement.{AreHonest, IsHonest, Leads, Order, begun_by}
-use Rattle.ftp_pair_world.specs.Claims.{AreTimed, Beginning, IsTimed, world_of}
-use Rattle.ftp_pair_world.specs.Events as events
-use Rattle.ftp_pair_world.specs.Events.{Event, Happens}
-use Rattle.ftp_pair_world.specs.Still.{IsStill}
-use Rattle.ftp_pair_world.specs.World.{World}
-use Rattle.ftp_pair_parts.specs.Happening.{IsSmall, event_of}
-use Rattle.ftp_pair_parts.specs.Shown.{Steps}
-use Rattle.ftp_pair_parts.specs.declared.event.Event.{Event as Given}
+use Rattle.laws_world.specs.Agreement.{AreHonest, IsHonest, Leads, Order, begun_by}
+use Rattle.laws_world.specs.Claims.{AreTimed, Beginning, IsTimed, world_of}
+use Rattle.laws_world.specs.Events as events
+use Rattle.laws_world.specs.Events.{Event, Happens}
+use Rattle.laws_world.specs.Still.{IsStill}
+use Rattle.laws_world.specs.World.{World}
+use Rattle.ftp_pair_events.specs.events.Happening.{IsSmall, event_of}
+use Rattle.ftp_pair_events.specs.events.Shown.{Steps}
+use Rattle.ftp_pair_events.specs.declared.events.event.Event.{Event as Given}
 use Rattle.ftp_pair.specs.Session.{AgreesAfter, AgreesBy, AreSmall, GoesOn, IsSettled, LeadsCalmly, LeadsSmall, Seen, Session, SettlesAfter}
 use Rattle.ftp_pair.proofs.Reaching.{timed}
 

@@ -4,9 +4,9 @@ use Rattle.std.specs.declared.result.Result.{Result}
 use Rattle.std.specs.Prelude.{OnErr, nat_eq, if◌then◌else◌}
 use Rattle.std.proofs.lemmas.Bool.Decides.{nat_tests}
 use Rattle.std.proofs.lemmas.List.{map-append}
-use Rattle.ftp_pair_world.specs.Events.{Event}
-use Rattle.ftp_pair_parts.specs.Calm.{Keeps, Tally, most_in}
-use Rattle.ftp_pair_parts.proofs.Keeping.{fewer, none, none_in_all, stayed, then as follows}
+use Rattle.laws_world.specs.Events.{Event}
+use Rattle.ftp_pair_events.specs.events.Calm.{Keeps, Tally, most_in}
+use Rattle.ftp_pair_events.proofs.events.Keeping.{fewer, none, none_in_all, stayed, then as follows}
 use Rattle.ftp_pair.proofs.Running.{front_more}
 use Rattle.ftp_pair.specs.Session.{AreCounts, Counted, KeepsCalm, KeepsCalmBy, Seen, is_same, most_of}
 

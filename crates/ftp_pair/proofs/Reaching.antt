@@ -3,19 +3,19 @@ use Rattle.std.proofs.Common.{◌≡◌, ◌∙◌, Bool, true, List, [], ◌∷
 use Rattle.std.proofs.Math.Logic.{∥∥₁_prop, ∥∥₁_elim}
 use Rattle.std.specs.Prelude.{IfOk, OnErr}
 use Rattle.std.specs.declared.result.Result.{Result}
-use Rattle.ftp_pair_world.specs.Claims.{Beginning, IsFair, IsTimed, AreTimed, world_of}
-use Rattle.ftp_pair_world.specs.Events.{Happens}
-use Rattle.ftp_pair_world.specs.Events as events
-use Rattle.ftp_pair_world.specs.World.{World}
-use Rattle.ftp_pair_parts.specs.Happening.{IsSmall, Stirs, event_of}
-use Rattle.ftp_pair_parts.specs.Shown.{Steps}
-use Rattle.ftp_pair_parts.specs.declared.event.Event.{Event}
-use Rattle.ftp_pair_parts.specs.declared.event.Event.TheVariants as Given
-use Rattle.ftp_pair_settling.proofs.Steady.{stays_steady}
-use Rattle.ftp_pair_settling.specs.Steady.{IsSteady}
+use Rattle.laws_world.specs.Claims.{Beginning, IsFair, IsTimed, AreTimed, world_of}
+use Rattle.laws_world.specs.Events.{Happens}
+use Rattle.laws_world.specs.Events as events
+use Rattle.laws_world.specs.World.{World}
+use Rattle.ftp_pair_events.specs.events.Happening.{IsSmall, Stirs, event_of}
+use Rattle.ftp_pair_events.specs.events.Shown.{Steps}
+use Rattle.ftp_pair_events.specs.declared.events.event.Event.{Event}
+use Rattle.ftp_pair_events.specs.declared.events.event.Event.TheVariants as Given
+use Rattle.laws_settling.proofs.Steady.{stays_steady}
+use Rattle.laws_settling.specs.Steady.{IsSteady}
 use Rattle.ftp_pair.specs.Session.{AgreesHere, Seen, Reached, IsReached}
 use Rattle.ftp_server_model.proofs.LinesDecided.{reading_exists}
-use Rattle.ftp_pair_agreement.proofs.Theorems.{agrees-always}
+use Rattle.laws_agreement.proofs.Theorems.{agrees-always}
 use Rattle.ftp_pair.proofs.Running.{leads_last}
 
 -- every event has a moment in range

@@ -7,10 +7,10 @@ use Rattle.std.specs.Iterator.{Yields}
 use Rattle.std.specs.Vec.Iter.{into_iter_items, into_iter_steps}
 use Rattle.std.specs.declared.vec.IntoIter.{IntoIter}
 use Rattle.ftp_server_model.specs.Machine.{Reading}
-use Rattle.ftp_pair_world.specs.Agreement.{Leads, Order, begun_by}
-use Rattle.ftp_pair_world.specs.Events.{Event, Happens, can_happen}
-use Rattle.ftp_pair_world.specs.World.{World}
-use Rattle.ftp_pair_parts.specs.Shown.{Steps}
+use Rattle.laws_world.specs.Agreement.{Leads, Order, begun_by}
+use Rattle.laws_world.specs.Events.{Event, Happens, can_happen}
+use Rattle.laws_world.specs.World.{World}
+use Rattle.ftp_pair_events.specs.events.Shown.{Steps}
 use Rattle.ftp_pair.specs.Session.{AreIdle, Seen, LeadsCalmly, LeadsPartly}
 
 -- one event more

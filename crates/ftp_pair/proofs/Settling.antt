@@ -1,15 +1,15 @@
 -- How settling ends: where nothing failed each turn lowers the world's height, and else a count of turns.
 use Rattle.std.proofs.Common.{◌≡◌, ◌∙◌, ℕ, ◌+◌, ◌-◌, ◌<◌, Bool, true, false, List, [], ◌∷◌, ◌++◌, refl, sym, ap, subst, arith}
 use Rattle.std.specs.Prelude.{if◌then◌else◌}
-use Rattle.ftp_pair_settling.specs.Steady.{IsSteady}
-use Rattle.ftp_pair_settling.specs.Turns.{IsTurn, Turned}
-use Rattle.ftp_pair_settling.proofs.Looping.{falls, tall}
+use Rattle.laws_settling.specs.Steady.{IsSteady}
+use Rattle.laws_settling.specs.Turns.{IsTurn, Turned}
+use Rattle.laws_settling.proofs.Looping.{falls, tall}
 use Rattle.ftp_server_model.specs.Machine.{Reading}
-use Rattle.ftp_pair_world.specs.Agreement.{Leads, Order, begun_by}
-use Rattle.ftp_pair_world.specs.Events as events
-use Rattle.ftp_pair_world.specs.Events.{Event, Happens}
-use Rattle.ftp_pair_world.specs.World.{World}
-use Rattle.ftp_pair_parts.specs.Happening.{IsSmall, Stirs}
+use Rattle.laws_world.specs.Agreement.{Leads, Order, begun_by}
+use Rattle.laws_world.specs.Events as events
+use Rattle.laws_world.specs.Events.{Event, Happens}
+use Rattle.laws_world.specs.World.{World}
+use Rattle.ftp_pair_events.specs.events.Happening.{IsSmall, Stirs}
 use Rattle.ftp_pair.specs.Session.{AreSmall, LeadsSmall, Seen}
 
 -- a small event is a turn

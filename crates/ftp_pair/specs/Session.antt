@@ -3,14 +3,14 @@ use Rattle.std.specs.Prelude.{◌≡◌, ℕ, ◌+◌, ◌<◌, ◌^◌, Bool, t
 use Rattle.ftp_client_model.specs.Failing.{Client}
 use Rattle.ftp_server_model.specs.Far.{Server}
 use Rattle.ftp_server_model.specs.Machine.{Reading, IsReading}
-use Rattle.ftp_pair_world.specs.Agreement.{AreHonest, AreSingle, IsDirect, Leads, Order, WorldAgrees}
-use Rattle.ftp_pair_world.specs.Claims.{Beginning, IsAnswered, IsFair, AreTimed, state_of, world_of}
-use Rattle.ftp_pair_world.specs.Events.{Event, IsQuiet, can_happen}
-use Rattle.ftp_pair_world.specs.World.{World}
-use Rattle.ftp_pair_parts.specs.Calm.{Keeps, Tally, most_in, tally_of}
-use Rattle.ftp_pair_parts.specs.Happening.{IsSmall}
-use Rattle.ftp_pair_parts.specs.Shown.{shown}
-use Rattle.ftp_pair_parts.specs.declared.parts.Parts.{Parts}
+use Rattle.laws_world.specs.Agreement.{AreHonest, AreSingle, IsDirect, Leads, Order, WorldAgrees}
+use Rattle.laws_world.specs.Claims.{Beginning, IsAnswered, IsFair, AreTimed, state_of, world_of}
+use Rattle.laws_world.specs.Events.{Event, IsQuiet, can_happen}
+use Rattle.laws_world.specs.World.{World}
+use Rattle.ftp_pair_events.specs.events.Calm.{Keeps, Tally, most_in, tally_of}
+use Rattle.ftp_pair_events.specs.events.Happening.{IsSmall}
+use Rattle.ftp_pair_events.specs.events.Shown.{shown}
+use Rattle.ftp_pair_events.specs.declared.events.parts.Parts.{Parts}
 
 -- a world, whether nothing failed in it so far: no end was refused memory, and no device failed; and what both ends have counted of that
 pub record Seen : Type 0 where

@@ -5,7 +5,6 @@ mod settle;
 mod world;
 
 pub use ftp_client_model::Near;
-pub use ftp_pair_lanes::{Control, Link, Mark, Queue};
-pub use ftp_pair_parts::Event;
+pub use ftp_pair_events::{Control, Event, Link, Mark, Queue};
 pub use ftp_server_model::{Far, SureFar};
 pub use world::World;

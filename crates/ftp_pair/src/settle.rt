@@ -1,8 +1,8 @@
 // A world that comes to rest by itself.
 ghost use Rattle.std.specs.Prelude.{◌≡◌, ◌<◌, ◌-◌, true, false, if◌then◌else◌};
-ghost use Rattle.ftp_pair_settling.specs.Steady.{IsSteady};
-ghost use Rattle.ftp_pair_world.specs.Still.{IsStill};
-ghost use Rattle.ftp_pair_parts.specs.Happening.{Stirs};
+ghost use Rattle.laws_settling.specs.Steady.{IsSteady};
+ghost use Rattle.laws_world.specs.Still.{IsStill};
+ghost use Rattle.ftp_pair_events.specs.events.Happening.{Stirs};
 ghost use Rattle.ftp_pair.specs.Session.{Counted, KeepsCalm, LeadsSmall, SettlesAfter};
 
 use crate::world::World;

@@ -2,19 +2,18 @@
 ghost use Rattle.std.specs.Prelude.{◌≡◌, ◌∷◌, [], true, false, length, map, nat_eq, option_map, IfErr, IfOk, OnErr, OnOk};
 ghost use Rattle.std.specs.List.{slice_get};
 ghost use Rattle.ftp_operation.specs.Answer.{said_of};
-ghost use Rattle.ftp_pair_world.specs.Agreement.{begun_by};
-ghost use Rattle.ftp_pair_world.specs.Claims.{Beginning, IsFair, world_of};
-ghost use Rattle.ftp_pair_world.specs.Events.{Happens, IsQuiet, can_happen};
-ghost use Rattle.ftp_pair_world.specs.World.{world};
-ghost use Rattle.ftp_pair_parts.specs.Calm.{most_in};
-ghost use Rattle.ftp_pair_parts.specs.Happening.{event_of};
-ghost use Rattle.ftp_pair_parts.specs.Shown.{HasRoom, Steps, mark_of};
+ghost use Rattle.laws_world.specs.Agreement.{begun_by};
+ghost use Rattle.laws_world.specs.Claims.{Beginning, IsFair, world_of};
+ghost use Rattle.laws_world.specs.Events.{Happens, IsQuiet, can_happen};
+ghost use Rattle.laws_world.specs.World.{world};
+ghost use Rattle.ftp_pair_events.specs.events.Calm.{most_in};
+ghost use Rattle.ftp_pair_events.specs.events.Happening.{event_of};
+ghost use Rattle.ftp_pair_events.specs.events.Shown.{HasRoom, Steps, mark_of};
 ghost use Rattle.ftp_pair.specs.Session.{AgreesAfter, AgreesBy, AgreesHere, AreIdle, Counted, IsReached, KeepsCalmBy, LeadsCalmly, LeadsPartly, Reached, seen};
 
 use ftp_client_model::Near;
 use ftp_operation::Answer;
-use ftp_pair_lanes::Mark;
-use ftp_pair_parts::{Event, Parts};
+use ftp_pair_events::{Event, Mark, Parts};
 use ftp_server_model::SureFar;
 use ftp_tree::Tree;
 use std::alloc::{AllocError, Allocator};
@@ -29,7 +28,7 @@ pub struct World<A: Allocator + Copy, T: Tree<A>, N: Near<A>, F: SureFar<A, T>> 
 }
 
 impl<A: Allocator + Copy, T: Tree<A>, N: Near<A>, F: SureFar<A, T>> Model for World<A, T, N, F> {
-    ghost use Rattle.ftp_pair_parts.specs.Shown.{HasRoom};
+    ghost use Rattle.ftp_pair_events.specs.events.Shown.{HasRoom};
     ghost use Rattle.ftp_pair.specs.Session.{Seen, seen};
     ghost use Rattle.std.specs.Coded.{codes};
     ghost use Rattle.ftp_tree.specs.Rows.{table_code};

@@ -3,7 +3,7 @@ use Rattle.std.proofs.Common.{◌≡◌, ℕ, List, [], ◌∷◌, ◌++◌, map
 use Rattle.std.specs.List.{flat_map}
 use Rattle.std.proofs.lemmas.Bool.{eqb-true}
 use Rattle.std.proofs.lemmas.List.Concat.{flat_map-append}
-use Rattle.ftp_cutting.specs.Machine.{gives, IsFront}
+use Rattle.ftp_pieces.specs.Machine.{gives, IsFront}
 use Rattle.ftp_repr.specs.Ascii.{asc, plain}
 use Rattle.ftp_repr.specs.Signs.{Sign, octet, end_record, end_file, wire_octets, wire_row, octet_signs, signs_of}
 use Rattle.ftp_settings.specs.Representation.{Form}
@@ -14,7 +14,7 @@ use Rattle.ftp_settings.specs.declared.representation.Kind.TheVariants.{Ascii, I
 use Rattle.ftp_settings.specs.declared.representation.Structure.{Structure}
 use Rattle.ftp_settings.specs.declared.representation.Structure.TheVariants.{File, Record}
 use Rattle.ftp_repr.proofs.AsciiLemmas.{decided, plain-nil, plain-asc}
-use Rattle.ftp_cutting.proofs.MachineLemmas.{gives-front}
+use Rattle.ftp_pieces.proofs.MachineLemmas.{gives-front}
 use Rattle.ftp_repr.proofs.SignLemmas.{signs_of-cons}
 use Rattle.ftp_repr.proofs.TakingLemmas.{ascii_row, held_after, row_free, whole_free, row_more, held_more}
 

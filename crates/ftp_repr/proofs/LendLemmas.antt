@@ -4,8 +4,8 @@ use Rattle.std.specs.List.{AllByRecursion}
 use Rattle.std.proofs.lemmas.Bool.{eqb-true}
 use Rattle.std.proofs.lemmas.List.{map-append, length-map, length-take-le, take-append-drop, take-map, take-take, drop-map}
 use Rattle.std.proofs.Math.Seq.{take-length}
-use Rattle.ftp_cutting.specs.Machine.{after, gives}
-use Rattle.ftp_cutting.proofs.MachineLemmas.{after-append, gives-append}
+use Rattle.ftp_pieces.specs.Machine.{after, gives}
+use Rattle.ftp_pieces.proofs.MachineLemmas.{after-append, gives-append}
 use Rattle.ftp_settings.specs.Representation.{Form}
 use Rattle.ftp_repr.specs.Signs.{Sign, octet}
 use Rattle.ftp_repr.specs.Items.{signs}

@@ -1,7 +1,7 @@
 -- Runs of octets that a reader of signs takes as they are.
 use Rattle.std.proofs.Common.{◌≡◌, ℕ, zero, suc, ◌<◌, ◌≤◌, List, [], ◌∷◌, ◌++◌, Bool, true, false, ◌==◌, length, take, get_or, map, refl, ap, sym, subst, ◌∙◌, arith}
 use Rattle.std.specs.List.{AllByRecursion}
-use Rattle.ftp_cutting.specs.Machine.{after, gives}
+use Rattle.ftp_pieces.specs.Machine.{after, gives}
 use Rattle.ftp_repr.specs.Signs.{Sign, octet}
 use Rattle.ftp_settings.specs.Representation.{Form}
 use Rattle.ftp_repr.specs.Receiving.{Taking, receiving}

@@ -1,6 +1,6 @@
 -- The reader of signs.
 use Rattle.std.specs.Prelude.{ℕ, List, [], ◌∷◌, ◌++◌, Bool, true, false, if◌then◌else◌, ◌==◌}
-use Rattle.ftp_cutting.specs.Machine.{Machine}
+use Rattle.ftp_pieces.specs.Machine.{Machine}
 use Rattle.ftp_repr.specs.Signs.{Sign, octet, end_record, end_file}
 use Rattle.ftp_settings.specs.Representation.{Form}
 use Rattle.ftp_settings.specs.declared.representation.Kind.{Kind}

@@ -2,7 +2,7 @@
 
 ghost use Rattle.std.specs.Prelude.{◌≡◌, ◌≢◌, ◌↔◌, ◌++◌, ℕ, List, [], ◌∷◌, map, length, Bool};
 ghost use Rattle.std.specs.List.{flat_map};
-ghost use Rattle.ftp_cutting.specs.Machine.{IsFront, gives};
+ghost use Rattle.ftp_pieces.specs.Machine.{IsFront, gives};
 ghost use Rattle.ftp_repr.specs.Ascii.{IsAscii, asc, plain, settled};
 ghost use Rattle.ftp_repr.specs.Signs.{Sign, octet, end_file, signs_of, wire_row};
 ghost use Rattle.ftp_settings.specs.Representation.{Form};

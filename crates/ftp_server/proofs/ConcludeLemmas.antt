@@ -6,8 +6,8 @@ use Rattle.ftp_tree.specs.Tree.{Table}
 use Rattle.ftp_server_model.specs.View.{Session}
 use Rattle.ftp_server_model.specs.Machine.{Ending}
 use Rattle.ftp_server_model.specs.declared.reply.FixedReply.{FixedReply}
-use Rattle.ftp_server_parts.specs.ServerTransfer.{Ends}
-use Rattle.ftp_server_parts.specs.declared.fault.Fault.{Fault}
+use Rattle.ftp_server_replies.specs.ServerTransfer.{Ends}
+use Rattle.ftp_server_replies.specs.declared.fault.Fault.{Fault}
 use Rattle.ftp_server_session.specs.Receiving.{Concludes}
 
 pub concludes : (ending : Ending) (s : Session) (table : Table) (result : Result FixedReply Fault) (before after : Failures)

@@ -4,9 +4,9 @@ use Rattle.ftp_direct.specs.Run.{moved_on}
 use Rattle.ftp_tree.specs.Change.{Failures, IsSteady}
 use Rattle.ftp_server_model.specs.Counting.{CountsOn, MovesOn, TellsSome}
 use Rattle.ftp_server_model.specs.Failing.{Counts}
-use Rattle.ftp_server_parts.specs.Fault.{Counted}
-use Rattle.ftp_server_parts.specs.declared.fault.Fault.{Fault}
-use Rattle.ftp_server_parts.specs.declared.fault.Fault.TheVariants.{Memory, Device}
+use Rattle.ftp_server_replies.specs.Fault.{Counted}
+use Rattle.ftp_server_replies.specs.declared.fault.Fault.{Fault}
+use Rattle.ftp_server_replies.specs.declared.fault.Fault.TheVariants.{Memory, Device}
 
 -- a device that told no failure
 pub none_told : (most : ℕ) (before after : Failures) → IsSteady before after → TellsSome most before after

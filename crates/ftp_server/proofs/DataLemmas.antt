@@ -2,7 +2,7 @@
 use Rattle.std.proofs.Common.{◌≡◌, ◌≢◌, ◌⊎◌, inl, inr, ℕ, List, true, false, Result, Ok, Err, OnOk, OnErr, refl, sym, ap, subst, ◌∙◌}
 use Rattle.std.specs.Result.{is_err}
 use Rattle.ftp_ends.specs.declared.link.Wants.TheVariants as Want
-use Rattle.ftp_server_parts.specs.ServerTransfer.{takes_octets}
+use Rattle.ftp_server_replies.specs.ServerTransfer.{takes_octets}
 use Rattle.ftp_server_model.specs.Calls.{wants_of}
 use Rattle.ftp_server_model.specs.Endpoint.{disconnected}
 use Rattle.ftp_server_model.specs.Counting.{CountsOn, TellsSome}
@@ -14,8 +14,8 @@ use Rattle.ftp_server_model.specs.declared.session.ServerLink.{ServerLink}
 use Rattle.ftp_server_model.specs.declared.session.ServerLink.TheVariants as Data
 use Rattle.ftp_server_model.specs.declared.session.Transfer.TheVariants as Transfers
 use Rattle.ftp_server_session.specs.Receiving.{ComesIn}
-use Rattle.ftp_server_parts.specs.declared.transfer.Told.{Told}
-use Rattle.ftp_server_parts.specs.declared.transfer.Told.TheVariants.{Nothing, Mark, Faulty, NoMemory}
+use Rattle.ftp_server_replies.specs.declared.transfer.Told.{Told}
+use Rattle.ftp_server_replies.specs.declared.transfer.Told.TheVariants.{Nothing, Mark, Faulty, NoMemory}
 use Rattle.ftp_server.specs.Breaking.{InstallIsLost}
 use Rattle.ftp_server.specs.Data.{IsSaid, ReceivesTo, SayingFails}
 use Rattle.ftp_server.proofs.CallLemmas.{on_course}

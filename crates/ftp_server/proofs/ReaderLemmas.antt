@@ -3,8 +3,8 @@ use Rattle.std.proofs.Common.{◌≡◌, ℕ, ◌<◌, ◌≤◌, List, [], ◌�
 use Rattle.std.proofs.Math.Logic.{∥∥₁_prop, ∥∥₁_elim}
 use Rattle.std.proofs.Props.{props}
 use Rattle.std.proofs.lemmas.List.{append_cancel_left}
-use Rattle.ftp_cutting.specs.Machine.{after, gives}
-use Rattle.ftp_cutting.proofs.MachineLemmas.{after-append, gives-append}
+use Rattle.ftp_pieces.specs.Machine.{after, gives}
+use Rattle.ftp_pieces.proofs.MachineLemmas.{after-append, gives-append}
 use Rattle.ftp_nvt.specs.Ear.{Hears, limit_of}
 use Rattle.ftp_nvt.specs.Fold.{Ear, quiet, ear, ear_of, ear_step, ear_out}
 use Rattle.ftp_nvt.specs.Lines.{NvtEvent, events}

@@ -7,7 +7,7 @@ use Rattle.ftp_command.specs.declared.command.Command.{Command}
 use Rattle.ftp_command.specs.declared.value.Value.{Value}
 use Rattle.ftp_command.specs.declared.value.Value.TheVariants as value
 use Rattle.ftp_path.specs.Login.{login_limit}
-use Rattle.ftp_cutting.specs.Machine.{after}
+use Rattle.ftp_pieces.specs.Machine.{after}
 use Rattle.ftp_nvt.specs.Ear.{event_list, limit_of}
 use Rattle.ftp_nvt.specs.Fold.{Ear, quiet, ear, ear_of, ear_step, ear_out}
 use Rattle.ftp_nvt.specs.declared.ear.Ear.{Ear as Reader}
@@ -18,7 +18,7 @@ use Rattle.ftp_server_model.specs.View.{line_limit}
 use Rattle.ftp_server_model.specs.declared.heard.HeardLine.TheVariants.{Asks}
 use Rattle.ftp_ends.specs.Limits.{IsShortLine}
 use Rattle.ftp_ends.proofs.ReadLemmas.{AreShortEvents, ear_says, ear_short, none_short}
-use Rattle.ftp_server_laws.proofs.SaidLemmas.{heard_short}
+use Rattle.laws_server.proofs.one.SaidLemmas.{heard_short}
 use Rattle.ftp_server.specs.Busy.{MayWait, name_len}
 use Rattle.ftp_server_session.specs.Little.{value_name_len}
 use Rattle.ftp_server.specs.Hearing.{HasHeardSome}

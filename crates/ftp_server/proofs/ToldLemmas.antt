@@ -21,8 +21,8 @@ use Rattle.ftp_server_model.specs.declared.session.ServerLink.{ServerLink}
 use Rattle.ftp_server_model.specs.declared.session.ServerLink.TheVariants as Data
 use Rattle.ftp_server_model.specs.declared.session.Transfer.TheVariants as Transfers
 use Rattle.ftp_server_model.specs.declared.session.Pending.TheVariants as Pendings
-use Rattle.ftp_server_parts.specs.declared.transfer.Told.{Told}
-use Rattle.ftp_server_parts.specs.declared.transfer.Told.TheVariants.{Nothing, Mark, Faulty, NoMemory}
+use Rattle.ftp_server_replies.specs.declared.transfer.Told.{Told}
+use Rattle.ftp_server_replies.specs.declared.transfer.Told.TheVariants.{Nothing, Mark, Faulty, NoMemory}
 use Rattle.ftp_server_session.specs.Receiving.{ComesIn}
 use Rattle.ftp_server_model.specs.Machine.{with_session}
 use Rattle.ftp_server.specs.Data.{TellsSaid, refused}
@@ -56,7 +56,7 @@ given_waits (Data.Opening transfer way) v = refl
 obeyed_waits : (heard : HeardLine (List ℕ)) (v : View) → (obeyed heard v).waiting ≡ v.waiting
 unfolding obeyed
 obeyed_waits heard v =
-    let w = turned (decided v.footing heard v.session.pending (record v.session { pending = Pendings.Nothing })) v in
+    let w = turned (decided v.context heard v.session.pending (record v.session { pending = Pendings.Nothing })) v in
     given_waits w.session.connection w
 
 -- where no line waits, nothing is acted on
@@ -242,12 +242,12 @@ no_line_acted_on told v octets on = by v.waiting refl
 record GoesOn (v z : View) : Type 0 where
   upload : is_upload z.session.connection ≡ true
   others : forgotten z.session ≡ forgotten v.session
-  footing : z.footing ≡ v.footing
+  context : z.context ≡ v.context
 
 -- it ended
 record IsOver (v z : View) : Type 0 where
   session : z.session ≡ forgotten v.session
-  footing : z.footing ≡ v.footing
+  context : z.context ≡ v.context
 
 standing : (c : ServerLink Transfer) → is_upload c ≡ true → is_standing c ≡ true
 standing (Data.Transferring transfer) is = refl
@@ -272,7 +272,7 @@ another : (c : ServerLink Transfer) (v x : View) → is_upload c ≡ true → Go
 another c v x is on = record {
   upload = is;
   others = ap (λ b. record x.session { connection = Data.Free; closing = x.session.closing || b }) (standing c is ∙ sym (standing x.session.connection on.upload)) ∙ on.others;
-  footing = on.footing;
+  context = on.context;
 }
 
 grown_on : (path : Names) (keep : Keep) (d : Decoder) (s : Session) → is_upload (grown path keep d s) ≡ true
@@ -285,7 +285,7 @@ grown_on path keep d s = by (is_over path keep d s)
 said_on : (c : ServerLink Transfer) (said : Said) (v x : View) → is_upload c ≡ true → GoesOn v x → GoesOn v (takes_said c said x)
 said_on (Data.Transferring (Transfers.Upload path keep d)) (says sign) v x is on = another (grown path keep (with_sign d sign) x.session) v x (grown_on path keep (with_sign d sign) x.session) on
 said_on (Data.Transferring (Transfers.Upload path keep d)) (marker text) v x is on =
-    let more = another (Data.Transferring (Transfers.Upload path keep d)) v x refl on in record { upload = refl; others = more.others; footing = more.footing }
+    let more = another (Data.Transferring (Transfers.Upload path keep d)) v x refl on in record { upload = refl; others = more.others; context = more.context }
 said_on (Data.Transferring Transfers.OverLimit) said v x is on = on
 said_on (Data.Transferring (Transfers.Download rest)) said v x is on = on
 said_on (Data.Transferring (Transfers.Listing rest)) said v x is on = on
@@ -306,13 +306,13 @@ octet_on true c octet v same is = absurd (let wrong : false ≡ true = is in cc)
 octet_on false (Data.Transferring (Transfers.Upload path keep d)) octet v same is = by (fault_of (read_on d octet))
   where
     here : GoesOn v v
-    here = record { upload = ap is_upload same; others = refl; footing = refl }
+    here = record { upload = ap is_upload same; others = refl; context = refl }
 
     by : (fault : Option FrameFault) → GoesOn v (takes_octet fault path keep (read_on d octet) (octet_says d octet) v) ⊎ IsOver v (takes_octet fault path keep (read_on d octet) (octet_says d octet) v)
     by None = inl (all_on (octet_says d octet) v (with_connection (Data.Transferring (Transfers.Upload path keep (read_on d octet))) v)
         (another (Data.Transferring (Transfers.Upload path keep (read_on d octet))) v v refl here))
-    by (Some fault) = inr (record { session = refl; footing = refl })
-octet_on false (Data.Transferring Transfers.OverLimit) octet v same is = inl (record { upload = ap is_upload same; others = refl; footing = refl })
+    by (Some fault) = inr (record { session = refl; context = refl })
+octet_on false (Data.Transferring Transfers.OverLimit) octet v same is = inl (record { upload = ap is_upload same; others = refl; context = refl })
 octet_on false (Data.Transferring (Transfers.Download rest)) octet v same is = absurd (let wrong : false ≡ true = is in cc)
 octet_on false (Data.Transferring (Transfers.Listing rest)) octet v same is = absurd (let wrong : false ≡ true = is in cc)
 octet_on false Data.Free octet v same is = absurd (let wrong : false ≡ true = is in cc)
@@ -345,10 +345,10 @@ free_takes_none v s is may =
     by true = refl
     by false = refl
 
--- a line is told by the footing and the session alone
-same_told : (heard : HeardLine (List ℕ)) (v w : View) → v.session ≡ w.session → v.footing ≡ w.footing → told_of heard v ≡ told_of heard w
-same_told heard v w session footing =
-    ap (λ f. told_of heard (record v { footing = f })) footing ∙ ap (λ s. told_of heard (record v { footing = w.footing; session = s })) session
+-- a line is told by the context and the session alone
+same_told : (heard : HeardLine (List ℕ)) (v w : View) → v.session ≡ w.session → v.context ≡ w.context → told_of heard v ≡ told_of heard w
+same_told heard v w session context =
+    ap (λ f. told_of heard (record v { context = f })) context ∙ ap (λ s. told_of heard (record v { context = w.context; session = s })) session
 
 -- where nothing of what waits was acted on, it waits on
 not_idle : (Y : View) (heard : HeardLine (List ℕ)) → Y.waiting ≡ Some heard → (later Y).waiting ≡ Some heard → later_heard Y ≡ None
@@ -368,9 +368,9 @@ acted_on Y heard waits on = by (is_idle Y) refl
 
 -- octets of which the last ended the upload by a fault: what is acted on is what waits behind that
 ended_told : (told : Option Heard) (v Y : View) (octets : List ℕ) (heard : HeardLine (List ℕ)) → v.waiting ≡ Some heard → Y.waiting ≡ Some heard → Y.session ≡ forgotten v.session
-    → Y.footing ≡ v.footing → MayReceive v octets → receives v octets ≡ later Y → heard_received told v octets ≡ latest told (later_heard Y)
-ended_told told v Y [] heard waits there session footing may is = sym (ap (latest told) (not_idle Y heard there (ap (λ w. w.waiting) (sym is) ∙ waits)))
-ended_told told v Y (c ∷ cs) heard waits there session footing may is =
+    → Y.context ≡ v.context → MayReceive v octets → receives v octets ≡ later Y → heard_received told v octets ≡ latest told (later_heard Y)
+ended_told told v Y [] heard waits there session context may is = sym (ap (latest told) (not_idle Y heard there (ap (λ w. w.waiting) (sym is) ∙ waits)))
+ended_told told v Y (c ∷ cs) heard waits there session context may is =
     by (ended_told told (by_octet v c) Y cs heard (octet_waits v c ∙ waits) there) (one_octet v c may.0)
   where
     z : View
@@ -397,27 +397,27 @@ ended_told told v Y (c ∷ cs) heard waits there session footing may is =
         let acted = ap (λ w. w.waiting) (octet_later v c) ∙ l.0 in
         let rest = none_received (Some (told_of heard z)) (receives_octet v c) cs acted in
         ap (λ t. heard_received (latest told t) (receives_octet v c) cs) l.1 ∙ rest.0
-        ∙ ap (λ t. Some t) (same_told heard z Y (ended.session ∙ sym session) (ended.footing ∙ sym footing))
+        ∙ ap (λ t. Some t) (same_told heard z Y (ended.session ∙ sym session) (ended.context ∙ sym context))
         ∙ sym (ap (latest told) (acted_on Y heard there (ap (λ w. w.waiting) (sym is) ∙ rest.1)))
     over [] false same ended busy =
         on busy ∙ ap (heard_received told z) same
         ∙ sym (ap (latest told) (not_idle Y heard there (ap (λ w. w.waiting) (sym (there_on busy) ∙ ap (receives z) same) ∙ still)))
     over (o ∷ os) false same ended busy = absurd (free_takes_none z v.session ended.session (subst (MayReceive z) same (may_on busy)).0)
 
-    by : (Y.session ≡ forgotten z.session → Y.footing ≡ z.footing → MayReceive z cs → receives z cs ≡ later Y → heard_received told z cs ≡ latest told (later_heard Y))
+    by : (Y.session ≡ forgotten z.session → Y.context ≡ z.context → MayReceive z cs → receives z cs ≡ later Y → heard_received told z cs ≡ latest told (later_heard Y))
         → GoesOn v z ⊎ IsOver v z → heard_received told v (c ∷ cs) ≡ latest told (later_heard Y)
     by rest (inl goes) =
         let busy = upload_is_busy z goes.upload in
-        on busy ∙ rest (session ∙ sym goes.others) (footing ∙ sym goes.footing) (may_on busy) (there_on busy)
+        on busy ∙ rest (session ∙ sym goes.others) (context ∙ sym goes.context) (may_on busy) (there_on busy)
     by rest (inr ended) = over cs (is_idle z) refl ended refl
 
-pub fault_is_told : (told : Option Heard) (v Y : View) (octets : List ℕ) → Y.waiting ≡ v.waiting → Y.session ≡ forgotten v.session → Y.footing ≡ v.footing → MayReceive v octets
+pub fault_is_told : (told : Option Heard) (v Y : View) (octets : List ℕ) → Y.waiting ≡ v.waiting → Y.session ≡ forgotten v.session → Y.context ≡ v.context → MayReceive v octets
     → receives v octets ≡ later Y → heard_received told v octets ≡ latest told (later_heard Y)
-fault_is_told told v Y octets waiting session footing may is = by v.waiting refl
+fault_is_told told v Y octets waiting session context may is = by v.waiting refl
   where
     by : (w : Option (HeardLine (List ℕ))) → v.waiting ≡ w → heard_received told v octets ≡ latest told (later_heard Y)
     by None none = (none_received told v octets none).0 ∙ sym (ap (latest told) (none_later Y (waiting ∙ none)).1)
-    by (Some heard) waits = ended_told told v Y octets heard waits (waiting ∙ waits) session footing may is
+    by (Some heard) waits = ended_told told v Y octets heard waits (waiting ∙ waits) session context may is
 
 -- what came, and what was then said of it
 pub said_told : (told : Told) (octets : List ℕ) (v : View) (s : Session) (before after : Option Heard) → ComesIn v octets told s

@@ -7,8 +7,8 @@ use Rattle.ftp_server_model.specs.Machine.{later, owes, replied}
 use Rattle.ftp_server_model.specs.Replies.{mark_reply, reply_octets}
 use Rattle.ftp_server_model.specs.View.{View}
 use Rattle.ftp_server_model.specs.declared.reply.FixedReply.TheVariants as Texts
-use Rattle.ftp_server_parts.specs.declared.transfer.Told.{Told}
-use Rattle.ftp_server_parts.specs.declared.transfer.Told.TheVariants.{Nothing, Mark, Faulty, NoMemory}
+use Rattle.ftp_server_replies.specs.declared.transfer.Told.{Told}
+use Rattle.ftp_server_replies.specs.declared.transfer.Told.TheVariants.{Nothing, Mark, Faulty, NoMemory}
 
 -- they are taken as ever, each when it may be
 abbrev pub ReceivesTo : List ℕ → View → View → Type 0

@@ -2,7 +2,7 @@
 use Rattle.ftp_nvt.specs.Fold.{ear_of}
 use Rattle.ftp_tree.specs.Change.{Failures, NoStray}
 use Rattle.ftp_tree.specs.Tree.{Table}
-use Rattle.ftp_server_session.specs.Session.{footing_of, session_of}
+use Rattle.ftp_server_session.specs.Session.{context_of, session_of}
 use Rattle.ftp_server_model.specs.Failing.{Counts}
 use Rattle.ftp_server_model.specs.Far.{Server}
 use Rattle.ftp_server_model.specs.View.{Transfer, View}
@@ -11,7 +11,7 @@ use Rattle.ftp_server.specs.declared.server.Server.{Server as Held}
 -- what it holds, by how its tree and its transfer are seen
 abbrev pub view_of : {A T J : Type 0} → (T → Table) → (J → Transfer) → Held A T J → View
 view_of table view server = record {
-  footing = footing_of server.footing;
+  context = context_of server.context;
   session = session_of table view server.session;
   ear = ear_of server.reader.ear;
   waiting = server.waiting;

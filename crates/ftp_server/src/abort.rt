@@ -53,7 +53,7 @@ impl<A: Allocator + Copy, T: Tree<A>, J: ServerTransfer<A, T>> Server<A, T, J> {
         }
         match self.take_connection() {
             ServerLink::Transferring(transfer) => {
-                match at_break(&mut self.session, self.footing.moment, transfer) {
+                match at_break(&mut self.session, self.context.moment, transfer) {
                     Ok(text) => {
                         self.output.put_fixed(text);
                         Ok(())

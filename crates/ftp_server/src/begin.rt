@@ -8,8 +8,8 @@ use ftp_endpoint::Host;
 use ftp_facts::Moment;
 use ftp_operation::Accounts;
 use ftp_server_model::FixedReply;
-use ftp_server_parts::Output;
-use ftp_server_session::{Footing, ServerTransfer, Session};
+use ftp_server_replies::Output;
+use ftp_server_session::{Context, ServerTransfer, Session};
 use ftp_tree::Tree;
 use std::alloc::Allocator;
 use std::error::Error;
@@ -60,7 +60,7 @@ impl<A: Allocator + Copy, T: Tree<A>, J: ServerTransfer<A, T>> Server<A, T, J> {
         };
         output.put_fixed(FixedReply::Ready);
         Ok(Server {
-            footing: Footing {
+            context: Context {
                 accounts,
                 here,
                 peer,

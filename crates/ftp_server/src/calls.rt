@@ -80,7 +80,7 @@ impl<A: Allocator + Copy, T: Tree<A>, J: ServerTransfer<A, T>> Server<A, T, J> {
         // Where no line waits that is all, and the tree's device is not asked.
         ensures alone { let old = server_of T.table T.failures J.view self.old in old.view.waiting ≡ None → server_of T.table T.failures J.view self.new ≡ record old { view = clock_step moment.seconds old.view } }
     {
-        self.footing.moment = moment;
+        self.context.moment = moment;
         self.settle();
     }
 

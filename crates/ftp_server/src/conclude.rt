@@ -1,13 +1,13 @@
 // How a transfer ends that was taken out of its session (RFC 959, section 3.4).
 ghost use Rattle.std.specs.Prelude.{◌≡◌, OnErr};
 ghost use Rattle.ftp_server_model.specs.Machine.{at_break, at_end};
-ghost use Rattle.ftp_server_parts.specs.ServerTransfer.{IsUpload};
+ghost use Rattle.ftp_server_replies.specs.ServerTransfer.{IsUpload};
 ghost use Rattle.ftp_server_session.specs.Receiving.{Concludes};
 ghost use Rattle.ftp_server_session.specs.Session.{session_of};
 
 use ftp_facts::Moment;
 use ftp_server_model::FixedReply;
-use ftp_server_parts::Fault;
+use ftp_server_replies::Fault;
 use ftp_server_session::{ServerTransfer, Session};
 use ftp_tree::Tree;
 use std::alloc::Allocator;

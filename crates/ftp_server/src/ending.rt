@@ -35,7 +35,7 @@ impl<A: Allocator + Copy, T: Tree<A>, J: ServerTransfer<A, T>> Server<A, T, J> {
         match self.leave() {
             ServerLink::Ready => Ok(()),
             ServerLink::Transferring(transfer) => {
-                match at_end(&mut self.session, self.footing.moment, transfer) {
+                match at_end(&mut self.session, self.context.moment, transfer) {
                     Ok(text) => {
                         self.output.put_fixed(text);
                         Ok(())
@@ -67,7 +67,7 @@ impl<A: Allocator + Copy, T: Tree<A>, J: ServerTransfer<A, T>> Server<A, T, J> {
         match self.leave() {
             ServerLink::Ready => Ok(()),
             ServerLink::Transferring(transfer) => {
-                match at_break(&mut self.session, self.footing.moment, transfer) {
+                match at_break(&mut self.session, self.context.moment, transfer) {
                     Ok(text) => {
                         self.output.put_fixed(text);
                         Ok(())

@@ -7,7 +7,7 @@ ghost use Rattle.ftp_server_session.specs.Session.{session_of};
 use ftp_direct::{entry_of, file_at, is_root};
 use ftp_path::Path;
 use ftp_server_model::{FREE_ROOM, OUTPUT_ROOM};
-use ftp_server_parts::Output;
+use ftp_server_replies::Output;
 use ftp_server_session::{ServerTransfer, Session};
 use ftp_tree::Tree;
 use std::alloc::Allocator;

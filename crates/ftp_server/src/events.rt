@@ -27,7 +27,7 @@ impl<A: Allocator + Copy, T: Tree<A>, J: ServerTransfer<A, T>> Server<A, T, J> {
         self.session.connection = ServerLink::Passive;
         match asked {
             PassiveVerb::Pasv => {
-                let host = self.footing.here;
+                let host = self.context.here;
                 self.output.put_passive(Endpoint { host, port });
             }
             PassiveVerb::Epsv => self.output.put_extended(port),
@@ -53,7 +53,7 @@ impl<A: Allocator + Copy, T: Tree<A>, J: ServerTransfer<A, T>> Server<A, T, J> {
         ensures step { view_of T.table J.view self.new ≡ opened_step host (view_of T.table J.view self.old) }
         ensures steady { counts_of T.failures self.new ≡ counts_of T.failures self.old }
     {
-        let is_peer = is_same_host(host, self.footing.peer);
+        let is_peer = is_same_host(host, self.context.peer);
         if !self.session.closing {
             self.connect(is_peer);
         }

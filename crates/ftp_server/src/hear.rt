@@ -19,7 +19,7 @@ use crate::server::Server;
 use ftp_command::{Argument, Command, CommandFault};
 use ftp_nvt::Event;
 use ftp_server_model::{FREE_ROOM, HeardLine, Life, OUTPUT_ROOM, ServerLink};
-use ftp_server_parts::ActedLine;
+use ftp_server_replies::ActedLine;
 use ftp_server_session::ServerTransfer;
 use ftp_tree::Tree;
 use std::alloc::Allocator;

@@ -7,7 +7,7 @@ ghost use Rattle.ftp_server_model.specs.Held.{connection_len, held, session_len,
 
 use crate::server::Server;
 use ftp_server_model::ServerLink;
-use ftp_server_parts::{Counted, access_len, path_len, pending_len, waiting_len};
+use ftp_server_replies::{Counted, access_len, path_len, pending_len, waiting_len};
 use ftp_tree::Tree;
 use std::alloc::Allocator;
 

@@ -7,10 +7,10 @@ ghost use Rattle.ftp_server_session.specs.Session.{connection_of};
 
 use crate::server::Server;
 use ftp_server_model::{ServerLink, Standing};
-use ftp_server_parts::still_stands;
+use ftp_server_replies::still_stands;
 use ftp_server_session::ServerTransfer;
-use ftp_server_several::Lends;
 use ftp_tree::Tree;
+use laws_server::Lends;
 use std::alloc::Allocator;
 use std::mem;
 

@@ -13,7 +13,7 @@ use crate::say::say;
 use crate::server::Server;
 use ftp_command::Argument;
 use ftp_server_model::{FixedReply, HeardLine, ServerLink};
-use ftp_server_parts::{ActedLine, fixed_code, reply_code};
+use ftp_server_replies::{ActedLine, fixed_code, reply_code};
 use ftp_server_session::ServerTransfer;
 use ftp_tree::Tree;
 use std::alloc::Allocator;
@@ -60,7 +60,7 @@ impl<A: Allocator + Copy, T: Tree<A>, J: ServerTransfer<A, T>> Server<A, T, J> {
         ensures few { TellsSome 1 (T.failures self.old.session.tree) (T.failures self.new.session.tree) }
     {
         let told = ActedLine::of(&heard);
-        match self.session.decide(&self.footing, heard) {
+        match self.session.decide(&self.context, heard) {
             Ok(kind) => {
                 say(&mut self.output, &kind, &self.session);
                 self.complete();

@@ -7,14 +7,14 @@ ghost use Rattle.ftp_server.specs.Busy.{HasRoom, MayWait};
 use crate::reader::Reader;
 use ftp_command::Argument;
 use ftp_server_model::HeardLine;
-use ftp_server_parts::{ActedLine, Output};
-use ftp_server_session::{Footing, Session};
+use ftp_server_replies::{ActedLine, Output};
+use ftp_server_session::{Context, Session};
 use std::alloc::Allocator;
 
 /// A server's end of a session: who may log in, the session, the line that is read, the one that waits and the one that was
 /// acted on, and the octets that are owed. `J` is how a transfer is held.
 pub struct Server<A: Allocator + Copy, T: Drop, J: Drop> {
-    pub(crate) footing: Footing<A>,
+    pub(crate) context: Context<A>,
     pub(crate) session: Session<A, T, J>,
     pub(crate) reader: Reader<A>,
     pub(crate) waiting: Option<HeardLine<Argument<A>>>,
@@ -32,7 +32,7 @@ pub struct Server<A: Allocator + Copy, T: Drop, J: Drop> {
 impl<A: Allocator + Copy, T: Drop, J: Drop> Drop for Server<A, T, J> {
     fn drop(self) {
         let Self {
-            footing: _,
+            context: _,
             session: _,
             reader: _,
             waiting: _,
@@ -49,7 +49,7 @@ impl<A: Allocator + Copy, T: Drop, J: Drop> Server<A, T, J> {
         ensures { result ≡ self.session }
     {
         let Self {
-            footing: _,
+            context: _,
             session,
             reader: _,
             waiting: _,

@@ -13,7 +13,7 @@ use ftp_ends::Wants;
 use ftp_operation::Rights;
 use ftp_path::Path;
 use ftp_server_model::{Answered, Life, ServerLink, Way};
-use ftp_server_parts::is_in;
+use ftp_server_replies::is_in;
 use ftp_server_session::ServerTransfer;
 use ftp_tree::Tree;
 use std::alloc::Allocator;
@@ -71,9 +71,9 @@ impl<A: Allocator + Copy, T: Tree<A>, J: ServerTransfer<A, T>> Server<A, T, J> {
 
     /// The host that it stands on.
     pub fn here(&self) -> Host
-        ensures { result ≡ (view_of T.table J.view self.now).footing.here }
+        ensures { result ≡ (view_of T.table J.view self.now).context.here }
     {
-        self.footing.here
+        self.context.here
     }
 
     /// The line that the last call acted on, if it acted on one. Takes no memory.

@@ -198,7 +198,7 @@ obeyed_keeps heard v k said idle =
     let calm = not-true (is_connection_busy v.session.connection) both.0 in
     let s : Session = record v.session { pending = Pendings.Nothing } in
     completed_keeps _ (turned_keeps _ v k small
-    (line_keeps v.footing heard v.session.pending s k.accounts said k.session.pending (pending_keeps Pendings.Nothing v.session tt k.session) calm))
+    (line_keeps v.context heard v.session.pending s k.accounts said k.session.pending (pending_keeps Pendings.Nothing v.session tt k.session) calm))
 
 waited_keeps : (waiting : Option (HeardLine (List ℕ))) (v : View) → v.waiting ≡ waiting → ServerKeeps v → ServerKeeps (waited waiting v)
 waited_keeps None v is k = k
@@ -274,9 +274,9 @@ told kind v k busy short = record {
 }
 
 listened_keeps : (port : ℕ) (connection : ServerLink Transfer) (v : View) → port < 65536 → v.session.connection ≡ connection → ServerKeeps v
-    → ServerKeeps (turned (listening_turn connection v.footing port v.session) v)
+    → ServerKeeps (turned (listening_turn connection v.context port v.session) v)
 listened_keeps port (Data.Asked Asking.Pasv) v small is k =
-    told (Replies.Passive (record { host = v.footing.here; port = port })) v k (ap is_connection_busy is) (passive_room (record v.session { connection = Data.Passive }) v.footing.here port k.host small)
+    told (Replies.Passive (record { host = v.context.here; port = port })) v k (ap is_connection_busy is) (passive_room (record v.session { connection = Data.Passive }) v.context.here port k.host small)
 listened_keeps port (Data.Asked Asking.Epsv) v small is k = told (Replies.Extended port) v k (ap is_connection_busy is) (extended_room (record v.session { connection = Data.Passive }) port small)
 listened_keeps port Data.Free v small is k = unsaid v k
 listened_keeps port (Data.Active endpoint) v small is k = unsaid v k
@@ -327,7 +327,7 @@ ends_keeps : (connection : ServerLink Transfer) (v : View) → v.session.connect
 ends_keeps Data.Ready v is k = rests_keeps (disconnected v.session) v k (disconnected_keeps v.session k.session) refl
 ends_keeps (Data.Transferring transfer) v is k =
     let s : Session = disconnected v.session in
-    concluded_keeps (at_end v.footing.moment transfer s) s v (end_keeps v.footing.moment transfer s (disconnected_keeps v.session k.session)) refl k
+    concluded_keeps (at_end v.context.moment transfer s) s v (end_keeps v.context.moment transfer s (disconnected_keeps v.session k.session)) refl k
     (omega (arith, busy_owed v k (ap is_connection_busy is)))
 ends_keeps Data.Free v is k = k
 ends_keeps (Data.Active endpoint) v is k = k
@@ -339,7 +339,7 @@ breaks_keeps : (connection : ServerLink Transfer) (v : View) → v.session.conne
 breaks_keeps Data.Ready v is k = rests_keeps (disconnected v.session) v k (disconnected_keeps v.session k.session) refl
 breaks_keeps (Data.Transferring transfer) v is k =
     let s : Session = disconnected v.session in
-    concluded_keeps (at_break v.footing.moment transfer s) s v (break_keeps v.footing.moment transfer s (disconnected_keeps v.session k.session)) refl k
+    concluded_keeps (at_break v.context.moment transfer s) s v (break_keeps v.context.moment transfer s (disconnected_keeps v.session k.session)) refl k
     (omega (arith, busy_owed v k (ap is_connection_busy is)))
 breaks_keeps Data.Free v is k = k
 breaks_keeps (Data.Active endpoint) v is k = k
@@ -368,8 +368,8 @@ aborts_keeps : (connection : ServerLink Transfer) (v : View) → is_transferring
 unfolding EndingKeeps
 aborts_keeps (Data.Transferring transfer) v is k small =
     let s : Session = forgotten v.session in
-    let e : Ending = at_break v.footing.moment transfer s in
-    let kept = break_keeps v.footing.moment transfer s (forgotten_keeps v.session k.session) in
+    let e : Ending = at_break v.context.moment transfer s in
+    let kept = break_keeps v.context.moment transfer s (forgotten_keeps v.session k.session) in
     let calm : is_connection_busy e.0.connection ≡ false = ap is_connection_busy kept.1 in
     let one = replied_keeps e.1 e.0 v k kept.0 calm (omega (arith, small)) in
     replied_keeps Texts.AbortDone e.0 (concluded e v) one kept.0 calm (omega (arith, length-append v.owed (reply_octets (fixed_reply e.1)), fixed_room e.1, small))
@@ -490,10 +490,10 @@ each_call_keeps v k = record {
   control = λ count. later_keeps (control_step count v) (control_keeps count v k);
   control_ended = control_end_keeps v k;
   listened = λ port small. later_keeps (listening_step port v)
-      (by_connection v (λ connection. turned (listening_turn connection v.footing port v.session) v) (unsaid v k) (listened_keeps port v.session.connection v small refl k));
+      (by_connection v (λ connection. turned (listening_turn connection v.context port v.session) v) (unsaid v k) (listened_keeps port v.session.connection v small refl k));
   no_port = later_keeps (no_port_step v) (by_connection v (λ connection. unheard connection v) k (unheard_keeps v.session.connection v refl k));
-  opened = λ host. later_keeps (opened_step host v) (completed_keeps (opens (connection_of v.session) (same_host host v.footing.peer) v)
-      (by_connection v (λ connection. opens connection (same_host host v.footing.peer) v) k (opens_keeps v.session.connection (same_host host v.footing.peer) v refl k)));
+  opened = λ host. later_keeps (opened_step host v) (completed_keeps (opens (connection_of v.session) (same_host host v.context.peer) v)
+      (by_connection v (λ connection. opens connection (same_host host v.context.peer) v) k (opens_keeps v.session.connection (same_host host v.context.peer) v refl k)));
   refused = later_keeps (refused_step v) (by_connection v (λ connection. refuses connection v) k (refuses_keeps v.session.connection v refl k));
   given = λ count. later_keeps (given_step count v) (completed_keeps (takes_given (connection_of v.session) count v)
       (by_connection v (λ connection. takes_given connection count v) k (takes_given_keeps count v.session.connection v refl k)));

@@ -5,7 +5,7 @@ use Rattle.std.specs.List.{flat_map, list_all}
 use Rattle.ftp_nvt.specs.Lines.{NvtEvent, Lacks, written_line}
 use Rattle.ftp_command.specs.Line.{IsLine, is_no_feed, line_of}
 use Rattle.ftp_command.proofs.CarriedLemmas.{carried}
-use Rattle.ftp_cutting.specs.Machine.{after, gives}
+use Rattle.ftp_pieces.specs.Machine.{after, gives}
 use Rattle.ftp_ends.specs.Ear.{Ear, quiet, ear, ear_out, ear_step}
 use Rattle.ftp_server_model.specs.InFlight.{ServerHearsPieces, ServerHearsLine, ServerHearsEachLine, ServerHearsCommand, ServerDropsAnswer, LineLeavesEar, ServerHearsRow}
 use Rattle.ftp_server_model.specs.Machine.{Reading, given_out, obeyed, waited, later, is_idle, aborts, abort_said, aborted, is_abort, heard_line, heard_events, hears_octet, hears, may_hear, MayHear}

@@ -159,7 +159,7 @@ by_link count v f none one =
 unsaid : (v : View) → Lowers 0 v (record v { owed = v.owed ++ [] })
 unsaid v = let none : length (v.owed ++ []) ≡ length v.owed = ap length (append-nil v.owed) in record { begins = omega arith; gives = inr (omega (arith, none)) }
 
-told_lowers : (port : ℕ) (connection : ServerLink Transfer) (v : View) → v.session.connection ≡ connection → Lowers 0 v (turned (listening_turn connection v.footing port v.session) v)
+told_lowers : (port : ℕ) (connection : ServerLink Transfer) (v : View) → v.session.connection ≡ connection → Lowers 0 v (turned (listening_turn connection v.context port v.session) v)
 told_lowers port (Data.Asked Asking.Pasv) v is = link_falls 0 v _ (Data.Asked Asking.Pasv) is refl (omega arith)
 told_lowers port (Data.Asked Asking.Epsv) v is = link_falls 0 v _ (Data.Asked Asking.Epsv) is refl (omega arith)
 told_lowers port Data.Free v is = unsaid v
@@ -240,7 +240,7 @@ concluded_lowers ending transfer v is gone =
 ends_lowers : (connection : ServerLink Transfer) (v : View) → v.session.connection ≡ connection → Lowers 0 v (ends connection v)
 ends_lowers Data.Ready v is = link_falls 0 v (ends Data.Ready v) Data.Ready is refl (omega arith)
 ends_lowers (Data.Transferring transfer) v is =
-    concluded_lowers (at_end v.footing.moment transfer (disconnected v.session)) transfer v is (end_gone v.footing.moment transfer (disconnected v.session))
+    concluded_lowers (at_end v.context.moment transfer (disconnected v.session)) transfer v is (end_gone v.context.moment transfer (disconnected v.session))
 ends_lowers Data.Free v is = same v
 ends_lowers (Data.Active endpoint) v is = same v
 ends_lowers (Data.Asked asked) v is = same v
@@ -250,7 +250,7 @@ ends_lowers (Data.Opening transfer way) v is = same v
 breaks_lowers : (connection : ServerLink Transfer) (v : View) → v.session.connection ≡ connection → Lowers 0 v (breaks connection v)
 breaks_lowers Data.Ready v is = link_falls 0 v (breaks Data.Ready v) Data.Ready is refl (omega arith)
 breaks_lowers (Data.Transferring transfer) v is =
-    concluded_lowers (at_break v.footing.moment transfer (disconnected v.session)) transfer v is (break_gone v.footing.moment transfer (disconnected v.session))
+    concluded_lowers (at_break v.context.moment transfer (disconnected v.session)) transfer v is (break_gone v.context.moment transfer (disconnected v.session))
 breaks_lowers Data.Free v is = same v
 breaks_lowers (Data.Active endpoint) v is = same v
 breaks_lowers (Data.Asked asked) v is = same v
@@ -388,9 +388,9 @@ server_lowers v = record {
   clock = λ moment w late. late_lowers 0 v (clock_step moment v) w (record { begins = omega arith; gives = inr (omega arith) }) late;
   control = λ count w few late. late_lowers count v (control_step count v) w (control_lowers count v few) late;
   listening = λ port w late. late_lowers 0 v (listening_step port v) w
-      (by_link 0 v (λ connection u. turned (listening_turn connection u.footing port u.session) u) (unsaid v) (told_lowers port v.session.connection v refl)) late;
+      (by_link 0 v (λ connection u. turned (listening_turn connection u.context port u.session) u) (unsaid v) (told_lowers port v.session.connection v refl)) late;
   no_port = λ w late. late_lowers 0 v (no_port_step v) w (by_link 0 v unheard (same v) (unheard_lowers v.session.connection v refl)) late;
-  opened = λ host w late. late_lowers 0 v (opened_step host v) w (opened_lowers (same_host host v.footing.peer) v) late;
+  opened = λ host w late. late_lowers 0 v (opened_step host v) w (opened_lowers (same_host host v.context.peer) v) late;
   refused = λ w late. late_lowers 0 v (refused_step v) w (by_link 0 v refuses (same v) (refuses_lowers v.session.connection v refl)) late;
   ended = λ w end. ended_lowers (end_step v) v w (by_link 0 v ends (same v) (ends_lowers v.session.connection v refl)) end;
   broke = λ w end. ended_lowers (break_step v) v w (by_link 0 v breaks (same v) (breaks_lowers v.session.connection v refl)) end;

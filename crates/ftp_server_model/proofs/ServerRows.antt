@@ -7,7 +7,7 @@ use Rattle.ftp_settings.specs.declared.representation.Structure.TheVariants as S
 use Rattle.ftp_settings.specs.Representation.{defaults}
 use Rattle.ftp_command.specs.declared.command.Passive.TheVariants as Families
 use Rattle.ftp_operation.specs.Account.{Account, login_account}
-use Rattle.ftp_operation_secret.specs.Secret.{plain}
+use Rattle.ftp_secret.specs.Secret.{plain}
 use Rattle.ftp_operation.specs.Rights.{all_rights}
 use Rattle.ftp_direct.specs.declared.refusal.Refusal.{Refusal}
 use Rattle.ftp_direct.specs.Direct.{entries_in, entry_at, listed as listed_entry, is_directory, names_for, refusal, refused_file, file_of, place_in, or_refused, refused_there}

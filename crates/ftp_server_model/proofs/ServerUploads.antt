@@ -17,7 +17,7 @@ use Rattle.ftp_settings.specs.declared.representation.Structure.TheVariants as S
 use Rattle.ftp_settings.specs.Representation.{defaults}
 use Rattle.ftp_wire.specs.Decoder.{Decoder, no_octets, decoder_of}
 use Rattle.ftp_ends.specs.Ear.{quiet}
-use Rattle.ftp_server_model.specs.View.{Footing, Session, Transfer, View, all_facts, seen, with_seen}
+use Rattle.ftp_server_model.specs.View.{Context, Session, Transfer, View, all_facts, seen, with_seen}
 use Rattle.ftp_server_model.specs.Replies.{reply_octets, reply_of, fixed_reply}
 use Rattle.ftp_server_model.specs.Transfer.{misplaced, place_of, refused_to_hold}
 use Rattle.ftp_server_model.specs.Keep.{kept_of, lacks}
@@ -77,9 +77,9 @@ uploads place settings connection closing = record {
 }
 
 -- an upload is under way, whatever was said before
-abbrev uploading : Footing → Place → Representation → List ℕ → ServerLink Transfer → View
-uploading footing place settings said connection = record {
-  footing = footing;
+abbrev uploading : Context → Place → Representation → List ℕ → ServerLink Transfer → View
+uploading context place settings said connection = record {
+  context = context;
   session = uploads place settings connection false;
   ear = quiet;
   waiting = None;
@@ -94,9 +94,9 @@ abbrev limited : Decoder → Bool → ServerLink Transfer
 limited d over = if over then Data.Transferring Transfers.OverLimit else up d
 
 -- the upload is over
-abbrev left : Footing → List ℕ → Ending → View
-left footing said ending = record {
-  footing = footing;
+abbrev left : Context → List ℕ → Ending → View
+left context said ending = record {
+  context = context;
   session = ending.0;
   ear = quiet;
   waiting = None;
@@ -107,8 +107,8 @@ left footing said ending = record {
 abbrev after : Place → Representation → Bool → Session
 after place settings closing = uploads place settings Data.Free closing
 
-abbrev ending : Footing → Session → Keep → List ℕ → FixedReply → Option Refusal → Ending
-ending footing s keep content text why = ends_by why footing.moment f_path keep content text s
+abbrev ending : Context → Session → Keep → List ℕ → FixedReply → Option Refusal → Ending
+ending context s keep content text why = ends_by why context.moment f_path keep content text s
 
 -- what there is room for is within the limit of a file
 within_limit : (table : Table) (path : Names) (count room : ℕ) → room_at table path ≡ room → nat_le count room ≡ true → nat_le count (file_limit table) ≡ true
@@ -139,75 +139,75 @@ fits_room place room d is fit = rw (within_limit (part_at place) f_path (0 + len
 
 -- ---- octets: what each of them settles, where that passes no limit or does
 
-a_comes : (footing : Footing) (place : Place) (said : List ℕ) (over : Bool) → is_over f_path (Keeps.First 0) (ascii (97 ∷ [])) (after place defaults false) ≡ over
-    → receives_octet (uploading footing place defaults said (up (ascii ([])))) 97 ≡ uploading footing place defaults said (limited (ascii (97 ∷ [])) over)
+a_comes : (context : Context) (place : Place) (said : List ℕ) (over : Bool) → is_over f_path (Keeps.First 0) (ascii (97 ∷ [])) (after place defaults false) ≡ over
+    → receives_octet (uploading context place defaults said (up (ascii ([])))) 97 ≡ uploading context place defaults said (limited (ascii (97 ∷ [])) over)
 unfolding receives_octet
-a_comes footing place said over is = ap (λ b. uploading footing place defaults said (limited (ascii (97 ∷ [])) b)) is
+a_comes context place said over is = ap (λ b. uploading context place defaults said (limited (ascii (97 ∷ [])) b)) is
 
-b_comes : (footing : Footing) (place : Place) (said : List ℕ) (over : Bool) → is_over f_path (Keeps.First 0) (ascii (97 ∷ 98 ∷ [])) (after place defaults false) ≡ over
-    → receives_octet (uploading footing place defaults said (up (ascii (97 ∷ [])))) 98 ≡ uploading footing place defaults said (limited (ascii (97 ∷ 98 ∷ [])) over)
+b_comes : (context : Context) (place : Place) (said : List ℕ) (over : Bool) → is_over f_path (Keeps.First 0) (ascii (97 ∷ 98 ∷ [])) (after place defaults false) ≡ over
+    → receives_octet (uploading context place defaults said (up (ascii (97 ∷ [])))) 98 ≡ uploading context place defaults said (limited (ascii (97 ∷ 98 ∷ [])) over)
 unfolding receives_octet
-b_comes footing place said over is = ap (λ b. uploading footing place defaults said (limited (ascii (97 ∷ 98 ∷ [])) b)) is
+b_comes context place said over is = ap (λ b. uploading context place defaults said (limited (ascii (97 ∷ 98 ∷ [])) b)) is
 
-c_comes : (footing : Footing) (place : Place) (said : List ℕ) (over : Bool) → is_over f_path (Keeps.First 0) (ascii (97 ∷ 98 ∷ 99 ∷ [])) (after place defaults false) ≡ over
-    → receives_octet (uploading footing place defaults said (up (ascii (97 ∷ 98 ∷ [])))) 99 ≡ uploading footing place defaults said (limited (ascii (97 ∷ 98 ∷ 99 ∷ [])) over)
+c_comes : (context : Context) (place : Place) (said : List ℕ) (over : Bool) → is_over f_path (Keeps.First 0) (ascii (97 ∷ 98 ∷ 99 ∷ [])) (after place defaults false) ≡ over
+    → receives_octet (uploading context place defaults said (up (ascii (97 ∷ 98 ∷ [])))) 99 ≡ uploading context place defaults said (limited (ascii (97 ∷ 98 ∷ 99 ∷ [])) over)
 unfolding receives_octet
-c_comes footing place said over is = ap (λ b. uploading footing place defaults said (limited (ascii (97 ∷ 98 ∷ 99 ∷ [])) b)) is
+c_comes context place said over is = ap (λ b. uploading context place defaults said (limited (ascii (97 ∷ 98 ∷ 99 ∷ [])) b)) is
 
-x_comes : (footing : Footing) (place : Place) (said : List ℕ) (over : Bool) → is_over f_path (Keeps.First 0) (ascii (120 ∷ [])) (after place defaults false) ≡ over
-    → receives_octet (uploading footing place defaults said (up (ascii ([])))) 120 ≡ uploading footing place defaults said (limited (ascii (120 ∷ [])) over)
+x_comes : (context : Context) (place : Place) (said : List ℕ) (over : Bool) → is_over f_path (Keeps.First 0) (ascii (120 ∷ [])) (after place defaults false) ≡ over
+    → receives_octet (uploading context place defaults said (up (ascii ([])))) 120 ≡ uploading context place defaults said (limited (ascii (120 ∷ [])) over)
 unfolding receives_octet
-x_comes footing place said over is = ap (λ b. uploading footing place defaults said (limited (ascii (120 ∷ [])) b)) is
+x_comes context place said over is = ap (λ b. uploading context place defaults said (limited (ascii (120 ∷ [])) b)) is
 
-return_comes : (footing : Footing) (place : Place) (said : List ℕ) (over : Bool) → is_over f_path (Keeps.First 0) (ascii (120 ∷ 13 ∷ [])) (after place defaults false) ≡ over
-    → receives_octet (uploading footing place defaults said (up (ascii (120 ∷ [])))) 13 ≡ uploading footing place defaults said (limited (ascii (120 ∷ 13 ∷ [])) over)
+return_comes : (context : Context) (place : Place) (said : List ℕ) (over : Bool) → is_over f_path (Keeps.First 0) (ascii (120 ∷ 13 ∷ [])) (after place defaults false) ≡ over
+    → receives_octet (uploading context place defaults said (up (ascii (120 ∷ [])))) 13 ≡ uploading context place defaults said (limited (ascii (120 ∷ 13 ∷ [])) over)
 unfolding receives_octet
-return_comes footing place said over is = ap (λ b. uploading footing place defaults said (limited (ascii (120 ∷ 13 ∷ [])) b)) is
+return_comes context place said over is = ap (λ b. uploading context place defaults said (limited (ascii (120 ∷ 13 ∷ [])) b)) is
 
-image_a : (footing : Footing) (place : Place) (said : List ℕ) (over : Bool) → is_over f_path (Keeps.First 0) (image (97 ∷ [])) (after place defaults false) ≡ over
-    → receives_octet (uploading footing place image_settings said (up (image ([])))) 97 ≡ uploading footing place image_settings said (limited (image (97 ∷ [])) over)
+image_a : (context : Context) (place : Place) (said : List ℕ) (over : Bool) → is_over f_path (Keeps.First 0) (image (97 ∷ [])) (after place defaults false) ≡ over
+    → receives_octet (uploading context place image_settings said (up (image ([])))) 97 ≡ uploading context place image_settings said (limited (image (97 ∷ [])) over)
 unfolding receives_octet
-image_a footing place said over is = ap (λ b. uploading footing place image_settings said (limited (image (97 ∷ [])) b)) is
+image_a context place said over is = ap (λ b. uploading context place image_settings said (limited (image (97 ∷ [])) b)) is
 
-image_b : (footing : Footing) (place : Place) (said : List ℕ) (over : Bool) → is_over f_path (Keeps.First 0) (image (97 ∷ 98 ∷ [])) (after place defaults false) ≡ over
-    → receives_octet (uploading footing place image_settings said (up (image (97 ∷ [])))) 98 ≡ uploading footing place image_settings said (limited (image (97 ∷ 98 ∷ [])) over)
+image_b : (context : Context) (place : Place) (said : List ℕ) (over : Bool) → is_over f_path (Keeps.First 0) (image (97 ∷ 98 ∷ [])) (after place defaults false) ≡ over
+    → receives_octet (uploading context place image_settings said (up (image (97 ∷ [])))) 98 ≡ uploading context place image_settings said (limited (image (97 ∷ 98 ∷ [])) over)
 unfolding receives_octet
-image_b footing place said over is = ap (λ b. uploading footing place image_settings said (limited (image (97 ∷ 98 ∷ [])) b)) is
+image_b context place said over is = ap (λ b. uploading context place image_settings said (limited (image (97 ∷ 98 ∷ [])) b)) is
 
-image_c : (footing : Footing) (place : Place) (said : List ℕ) (over : Bool) → is_over f_path (Keeps.First 0) (image (97 ∷ 98 ∷ 99 ∷ [])) (after place defaults false) ≡ over
-    → receives_octet (uploading footing place image_settings said (up (image (97 ∷ 98 ∷ [])))) 99 ≡ uploading footing place image_settings said (limited (image (97 ∷ 98 ∷ 99 ∷ [])) over)
+image_c : (context : Context) (place : Place) (said : List ℕ) (over : Bool) → is_over f_path (Keeps.First 0) (image (97 ∷ 98 ∷ 99 ∷ [])) (after place defaults false) ≡ over
+    → receives_octet (uploading context place image_settings said (up (image (97 ∷ 98 ∷ [])))) 99 ≡ uploading context place image_settings said (limited (image (97 ∷ 98 ∷ 99 ∷ [])) over)
 unfolding receives_octet
-image_c footing place said over is = ap (λ b. uploading footing place image_settings said (limited (image (97 ∷ 98 ∷ 99 ∷ [])) b)) is
+image_c context place said over is = ap (λ b. uploading context place image_settings said (limited (image (97 ∷ 98 ∷ 99 ∷ [])) b)) is
 
 -- ---- ends
 
-aborts : (footing : Footing) (place : Place) (said : List ℕ) → end_refusal f_path (Keeps.First 0) (codes "ab") (after place defaults false) ≡ None
-    → after_events (asks command.Abor ∷ []) (uploading footing place defaults said (up (ascii (97 ∷ 98 ∷ []))))
-    ≡ owes (reply_octets (fixed_reply Texts.AbortDone)) (left footing said (ending footing (after place defaults true) (Keeps.First 0) (codes "ab") Texts.Broken None))
-aborts footing place said is =
-    ap (λ why. owes (reply_octets (fixed_reply Texts.AbortDone)) (left footing said (ending footing (after place defaults true) (Keeps.First 0) (codes "ab") Texts.Broken why))) is
+aborts : (context : Context) (place : Place) (said : List ℕ) → end_refusal f_path (Keeps.First 0) (codes "ab") (after place defaults false) ≡ None
+    → after_events (asks command.Abor ∷ []) (uploading context place defaults said (up (ascii (97 ∷ 98 ∷ []))))
+    ≡ owes (reply_octets (fixed_reply Texts.AbortDone)) (left context said (ending context (after place defaults true) (Keeps.First 0) (codes "ab") Texts.Broken None))
+aborts context place said is =
+    ap (λ why. owes (reply_octets (fixed_reply Texts.AbortDone)) (left context said (ending context (after place defaults true) (Keeps.First 0) (codes "ab") Texts.Broken why))) is
 
-breaks_off : (footing : Footing) (place : Place) (said : List ℕ) → end_refusal f_path (Keeps.First 0) (codes "x") (after place defaults false) ≡ None
-    → data_fault (uploading footing place defaults said (up (ascii (120 ∷ 13 ∷ []))))
-    ≡ left footing said (ending footing (after place defaults false) (Keeps.First 0) (codes "x") Texts.Broken None)
+breaks_off : (context : Context) (place : Place) (said : List ℕ) → end_refusal f_path (Keeps.First 0) (codes "x") (after place defaults false) ≡ None
+    → data_fault (uploading context place defaults said (up (ascii (120 ∷ 13 ∷ []))))
+    ≡ left context said (ending context (after place defaults false) (Keeps.First 0) (codes "x") Texts.Broken None)
 unfolding data_fault
-breaks_off footing place said is = ap (λ why. left footing said (ending footing (after place defaults false) (Keeps.First 0) (codes "x") Texts.Broken why)) is
+breaks_off context place said is = ap (λ why. left context said (ending context (after place defaults false) (Keeps.First 0) (codes "x") Texts.Broken why)) is
 
-ends_past : (footing : Footing) (place : Place) (said : List ℕ)
-    → data_end (uploading footing place defaults said (Data.Transferring Transfers.OverLimit)) ≡ left footing said (after place defaults false, Texts.TooMuch)
+ends_past : (context : Context) (place : Place) (said : List ℕ)
+    → data_end (uploading context place defaults said (Data.Transferring Transfers.OverLimit)) ≡ left context said (after place defaults false, Texts.TooMuch)
 unfolding data_end
-ends_past footing place said = refl
+ends_past context place said = refl
 
-ends_whole : (footing : Footing) (place : Place) (said : List ℕ) → end_refusal f_path (Keeps.First 0) (codes "abc") (after place image_settings false) ≡ None
-    → data_end (uploading footing place image_settings said (up (image (97 ∷ 98 ∷ 99 ∷ []))))
-    ≡ left footing said (ending footing (after place image_settings false) (Keeps.First 0) (codes "abc") Texts.Complete None)
+ends_whole : (context : Context) (place : Place) (said : List ℕ) → end_refusal f_path (Keeps.First 0) (codes "abc") (after place image_settings false) ≡ None
+    → data_end (uploading context place image_settings said (up (image (97 ∷ 98 ∷ 99 ∷ []))))
+    ≡ left context said (ending context (after place image_settings false) (Keeps.First 0) (codes "abc") Texts.Complete None)
 unfolding data_end
-ends_whole footing place said is = ap (λ why. left footing said (ending footing (after place image_settings false) (Keeps.First 0) (codes "abc") Texts.Complete why)) is
+ends_whole context place said is = ap (λ why. left context said (ending context (after place image_settings false) (Keeps.First 0) (codes "abc") Texts.Complete why)) is
 
 -- ---- the rows
 
 -- PORT, STOR and the opening of the link
-abbrev standing : Names → Footing
+abbrev standing : Names → Context
 standing root = record { accounts = accounts root; here = here; peer = here; moment = 0 }
 
 abbrev active_said : List ℕ
@@ -315,17 +315,17 @@ begun_append table root f =
     let v : View = member table root (asks (command.Repr Kinds.Image) ∷ asks (command.Mode Modes.Block) ∷ asks (command.Port (at here)) ∷ []) in
     ap (λ c. appended v c (length (octets_or_none (under table root) f_path))) (appe_code v.session f) ∙ ap (λ n. appended v None n) (abc_length (under table root) f)
 
-block_comes : (footing : Footing) (place : Place) (said : List ℕ) (over : Bool) → is_over f_path (Keeps.All 3) (blocks (0 ∷ 0 ∷ 1 ∷ 100 ∷ [])) (after place block_settings false) ≡ over
-    → receives (uploading footing place block_settings said (appending (blocks []) false)) (0 ∷ 0 ∷ 1 ∷ 100 ∷ [])
-    ≡ uploading footing place block_settings said (appending (blocks (0 ∷ 0 ∷ 1 ∷ 100 ∷ [])) over)
+block_comes : (context : Context) (place : Place) (said : List ℕ) (over : Bool) → is_over f_path (Keeps.All 3) (blocks (0 ∷ 0 ∷ 1 ∷ 100 ∷ [])) (after place block_settings false) ≡ over
+    → receives (uploading context place block_settings said (appending (blocks []) false)) (0 ∷ 0 ∷ 1 ∷ 100 ∷ [])
+    ≡ uploading context place block_settings said (appending (blocks (0 ∷ 0 ∷ 1 ∷ 100 ∷ [])) over)
 unfolding receives_octet
-block_comes footing place said over is = ap (λ b. uploading footing place block_settings said (appending (blocks (0 ∷ 0 ∷ 1 ∷ 100 ∷ [])) b)) is
+block_comes context place said over is = ap (λ b. uploading context place block_settings said (appending (blocks (0 ∷ 0 ∷ 1 ∷ 100 ∷ [])) b)) is
 
-marker_comes : (footing : Footing) (place : Place) (said : List ℕ)
-    → (receives (uploading footing place block_settings said (appending (blocks (0 ∷ 0 ∷ 1 ∷ 100 ∷ [])) false)) (16 ∷ 0 ∷ 1 ∷ 77 ∷ [])).owed
+marker_comes : (context : Context) (place : Place) (said : List ℕ)
+    → (receives (uploading context place block_settings said (appending (blocks (0 ∷ 0 ∷ 1 ∷ 100 ∷ [])) false)) (16 ∷ 0 ∷ 1 ∷ 77 ∷ [])).owed
     ≡ said ++ reply_octets (reply_of 110 (codes "MARK M = " ++ decimal 4))
 unfolding receives_octet
-marker_comes footing place said = refl
+marker_comes context place said = refl
 
 pub marker : MarkerAnswered
 marker table root f room =
@@ -338,10 +338,10 @@ marker table root f room =
 
 -- ---- ABOR past the room
 
-aborts_past : (footing : Footing) (place : Place) (said : List ℕ)
-    → after_events (asks command.Abor ∷ []) (uploading footing place defaults said (Data.Transferring Transfers.OverLimit))
-    ≡ owes (reply_octets (fixed_reply Texts.AbortDone)) (left footing said (after place defaults true, Texts.TooMuch))
-aborts_past footing place said = refl
+aborts_past : (context : Context) (place : Place) (said : List ℕ)
+    → after_events (asks command.Abor ∷ []) (uploading context place defaults said (Data.Transferring Transfers.OverLimit))
+    ≡ owes (reply_octets (fixed_reply Texts.AbortDone)) (left context said (after place defaults true, Texts.TooMuch))
+aborts_past context place said = refl
 
 pub abort_past_room : AbortPastRoom
 abort_past_room table root f room =
@@ -356,14 +356,14 @@ abort_past_room table root f room =
 -- ---- an end before the end of file
 
 -- how an upload ends behind octets of the file that stands there, where it is put in
-abbrev ends_behind : Footing → Session → Keep → List ℕ → List ℕ → FixedReply → Ending
-ends_behind footing s keep old content text = (with_seen (installed (seen s) f_path (kept_of keep old ++ content) footing.moment) s, text)
+abbrev ends_behind : Context → Session → Keep → List ℕ → List ℕ → FixedReply → Ending
+ends_behind context s keep old content text = (with_seen (installed (seen s) f_path (kept_of keep old ++ content) context.moment) s, text)
 
-ends_early : (footing : Footing) (place : Place) (said : List ℕ) → end_refusal f_path (Keeps.All 3) (codes "d") (after place block_settings false) ≡ None
-    → data_end (uploading footing place block_settings said (appending (blocks (0 ∷ 0 ∷ 1 ∷ 100 ∷ [])) false))
-    ≡ left footing said (ending footing (after place block_settings false) (Keeps.All 3) (codes "d") Texts.Broken None)
+ends_early : (context : Context) (place : Place) (said : List ℕ) → end_refusal f_path (Keeps.All 3) (codes "d") (after place block_settings false) ≡ None
+    → data_end (uploading context place block_settings said (appending (blocks (0 ∷ 0 ∷ 1 ∷ 100 ∷ [])) false))
+    ≡ left context said (ending context (after place block_settings false) (Keeps.All 3) (codes "d") Texts.Broken None)
 unfolding data_end
-ends_early footing place said is = ap (λ why. left footing said (ending footing (after place block_settings false) (Keeps.All 3) (codes "d") Texts.Broken why)) is
+ends_early context place said is = ap (λ why. left context said (ending context (after place block_settings false) (Keeps.All 3) (codes "d") Texts.Broken why)) is
 
 abc_octets : (table : Table) → node_at table f_path ≡ Some (File (codes "abc") 0) → octets_or_none table f_path ≡ codes "abc"
 unfolding octets_at
@@ -393,10 +393,10 @@ faulty_upload table root f =
 
 -- ---- the end of the control connection
 
-drops : (footing : Footing) (place : Place) (said : List ℕ)
-    → control_end (uploading footing place defaults said (up (ascii (97 ∷ 98 ∷ [])))) ≡ record (uploading footing place defaults [] Data.Free) { session = record (uploads place defaults Data.Free true) { life = Lives.Cut } }
+drops : (context : Context) (place : Place) (said : List ℕ)
+    → control_end (uploading context place defaults said (up (ascii (97 ∷ 98 ∷ [])))) ≡ record (uploading context place defaults [] Data.Free) { session = record (uploads place defaults Data.Free true) { life = Lives.Cut } }
 unfolding control_end
-drops footing place said = refl
+drops context place said = refl
 
 pub dropped_upload : UploadDropped
 dropped_upload table root f room =
@@ -440,17 +440,17 @@ begun_from table root f =
     ∙ ap (λ p. stored_from v p (refused_to_hold v.session f_path)) (first_place v.session refl f)
     ∙ ap (λ c. stored_from v (Some 1) c) (appe_code v.session f)
 
-z_comes : (footing : Footing) (place : Place) (said : List ℕ) (over : Bool) → is_over f_path (Keeps.First 1) (image (122 ∷ [])) (after place image_settings false) ≡ over
-    → receives_octet (uploading footing place image_settings said (behind_one (image []) false)) 122
-    ≡ uploading footing place image_settings said (behind_one (image (122 ∷ [])) over)
+z_comes : (context : Context) (place : Place) (said : List ℕ) (over : Bool) → is_over f_path (Keeps.First 1) (image (122 ∷ [])) (after place image_settings false) ≡ over
+    → receives_octet (uploading context place image_settings said (behind_one (image []) false)) 122
+    ≡ uploading context place image_settings said (behind_one (image (122 ∷ [])) over)
 unfolding receives_octet
-z_comes footing place said over is = ap (λ b. uploading footing place image_settings said (behind_one (image (122 ∷ [])) b)) is
+z_comes context place said over is = ap (λ b. uploading context place image_settings said (behind_one (image (122 ∷ [])) b)) is
 
-ends_from : (footing : Footing) (place : Place) (said : List ℕ) → end_refusal f_path (Keeps.First 1) (codes "z") (after place image_settings false) ≡ None
-    → data_end (uploading footing place image_settings said (behind_one (image (122 ∷ [])) false))
-    ≡ left footing said (ending footing (after place image_settings false) (Keeps.First 1) (codes "z") Texts.Complete None)
+ends_from : (context : Context) (place : Place) (said : List ℕ) → end_refusal f_path (Keeps.First 1) (codes "z") (after place image_settings false) ≡ None
+    → data_end (uploading context place image_settings said (behind_one (image (122 ∷ [])) false))
+    ≡ left context said (ending context (after place image_settings false) (Keeps.First 1) (codes "z") Texts.Complete None)
 unfolding data_end
-ends_from footing place said is = ap (λ why. left footing said (ending footing (after place image_settings false) (Keeps.First 1) (codes "z") Texts.Complete why)) is
+ends_from context place said is = ap (λ why. left context said (ending context (after place image_settings false) (Keeps.First 1) (codes "z") Texts.Complete why)) is
 
 pub upload_from_place : UploadFromPlace
 upload_from_place table root f room =

@@ -38,7 +38,7 @@ use Rattle.ftp_server_model.specs.Replies.{Turn, IsTold, tells}
 use Rattle.ftp_server_model.specs.Setting.{choose, is_utf8_on, opts}
 use Rattle.ftp_server_model.specs.Told.{is_path, CanBeSaid, ValueCanBeSaid, ReadCanBeHeard, PendingKeeps, TransferKeeps, ConnectionKeeps, Keeps, AreWithinLimits, TurnKeeps, LineKeeps}
 use Rattle.ftp_server_model.specs.Transfer.{rests, begin, transfer_starts, stor_at, appe_at, refused_to_hold, place_of}
-use Rattle.ftp_server_model.specs.View.{Accounts, Footing, Session, Transfer, direct_of, as_direct, how_in_force, seen, with_seen}
+use Rattle.ftp_server_model.specs.View.{Accounts, Context, Session, Transfer, direct_of, as_direct, how_in_force, seen, with_seen}
 use Rattle.ftp_server_model.specs.Walk.{target_seen, unless, path_of, performs, refused_source, refused_target, rnto}
 use Rattle.ftp_server_model.specs.declared.heard.HeardLine.TheVariants.{TooLong, Bad, Asks}
 use Rattle.ftp_server_model.specs.declared.reply.FixedReply.{FixedReply}
@@ -190,20 +190,20 @@ takes_keeps false endpoint s k = tells_keeps Texts.BadParameter s k
 asks_keeps : (asked : PassiveVerb) (s : Session) → Keeps s → TurnKeeps (asks asked s)
 asks_keeps asked s k = record { told = tt; session = connection_keeps (Data.Asked asked) _ tt (forgotten_keeps s k); brief = inr tt }
 
-port_keeps : (footing : Footing) (endpoint : Endpoint) (s : Session) → Keeps s → TurnKeeps (port footing endpoint s)
-port_keeps footing endpoint s k =
-    cond_both s.only_extended _ _ TurnKeeps (λ is. tells_keeps Texts.BadSequence s k) (λ is. takes_keeps (is_taken footing.peer endpoint) endpoint (forgotten s) (forgotten_keeps s k))
+port_keeps : (context : Context) (endpoint : Endpoint) (s : Session) → Keeps s → TurnKeeps (port context endpoint s)
+port_keeps context endpoint s k =
+    cond_both s.only_extended _ _ TurnKeeps (λ is. tells_keeps Texts.BadSequence s k) (λ is. takes_keeps (is_taken context.peer endpoint) endpoint (forgotten s) (forgotten_keeps s k))
 
-pasv_keeps : (footing : Footing) (s : Session) → Keeps s → TurnKeeps (pasv footing s)
-pasv_keeps footing s k =
+pasv_keeps : (context : Context) (s : Session) → Keeps s → TurnKeeps (pasv context s)
+pasv_keeps context s k =
     cond_both s.only_extended _ _ TurnKeeps (λ is. tells_keeps Texts.BadSequence s k)
-    (λ is. cond_both (is_v6 footing.here) _ _ TurnKeeps (λ is. tells_keeps Texts.NoConnection s k) (λ is. asks_keeps Asking.Pasv s k))
+    (λ is. cond_both (is_v6 context.here) _ _ TurnKeeps (λ is. tells_keeps Texts.NoConnection s k) (λ is. asks_keeps Asking.Pasv s k))
 
-epsv_keeps : (footing : Footing) (family : Passive) (s : Session) → Keeps s → TurnKeeps (epsv footing family s)
-epsv_keeps footing Any s k = asks_keeps Asking.Epsv s k
-epsv_keeps footing Ipv4 s k = cond_both (is_v6 footing.here) _ _ TurnKeeps (λ is. tells_keeps Texts.OnlyIpv6 s k) (λ is. asks_keeps Asking.Epsv s k)
-epsv_keeps footing Ipv6 s k = cond_both (is_v6 footing.here) _ _ TurnKeeps (λ is. asks_keeps Asking.Epsv s k) (λ is. tells_keeps Texts.OnlyIpv4 s k)
-epsv_keeps footing Only s k = tells_keeps Texts.OnlyExtended _ (record { access = k.access; root = k.root; cwd = k.cwd; pending = k.pending; connection = k.connection })
+epsv_keeps : (context : Context) (family : Passive) (s : Session) → Keeps s → TurnKeeps (epsv context family s)
+epsv_keeps context Any s k = asks_keeps Asking.Epsv s k
+epsv_keeps context Ipv4 s k = cond_both (is_v6 context.here) _ _ TurnKeeps (λ is. tells_keeps Texts.OnlyIpv6 s k) (λ is. asks_keeps Asking.Epsv s k)
+epsv_keeps context Ipv6 s k = cond_both (is_v6 context.here) _ _ TurnKeeps (λ is. asks_keeps Asking.Epsv s k) (λ is. tells_keeps Texts.OnlyIpv4 s k)
+epsv_keeps context Only s k = tells_keeps Texts.OnlyExtended _ (record { access = k.access; root = k.root; cwd = k.cwd; pending = k.pending; connection = k.connection })
 
 -- ---- settings
 
@@ -281,68 +281,68 @@ mlst_keeps text s given k idle =
 
 -- ---- all commands
 
-act_keeps : (footing : Footing) (c : Command (List ℕ)) (pending : Pending Names) (s : Session) → AreWithinLimits footing.accounts → CanBeSaid c → PendingKeeps pending → Keeps s
-    → is_connection_busy s.connection ≡ false → TurnKeeps (act footing c pending s)
-act_keeps footing (command.User name) pending s within said kept k idle =
-    user_by (open_account footing.accounts name) name s (λ account is. found_fits (is_open name) footing.accounts account within is) said k
-act_keeps footing (command.Pass word) pending s within said kept k idle = pass_keeps s.access footing.accounts word s within k
-act_keeps footing (command.Acct text) pending s within said kept k idle = tells_keeps Texts.NotNeeded s k
-act_keeps footing (command.Cwd text) pending s within said kept k idle =
+act_keeps : (context : Context) (c : Command (List ℕ)) (pending : Pending Names) (s : Session) → AreWithinLimits context.accounts → CanBeSaid c → PendingKeeps pending → Keeps s
+    → is_connection_busy s.connection ≡ false → TurnKeeps (act context c pending s)
+act_keeps context (command.User name) pending s within said kept k idle =
+    user_by (open_account context.accounts name) name s (λ account is. found_fits (is_open name) context.accounts account within is) said k
+act_keeps context (command.Pass word) pending s within said kept k idle = pass_keeps s.access context.accounts word s within k
+act_keeps context (command.Acct text) pending s within said kept k idle = tells_keeps Texts.NotNeeded s k
+act_keeps context (command.Cwd text) pending s within said kept k idle =
     performs_keeps (Ops.ChangeDir text) (Replies.Fixed Texts.Done) s k idle (λ is. led s text k said (there_fits (path_of s text) _ is)) (λ is. tt)
-act_keeps footing command.Cdup pending s within said kept k idle =
+act_keeps context command.Cdup pending s within said kept k idle =
     performs_keeps Ops.Up (Replies.Fixed Texts.Done) s k idle (λ is. is_path-parent s.cwd k.cwd) (λ is. tt)
-act_keeps footing command.Rein pending s within said kept k idle = rein_keeps s k
-act_keeps footing command.Quit pending s within said kept k idle = quit_keeps s k
-act_keeps footing (command.Port endpoint) pending s within said kept k idle = port_keeps footing endpoint s k
-act_keeps footing command.Pasv pending s within said kept k idle = pasv_keeps footing s k
-act_keeps footing (command.Eprt endpoint) pending s within said kept k idle = port_keeps footing endpoint s k
-act_keeps footing (command.Epsv family) pending s within said kept k idle = epsv_keeps footing family s k
-act_keeps footing (command.Repr kind) pending s within said kept k idle =
+act_keeps context command.Rein pending s within said kept k idle = rein_keeps s k
+act_keeps context command.Quit pending s within said kept k idle = quit_keeps s k
+act_keeps context (command.Port endpoint) pending s within said kept k idle = port_keeps context endpoint s k
+act_keeps context command.Pasv pending s within said kept k idle = pasv_keeps context s k
+act_keeps context (command.Eprt endpoint) pending s within said kept k idle = port_keeps context endpoint s k
+act_keeps context (command.Epsv family) pending s within said kept k idle = epsv_keeps context family s k
+act_keeps context (command.Repr kind) pending s within said kept k idle =
     tells_keeps Texts.TypeSet _ (record { access = k.access; root = k.root; cwd = k.cwd; pending = k.pending; connection = k.connection })
-act_keeps footing (command.Stru structure) pending s within said kept k idle =
+act_keeps context (command.Stru structure) pending s within said kept k idle =
     tells_keeps Texts.StructureSet _ (record { access = k.access; root = k.root; cwd = k.cwd; pending = k.pending; connection = k.connection })
-act_keeps footing (command.Mode mode) pending s within said kept k idle =
+act_keeps context (command.Mode mode) pending s within said kept k idle =
     tells_keeps Texts.ModeSet _ (record { access = k.access; root = k.root; cwd = k.cwd; pending = k.pending; connection = k.connection })
-act_keeps footing (command.Retr text) pending s within said kept k idle = starts_keeps _ (Transfers.Download _) s (λ is. tt) k
-act_keeps footing (command.Stor text) pending s within said kept k idle = stor_keeps (place_of pending (path_of s text) s) (path_of s text) s k
-act_keeps footing (command.Appe text) pending s within said kept k idle = appe_keeps (path_of s text) s k
-act_keeps footing (command.Allo octets longest) pending s within said kept k idle = tells_keeps Texts.NotNeeded s k
-act_keeps footing (command.Rest place) pending s within said kept k idle = rests_keeps _ place s said k idle
-act_keeps footing (command.Rnfr text) pending s within said kept k idle =
+act_keeps context (command.Retr text) pending s within said kept k idle = starts_keeps _ (Transfers.Download _) s (λ is. tt) k
+act_keeps context (command.Stor text) pending s within said kept k idle = stor_keeps (place_of pending (path_of s text) s) (path_of s text) s k
+act_keeps context (command.Appe text) pending s within said kept k idle = appe_keeps (path_of s text) s k
+act_keeps context (command.Allo octets longest) pending s within said kept k idle = tells_keeps Texts.NotNeeded s k
+act_keeps context (command.Rest place) pending s within said kept k idle = rests_keeps _ place s said k idle
+act_keeps context (command.Rnfr text) pending s within said kept k idle =
     unless_keeps (refused_source s (path_of s text)) s _ k
     (λ is. tells_keeps Texts.NewName _ (pending_keeps (Pendings.Rename (path_of s text)) s (there_fits (path_of s text) _ (second_none (barred s.rights.rename) _ is)) k))
-act_keeps footing (command.Rnto text) pending s within said kept k idle = rnto_keeps pending text s k
-act_keeps footing command.Abor pending s within said kept k idle = tells_keeps Texts.AbortDone s k
-act_keeps footing (command.Dele text) pending s within said kept k idle =
+act_keeps context (command.Rnto text) pending s within said kept k idle = rnto_keeps pending text s k
+act_keeps context command.Abor pending s within said kept k idle = tells_keeps Texts.AbortDone s k
+act_keeps context (command.Dele text) pending s within said kept k idle =
     performs_keeps (Ops.Delete text) (Replies.Fixed Texts.Done) s k idle (λ is. k.cwd) (λ is. tt)
-act_keeps footing (command.Rmd text) pending s within said kept k idle =
+act_keeps context (command.Rmd text) pending s within said kept k idle =
     performs_keeps (Ops.RemoveDir text) (Replies.Fixed Texts.Done) s k idle (λ is. k.cwd) (λ is. tt)
-act_keeps footing (command.Mkd text) pending s within said kept k idle =
+act_keeps context (command.Mkd text) pending s within said kept k idle =
     performs_keeps (Ops.MakeDir text) (Replies.Made (path_of s text)) s k idle (λ is. k.cwd)
     (λ is. is_path-text (path_of s text) (led s text k said (there_fits (path_of s text) _ (second_none (barred s.rights.make_dir) _ is))))
-act_keeps footing command.Pwd pending s within said kept k idle = says_keeps s Replies.Here k idle (is_path-text s.cwd k.cwd)
-act_keeps footing (command.List text) pending s within said kept k idle = starts_keeps _ (Transfers.Listing _) s (λ is. tt) k
-act_keeps footing (command.Nlst text) pending s within said kept k idle = starts_keeps _ (Transfers.Listing _) s (λ is. tt) k
-act_keeps footing (command.Mlst text) pending s within said kept k idle = mlst_keeps text s said k idle
-act_keeps footing (command.Mlsd text) pending s within said kept k idle = starts_keeps _ (Transfers.Listing _) s (λ is. tt) k
-act_keeps footing (command.Size text) pending s within said kept k idle = size_keeps text s k idle
-act_keeps footing (command.Mdtm text) pending s within said kept k idle =
+act_keeps context command.Pwd pending s within said kept k idle = says_keeps s Replies.Here k idle (is_path-text s.cwd k.cwd)
+act_keeps context (command.List text) pending s within said kept k idle = starts_keeps _ (Transfers.Listing _) s (λ is. tt) k
+act_keeps context (command.Nlst text) pending s within said kept k idle = starts_keeps _ (Transfers.Listing _) s (λ is. tt) k
+act_keeps context (command.Mlst text) pending s within said kept k idle = mlst_keeps text s said k idle
+act_keeps context (command.Mlsd text) pending s within said kept k idle = starts_keeps _ (Transfers.Listing _) s (λ is. tt) k
+act_keeps context (command.Size text) pending s within said kept k idle = size_keeps text s k idle
+act_keeps context (command.Mdtm text) pending s within said kept k idle =
     unless_keeps (refusal (direct_of s) (Ops.Modified text)) s _ k (λ is. says_keeps s (Replies.Stamp _) k idle (stamp_of s text, refl))
-act_keeps footing command.Syst pending s within said kept k idle = tells_keeps Texts.System s k
-act_keeps footing command.Stat pending s within said kept k idle = tells_keeps Texts.Serving s k
-act_keeps footing (command.Help text) pending s within said kept k idle = tells_keeps Texts.Help s k
-act_keeps footing command.Noop pending s within said kept k idle = tells_keeps Texts.Fine s k
-act_keeps footing command.Feat pending s within said kept k idle = says_keeps s Replies.Features k idle tt
-act_keeps footing (command.Opts text) pending s within said kept k idle = opts_keeps text s k idle
+act_keeps context command.Syst pending s within said kept k idle = tells_keeps Texts.System s k
+act_keeps context command.Stat pending s within said kept k idle = tells_keeps Texts.Serving s k
+act_keeps context (command.Help text) pending s within said kept k idle = tells_keeps Texts.Help s k
+act_keeps context command.Noop pending s within said kept k idle = tells_keeps Texts.Fine s k
+act_keeps context command.Feat pending s within said kept k idle = says_keeps s Replies.Features k idle tt
+act_keeps context (command.Opts text) pending s within said kept k idle = opts_keeps text s k idle
 
 forgets_keeps : (c : Command (List ℕ)) (s : Session) → Keeps s → Keeps (forgets c s)
 forgets_keeps c s k = cond_both (is_transfer c) _ _ Keeps (λ is. forgotten_keeps s k) (λ is. k)
 
 pub line_keeps : LineKeeps
-line_keeps footing TooLong pending s within said kept k idle = tells_keeps Texts.LineTooLong s k
-line_keeps footing (Bad fault) pending s within said kept k idle = tells_keeps (fault_text fault) s k
-line_keeps footing (Asks c) pending s within said kept k idle =
-    cond_both (is_allowed c s) _ _ TurnKeeps (λ is. act_keeps footing c pending s within said kept k idle) (λ is. tells_keeps Texts.NotLoggedIn _ (forgets_keeps c s k))
+line_keeps context TooLong pending s within said kept k idle = tells_keeps Texts.LineTooLong s k
+line_keeps context (Bad fault) pending s within said kept k idle = tells_keeps (fault_text fault) s k
+line_keeps context (Asks c) pending s within said kept k idle =
+    cond_both (is_allowed c s) _ _ TurnKeeps (λ is. act_keeps context c pending s within said kept k idle) (λ is. tells_keeps Texts.NotLoggedIn _ (forgets_keeps c s k))
 
 -- ---- lines that are read
 

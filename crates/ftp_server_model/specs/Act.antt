@@ -7,7 +7,7 @@ use Rattle.ftp_command.specs.declared.command.Command.TheVariants as command
 use Rattle.ftp_command.specs.declared.fault.CommandFault.{CommandFault}
 use Rattle.ftp_command.specs.declared.fault.CommandFault.TheVariants as Faults
 use Rattle.ftp_path.specs.Path.{Names}
-use Rattle.ftp_server_model.specs.View.{Footing, Session}
+use Rattle.ftp_server_model.specs.View.{Context, Session}
 use Rattle.ftp_server_model.specs.Replies.{Turn, tells}
 use Rattle.ftp_server_model.specs.Endpoint.{forgotten, port, pasv, epsv}
 use Rattle.ftp_server_model.specs.Login.{user, pass, rein, quit}
@@ -25,45 +25,45 @@ use Rattle.ftp_server_model.specs.declared.session.Access.TheVariants.{Nobody, A
 use Rattle.ftp_server_model.specs.declared.session.Pending.{Pending}
 
 -- each command, with what the line before left pending for it. An ABOR during a transfer is not done here (`Machine`)
-abbrev pub act : Footing → Command (List ℕ) → Pending Names → Session → Turn
-act footing (command.User name) pending s = user footing.accounts name s
-act footing (command.Pass word) pending s = pass s.access footing.accounts word s
-act footing (command.Acct text) pending s = tells Texts.NotNeeded s
-act footing (command.Cwd text) pending s = cwd text s
-act footing command.Cdup pending s = cdup s
-act footing command.Rein pending s = rein s
-act footing command.Quit pending s = quit s
-act footing (command.Port endpoint) pending s = port footing endpoint s
-act footing command.Pasv pending s = pasv footing s
-act footing (command.Eprt endpoint) pending s = port footing endpoint s
-act footing (command.Epsv family) pending s = epsv footing family s
-act footing (command.Repr kind) pending s = set_kind kind s
-act footing (command.Stru structure) pending s = set_structure structure s
-act footing (command.Mode mode) pending s = set_mode mode s
-act footing (command.Retr text) pending s = retr pending text s
-act footing (command.Stor text) pending s = stor pending text s
-act footing (command.Appe text) pending s = appe text s
-act footing (command.Allo octets longest) pending s = tells Texts.NotNeeded s
-act footing (command.Rest place) pending s = rest place s
-act footing (command.Rnfr text) pending s = rnfr text s
-act footing (command.Rnto text) pending s = rnto pending text s
-act footing command.Abor pending s = tells Texts.AbortDone s
-act footing (command.Dele text) pending s = dele text s
-act footing (command.Rmd text) pending s = rmd text s
-act footing (command.Mkd text) pending s = mkd text s
-act footing command.Pwd pending s = (s, Replies.Here)
-act footing (command.List text) pending s = list text s
-act footing (command.Nlst text) pending s = nlst text s
-act footing (command.Mlst text) pending s = mlst text s
-act footing (command.Mlsd text) pending s = mlsd text s
-act footing (command.Size text) pending s = size text s
-act footing (command.Mdtm text) pending s = mdtm text s
-act footing command.Syst pending s = tells Texts.System s
-act footing command.Stat pending s = tells Texts.Serving s
-act footing (command.Help text) pending s = tells Texts.Help s
-act footing command.Noop pending s = tells Texts.Fine s
-act footing command.Feat pending s = (s, Replies.Features)
-act footing (command.Opts text) pending s = opts text s
+abbrev pub act : Context → Command (List ℕ) → Pending Names → Session → Turn
+act context (command.User name) pending s = user context.accounts name s
+act context (command.Pass word) pending s = pass s.access context.accounts word s
+act context (command.Acct text) pending s = tells Texts.NotNeeded s
+act context (command.Cwd text) pending s = cwd text s
+act context command.Cdup pending s = cdup s
+act context command.Rein pending s = rein s
+act context command.Quit pending s = quit s
+act context (command.Port endpoint) pending s = port context endpoint s
+act context command.Pasv pending s = pasv context s
+act context (command.Eprt endpoint) pending s = port context endpoint s
+act context (command.Epsv family) pending s = epsv context family s
+act context (command.Repr kind) pending s = set_kind kind s
+act context (command.Stru structure) pending s = set_structure structure s
+act context (command.Mode mode) pending s = set_mode mode s
+act context (command.Retr text) pending s = retr pending text s
+act context (command.Stor text) pending s = stor pending text s
+act context (command.Appe text) pending s = appe text s
+act context (command.Allo octets longest) pending s = tells Texts.NotNeeded s
+act context (command.Rest place) pending s = rest place s
+act context (command.Rnfr text) pending s = rnfr text s
+act context (command.Rnto text) pending s = rnto pending text s
+act context command.Abor pending s = tells Texts.AbortDone s
+act context (command.Dele text) pending s = dele text s
+act context (command.Rmd text) pending s = rmd text s
+act context (command.Mkd text) pending s = mkd text s
+act context command.Pwd pending s = (s, Replies.Here)
+act context (command.List text) pending s = list text s
+act context (command.Nlst text) pending s = nlst text s
+act context (command.Mlst text) pending s = mlst text s
+act context (command.Mlsd text) pending s = mlsd text s
+act context (command.Size text) pending s = size text s
+act context (command.Mdtm text) pending s = mdtm text s
+act context command.Syst pending s = tells Texts.System s
+act context command.Stat pending s = tells Texts.Serving s
+act context (command.Help text) pending s = tells Texts.Help s
+act context command.Noop pending s = tells Texts.Fine s
+act context command.Feat pending s = (s, Replies.Features)
+act context (command.Opts text) pending s = opts text s
 
 -- ---- the order of decisions on a line (own choice)
 
@@ -100,8 +100,8 @@ is_allowed command s = is_in s.access || is_free command
 
 -- in this order: the line is too long; it says no command, and why; nobody is logged in; the command's own answer. That begins,
 -- after EPSV ALL, with the 503 of PORT, PASV and EPRT
-abbrev pub decided : Footing → HeardLine (List ℕ) → Pending Names → Session → Turn
-decided footing TooLong pending s = tells Texts.LineTooLong s
-decided footing (Bad fault) pending s = tells (fault_text fault) s
-decided footing (Asks command) pending s =
-    if is_allowed command s then act footing command pending s else tells Texts.NotLoggedIn (forgets command s)
+abbrev pub decided : Context → HeardLine (List ℕ) → Pending Names → Session → Turn
+decided context TooLong pending s = tells Texts.LineTooLong s
+decided context (Bad fault) pending s = tells (fault_text fault) s
+decided context (Asks command) pending s =
+    if is_allowed command s then act context command pending s else tells Texts.NotLoggedIn (forgets command s)

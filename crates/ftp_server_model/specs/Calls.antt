@@ -10,7 +10,7 @@ use Rattle.ftp_tree.specs.Tree.{Table}
 use Rattle.ftp_ends.specs.Ear.{quiet}
 use Rattle.ftp_wire.specs.Decoder.{Decoder, with_sign, with_said, read_on, octet_says, fault_of}
 use Rattle.ftp_ends.specs.Link.{same_host}
-use Rattle.ftp_server_model.specs.View.{Accounts, Footing, Transfer, Session, View, first_session}
+use Rattle.ftp_server_model.specs.View.{Accounts, Context, Transfer, Session, View, first_session}
 use Rattle.ftp_server_model.specs.Keep.{kept_count}
 use Rattle.ftp_server_model.specs.declared.session.Keep.{Keep}
 use Rattle.ftp_server_model.specs.Replies.{Turn, fixed_reply, reply_octets, mark_reply}
@@ -34,7 +34,7 @@ use Rattle.ftp_server_model.specs.declared.session.ServerLink.TheVariants as Dat
 -- the greeting is owed
 abbrev pub start : Table → Accounts → Host → Host → View
 start table accounts here peer = record {
-  footing = record { accounts = accounts; here = here; peer = peer; moment = 0 };
+  context = record { accounts = accounts; here = here; peer = peer; moment = 0 };
   session = first_session table;
   ear = quiet;
   waiting = None;
@@ -53,7 +53,7 @@ gives_control count v = later (control_step count v)
 
 -- the moment in force from now on
 abbrev pub clock_step : ℕ → View → View
-clock_step moment v = record v { footing = record v.footing { moment = moment } }
+clock_step moment v = record v { context = record v.context { moment = moment } }
 
 -- the call: this step, and then the line that waits
 unfoldable pub clocked : ℕ → View → View
@@ -68,14 +68,14 @@ connection_of s = if s.closing then Data.Free else s.connection
 -- ---- listening
 
 -- the port that was asked for is told, by the reply of PASV or EPSV (RFC 959, section 4.1.2; RFC 2428, section 3)
-abbrev pub listening_turn : ServerLink Transfer → Footing → ℕ → Session → Turn
-listening_turn (Data.Asked Asking.Pasv) footing port s = (record s { connection = Data.Passive }, Replies.Passive (record { host = footing.here; port = port }))
-listening_turn (Data.Asked Asking.Epsv) footing port s = (record s { connection = Data.Passive }, Replies.Extended port)
-listening_turn connection footing port s = (s, Replies.Nothing)
+abbrev pub listening_turn : ServerLink Transfer → Context → ℕ → Session → Turn
+listening_turn (Data.Asked Asking.Pasv) context port s = (record s { connection = Data.Passive }, Replies.Passive (record { host = context.here; port = port }))
+listening_turn (Data.Asked Asking.Epsv) context port s = (record s { connection = Data.Passive }, Replies.Extended port)
+listening_turn connection context port s = (s, Replies.Nothing)
 
 -- this port is listened at
 abbrev pub listening_step : ℕ → View → View
-listening_step port v = turned (listening_turn (connection_of v.session) v.footing port v.session) v
+listening_step port v = turned (listening_turn (connection_of v.session) v.context port v.session) v
 
 -- the call: this step, and then the line that waits
 unfoldable pub listening : ℕ → View → View
@@ -116,7 +116,7 @@ opens connection is_peer v = v
 
 -- the data connection is open, and this host is at its other end
 abbrev pub opened_step : Host → View → View
-opened_step host v = completed (opens (connection_of v.session) (same_host host v.footing.peer) v)
+opened_step host v = completed (opens (connection_of v.session) (same_host host v.context.peer) v)
 
 -- the call: this step, and then the line that waits
 unfoldable pub data_opened : Host → View → View
@@ -228,7 +228,7 @@ gives_data count v = later (given_step count v)
 -- the client closed it; before a transfer command the endpoint is forgotten and nothing is said (own choice)
 abbrev pub ends : ServerLink Transfer → View → View
 ends Data.Ready v = with_session (disconnected v.session) v
-ends (Data.Transferring transfer) v = concluded (at_end v.footing.moment transfer (disconnected v.session)) v
+ends (Data.Transferring transfer) v = concluded (at_end v.context.moment transfer (disconnected v.session)) v
 ends connection v = v
 
 -- what that means for the transfer that it carried
@@ -242,7 +242,7 @@ data_end v = later (end_step v)
 -- it broke
 abbrev pub breaks : ServerLink Transfer → View → View
 breaks Data.Ready v = with_session (disconnected v.session) v
-breaks (Data.Transferring transfer) v = concluded (at_break v.footing.moment transfer (disconnected v.session)) v
+breaks (Data.Transferring transfer) v = concluded (at_break v.context.moment transfer (disconnected v.session)) v
 breaks connection v = v
 
 -- what that means for the transfer that it carried

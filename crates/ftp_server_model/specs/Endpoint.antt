@@ -5,7 +5,7 @@ use Rattle.ftp_endpoint.specs.declared.host.Host.{Host}
 use Rattle.ftp_command.specs.declared.command.Passive.{Passive}
 use Rattle.ftp_command.specs.declared.command.Passive.TheVariants.{Any, Ipv4, Ipv6, Only}
 use Rattle.ftp_ends.specs.Link.{same_host, is_v6}
-use Rattle.ftp_server_model.specs.View.{Footing, Transfer, Session}
+use Rattle.ftp_server_model.specs.View.{Context, Transfer, Session}
 use Rattle.ftp_server_model.specs.Replies.{Turn, tells}
 use Rattle.ftp_server_model.specs.declared.reply.FixedReply.TheVariants as Texts
 use Rattle.ftp_server_model.specs.declared.reply.ReplyKind.TheVariants as Replies
@@ -45,24 +45,24 @@ takes false endpoint s = tells Texts.BadParameter s
 
 -- PORT and EPRT: the endpoint before is forgotten whether the new one is taken or not; after EPSV ALL neither is done (RFC 2428,
 -- section 4; that it is 503 is an own choice)
-abbrev pub port : Footing → Endpoint → Session → Turn
-port footing endpoint s =
-    if s.only_extended then tells Texts.BadSequence s else takes (is_taken footing.peer endpoint) endpoint (forgotten s)
+abbrev pub port : Context → Endpoint → Session → Turn
+port context endpoint s =
+    if s.only_extended then tells Texts.BadSequence s else takes (is_taken context.peer endpoint) endpoint (forgotten s)
 
 -- a port is asked for; the reply follows when it is told, or refused
 abbrev pub asks : PassiveVerb → Session → Turn
 asks asked s = (record (forgotten s) { connection = Data.Asked asked }, Replies.Nothing)
 
 -- PASV: it names no endpoint of IPv6, and is 425 there (own choice)
-abbrev pub pasv : Footing → Session → Turn
-pasv footing s =
+abbrev pub pasv : Context → Session → Turn
+pasv context s =
     if s.only_extended then tells Texts.BadSequence s
-    else (if is_v6 footing.here then tells Texts.NoConnection s else asks Asking.Pasv s)
+    else (if is_v6 context.here then tells Texts.NoConnection s else asks Asking.Pasv s)
 
 -- EPSV: of the family of the control connection, or of none; ALL: no other command opens a data connection from now on (RFC 2428,
 -- sections 3 and 4)
-abbrev pub epsv : Footing → Passive → Session → Turn
-epsv footing Any s = asks Asking.Epsv s
-epsv footing Ipv4 s = if is_v6 footing.here then tells Texts.OnlyIpv6 s else asks Asking.Epsv s
-epsv footing Ipv6 s = if is_v6 footing.here then asks Asking.Epsv s else tells Texts.OnlyIpv4 s
-epsv footing Only s = tells Texts.OnlyExtended (record s { only_extended = true })
+abbrev pub epsv : Context → Passive → Session → Turn
+epsv context Any s = asks Asking.Epsv s
+epsv context Ipv4 s = if is_v6 context.here then tells Texts.OnlyIpv6 s else asks Asking.Epsv s
+epsv context Ipv6 s = if is_v6 context.here then asks Asking.Epsv s else tells Texts.OnlyIpv4 s
+epsv context Only s = tells Texts.OnlyExtended (record s { only_extended = true })

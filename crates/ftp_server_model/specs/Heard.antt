@@ -67,7 +67,7 @@ text_told (Asks command) = text_named command
 
 -- what a line makes where it is acted on, as `obeyed` has it
 abbrev pub turn_of : HeardLine (List ℕ) → View → Turn
-turn_of heard v = decided v.footing heard v.session.pending (record v.session { pending = Pendings.Nothing })
+turn_of heard v = decided v.context heard v.session.pending (record v.session { pending = Pendings.Nothing })
 
 -- the code of a reply, where there is one
 abbrev pub code_if_any : Option Reply → Option ℕ

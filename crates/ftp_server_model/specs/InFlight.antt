@@ -6,7 +6,7 @@ use Rattle.ftp_nvt.specs.Lines.{written_line}
 use Rattle.ftp_nvt.specs.declared.telnet.TheConstants.{WONT, DONT}
 use Rattle.ftp_command.specs.Line.{IsLine, IsStated, IsTyped, line_of}
 use Rattle.ftp_command.specs.declared.command.Command.{Command}
-use Rattle.ftp_cutting.specs.Machine.{after}
+use Rattle.ftp_pieces.specs.Machine.{after}
 use Rattle.ftp_ends.specs.Ear.{quiet, ear, answer_of}
 use Rattle.ftp_server_model.specs.Machine.{Reading, IsReading, heard_line, hears, may_hear, MayHear}
 use Rattle.ftp_server_model.specs.View.{View, line_limit}

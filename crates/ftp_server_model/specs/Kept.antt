@@ -26,8 +26,8 @@ WaitingKeeps (Some heard) = CanBeHeard heard
 
 -- a server that keeps its limits
 pub record ServerKeeps (v : View) : Type 0 where
-  pub accounts : AreWithinLimits v.footing.accounts
-  pub host : IsTypedHost v.footing.here
+  pub accounts : AreWithinLimits v.context.accounts
+  pub host : IsTypedHost v.context.here
   pub session : Keeps v.session
   pub waiting : WaitingKeeps v.waiting
   pub owed : length v.owed ≤ owed_limit v.session.connection

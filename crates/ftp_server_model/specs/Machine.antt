@@ -34,7 +34,7 @@ use Rattle.ftp_server_model.specs.declared.session.ServerLink.TheVariants as Dat
 
 -- ---- what is said
 
--- with another session; lines, octets that are owed and footing stay
+-- with another session; lines, octets that are owed and context stay
 abbrev pub with_session : Session → View → View
 with_session session v = record v { session = session }
 
@@ -65,7 +65,7 @@ completed v = given_out v.session.connection v
 -- a line is acted on. RNFR and REST hold for one line: cleared first, even if it cannot be read
 unfoldable pub obeyed : HeardLine (List ℕ) → View → View
 obeyed heard v =
-    completed (turned (decided v.footing heard v.session.pending (record v.session { pending = Pendings.Nothing })) v)
+    completed (turned (decided v.context heard v.session.pending (record v.session { pending = Pendings.Nothing })) v)
 
 -- a transfer is under way, or a port was asked for
 abbrev pub is_connection_busy : ServerLink Transfer → Bool
@@ -159,7 +159,7 @@ faulted v = replied Texts.LocalFault (forgotten v.session) v
 
 -- it acts as a break; before the data connection is open, as a refused opening
 abbrev pub aborts : ServerLink Transfer → View → View
-aborts (Data.Transferring transfer) v = concluded (at_break v.footing.moment transfer (forgotten v.session)) v
+aborts (Data.Transferring transfer) v = concluded (at_break v.context.moment transfer (forgotten v.session)) v
 aborts (Data.Opening transfer way) v = replied Texts.NoConnection (forgotten v.session) v
 aborts connection v = v
 

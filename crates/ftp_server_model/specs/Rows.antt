@@ -12,7 +12,7 @@ use Rattle.ftp_endpoint.specs.declared.endpoint.Endpoint.{Endpoint}
 use Rattle.ftp_command.specs.declared.fault.CommandFault.TheVariants as Faults
 use Rattle.ftp_endpoint.specs.declared.host.Host.{Host}
 use Rattle.ftp_operation.specs.Rights.{all_rights}
-use Rattle.ftp_operation_secret.specs.Secret.{plain}
+use Rattle.ftp_secret.specs.Secret.{plain}
 use Rattle.ftp_path.specs.Path.{Names}
 use Rattle.ftp_tree.specs.Map.{Dir, File}
 use Rattle.ftp_tree.specs.Tree.{Table, IsTree, node_at, children, installed, made, moved, removed, make_refusal, moves_fit, room_at, under, with_part}

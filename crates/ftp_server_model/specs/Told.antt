@@ -12,7 +12,7 @@ use Rattle.ftp_path.specs.Path.{IsPathText, Names, fits, is_name, parent, resolv
 use Rattle.ftp_server_model.specs.Act.{decided}
 use Rattle.ftp_server_model.specs.Machine.{IsRead, is_connection_busy}
 use Rattle.ftp_server_model.specs.Replies.{Turn, IsTold}
-use Rattle.ftp_server_model.specs.View.{Accounts, Footing, Session, Transfer}
+use Rattle.ftp_server_model.specs.View.{Accounts, Context, Session, Transfer}
 use Rattle.ftp_server_model.specs.declared.heard.HeardLine.{HeardLine}
 use Rattle.ftp_server_model.specs.declared.heard.HeardLine.TheVariants.{TooLong, Bad, Asks}
 use Rattle.ftp_server_model.specs.declared.reply.ReplyKind.{ReplyKind}
@@ -130,6 +130,6 @@ pub record TurnKeeps (turn : Turn) : Type 0 where
 -- so it is of every line that a session acts on
 abbrev pub LineKeeps : Type 0
 LineKeeps =
-    (footing : Footing) (heard : HeardLine (List ℕ)) (pending : Pending Names) (s : Session)
-    → AreWithinLimits footing.accounts → CanBeHeard heard → PendingKeeps pending → Keeps s → is_connection_busy s.connection ≡ false
-    → TurnKeeps (decided footing heard pending s)
+    (context : Context) (heard : HeardLine (List ℕ)) (pending : Pending Names) (s : Session)
+    → AreWithinLimits context.accounts → CanBeHeard heard → PendingKeeps pending → Keeps s → is_connection_busy s.connection ≡ false
+    → TurnKeeps (decided context heard pending s)

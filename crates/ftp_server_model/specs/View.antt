@@ -33,7 +33,7 @@ abbrev pub Accounts : Type 0
 Accounts = List Account
 
 -- what no command changes: who may log in, the hosts of the control connection, the moment in force
-pub record Footing : Type 0 where
+pub record Context : Type 0 where
   pub accounts : Accounts
   pub here : Host
   pub peer : Host
@@ -61,7 +61,7 @@ pub record Session : Type 0 where
 
 -- the whole: a session, the line that is being read and the one that waits, and the control octets that are owed
 pub record View : Type 0 where
-  pub footing : Footing
+  pub context : Context
   pub session : Session
   pub ear : Ear
   pub waiting : Option (HeardLine (List ℕ))

@@ -123,7 +123,7 @@ pub trait Far<A: Allocator + Copy, T: Tree<A>>: Drop {
 
     /// The host that it stands on.
     fn here(&self) -> Host
-        ensures { result ≡ (server self.now).view.footing.here };
+        ensures { result ≡ (server self.now).view.context.here };
 
     /// What has failed so far.
     fn counts(&self) -> Counts

@@ -1,7 +1,7 @@
 -- Whether octets are still to be given.
 use Rattle.std.proofs.Common.{◌≡◌, [], ◌∷◌, not, ◌&&◌, refl}
 use Rattle.ftp_ends.specs.Octets.{has_octets}
-use Rattle.ftp_server_parts.specs.ServerTransfer.{is_out, takes_octets}
+use Rattle.ftp_server_replies.specs.ServerTransfer.{is_out, takes_octets}
 use Rattle.ftp_server_model.specs.Calls.{given_by}
 use Rattle.ftp_server_model.specs.View.{Transfer}
 use Rattle.ftp_server_model.specs.declared.session.ServerLink.TheVariants as Data

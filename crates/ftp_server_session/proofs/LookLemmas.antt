@@ -7,10 +7,10 @@ use Rattle.ftp_tree.specs.Tree.{Table}
 use Rattle.ftp_server_model.specs.Replies.{Turn}
 use Rattle.ftp_server_model.specs.View.{Session, Transfer}
 use Rattle.ftp_server_model.specs.declared.reply.ReplyKind.{ReplyKind}
-use Rattle.ftp_server_parts.specs.Fault.{Counted}
-use Rattle.ftp_server_parts.specs.declared.fault.Fault.{Fault}
-use Rattle.ftp_server_parts.specs.declared.fault.Fault.TheVariants.{Memory, Device}
-use Rattle.ftp_server_parts.proofs.SteadyLemmas.{steady_twice}
+use Rattle.ftp_server_replies.specs.Fault.{Counted}
+use Rattle.ftp_server_replies.specs.declared.fault.Fault.{Fault}
+use Rattle.ftp_server_replies.specs.declared.fault.Fault.TheVariants.{Memory, Device}
+use Rattle.ftp_server_replies.proofs.SteadyLemmas.{steady_twice}
 use Rattle.ftp_server_session.specs.Session.{Looks, Turns, session_of}
 use Rattle.ftp_server_session.specs.declared.session.Session.{Session as Held}
 

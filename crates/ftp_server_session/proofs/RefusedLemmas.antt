@@ -20,8 +20,8 @@ use Rattle.ftp_server_model.specs.declared.reply.FixedReply.{FixedReply}
 use Rattle.ftp_server_model.specs.declared.reply.FixedReply.TheVariants as Texts
 use Rattle.ftp_server_session.proofs.LookLemmas.{Moves}
 use Rattle.ftp_server_session.specs.Session.{RefusedAs, Turns, session_of}
-use Rattle.ftp_server_parts.specs.declared.fault.Fault.{Fault}
-use Rattle.ftp_server_parts.specs.declared.fault.Fault.TheVariants.{Memory, Device}
+use Rattle.ftp_server_replies.specs.declared.fault.Fault.{Fault}
+use Rattle.ftp_server_replies.specs.declared.fault.Fault.TheVariants.{Memory, Device}
 use Rattle.ftp_server_session.specs.declared.session.Session.{Session as Held}
 
 -- a tree that holds the same is seen as the same session

@@ -10,11 +10,11 @@ use Rattle.ftp_tree.specs.Change.{Failures, IsSteady, NoStray}
 use Rattle.ftp_tree.specs.Tree.{Table}
 use Rattle.ftp_server_model.specs.Act.{decided, forgets, is_allowed}
 use Rattle.ftp_server_model.specs.Failing.{may_fail}
-use Rattle.ftp_server_model.specs.View.{Footing, Session, Transfer}
+use Rattle.ftp_server_model.specs.View.{Context, Session, Transfer}
 use Rattle.ftp_server_model.specs.declared.reply.ReplyKind.{ReplyKind}
 use Rattle.ftp_server_session.specs.Session.{session_of}
-use Rattle.ftp_server_parts.specs.Fault.{Counted}
-use Rattle.ftp_server_parts.specs.declared.fault.Fault.{Fault}
+use Rattle.ftp_server_replies.specs.Fault.{Counted}
+use Rattle.ftp_server_replies.specs.declared.fault.Fault.{Fault}
 use Rattle.ftp_server_session.specs.declared.session.Session.{Session as Held}
 use Rattle.ftp_server_model.specs.declared.heard.HeardLine.{HeardLine}
 use Rattle.ftp_server_model.specs.declared.heard.HeardLine.TheVariants.{TooLong, Bad, Asks}
@@ -48,22 +48,22 @@ LineLost (Asks command) old new =
 
 -- what a command leaves once its turn has come: its row and the login it needs; or it could not be done, and a transfer command has
 -- forgotten the endpoint
-abbrev pub Asked : {A T J : Type 0} → (T → Table) → (T → Failures) → (J → Transfer) → Footing → Command (List ℕ) → Pending Names → Held A T J → Held A T J → Result (ReplyKind Names) Fault → Type 0
-Asked table failures view footing command pending old new (Ok kind) =
-    (NoStray (failures old.tree) (failures new.tree) → (session_of table view new, kind) ≡ decided footing (Asks command) pending (session_of table view old))
+abbrev pub Asked : {A T J : Type 0} → (T → Table) → (T → Failures) → (J → Transfer) → Context → Command (List ℕ) → Pending Names → Held A T J → Held A T J → Result (ReplyKind Names) Fault → Type 0
+Asked table failures view context command pending old new (Ok kind) =
+    (NoStray (failures old.tree) (failures new.tree) → (session_of table view new, kind) ≡ decided context (Asks command) pending (session_of table view old))
     × IsSteady (failures old.tree) (failures new.tree)
-Asked table failures view footing command pending old new (Err fault) =
+Asked table failures view context command pending old new (Err fault) =
     (is_allowed command (session_of table view old) ≡ true) × (may_fail command ≡ true)
     × (NoStray (failures old.tree) (failures new.tree) → session_of table view new ≡ forgets command (session_of table view old))
     × Counted fault (failures old.tree) (failures new.tree)
 
 -- what a line leaves: what was pending is taken, then session and reply are those of the order of decisions; or it could not be done
-abbrev pub Decides : {A T J : Type 0} → (T → Table) → (T → Failures) → (J → Transfer) → Footing → HeardLine (List ℕ) → Held A T J → Held A T J → Result (ReplyKind Names) Fault → Type 0
-Decides table failures view footing heard old new (Ok kind) =
+abbrev pub Decides : {A T J : Type 0} → (T → Table) → (T → Failures) → (J → Transfer) → Context → HeardLine (List ℕ) → Held A T J → Held A T J → Result (ReplyKind Names) Fault → Type 0
+Decides table failures view context heard old new (Ok kind) =
     let s = session_of table view old in
     (NoStray (failures old.tree) (failures new.tree)
-    → (session_of table view new, kind) ≡ decided footing heard s.pending (record s { pending = Pendings.Nothing }))
+    → (session_of table view new, kind) ≡ decided context heard s.pending (record s { pending = Pendings.Nothing }))
     × IsSteady (failures old.tree) (failures new.tree)
-Decides table failures view footing heard old new (Err fault) =
+Decides table failures view context heard old new (Err fault) =
     (NoStray (failures old.tree) (failures new.tree) → LineLost heard (session_of table view old) (session_of table view new))
     × Counted fault (failures old.tree) (failures new.tree)

@@ -13,7 +13,7 @@ use Rattle.ftp_server_model.specs.declared.reply.ReplyKind.TheVariants as Replie
 use Rattle.ftp_server_model.specs.declared.session.Access.{Access}
 use Rattle.ftp_server_model.specs.declared.session.ServerLink.{ServerLink}
 use Rattle.ftp_server_model.specs.declared.session.ServerLink.TheVariants as Data
-use Rattle.ftp_server_parts.specs.declared.fault.Fault.{Fault}
+use Rattle.ftp_server_replies.specs.declared.fault.Fault.{Fault}
 use Rattle.ftp_server_session.specs.declared.session.Session.{Session as Held}
 
 -- a transfer is under way, or a port was asked for, however a transfer is held

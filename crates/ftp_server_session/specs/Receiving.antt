@@ -8,10 +8,10 @@ use Rattle.ftp_server_model.specs.Calls.{connection_of, receives, MayReceive, ta
 use Rattle.ftp_server_model.specs.Failing.{Late, AreReceived, GiveFails}
 use Rattle.ftp_server_model.specs.declared.reply.FixedReply.{FixedReply}
 use Rattle.ftp_server_model.specs.declared.reply.FixedReply.TheVariants as Texts
-use Rattle.ftp_server_parts.specs.Fault.{Counted}
-use Rattle.ftp_server_parts.specs.declared.fault.Fault.{Fault}
-use Rattle.ftp_server_parts.specs.declared.transfer.Told.{Told}
-use Rattle.ftp_server_parts.specs.declared.transfer.Told.TheVariants.{Nothing, Mark, Faulty, NoMemory}
+use Rattle.ftp_server_replies.specs.Fault.{Counted}
+use Rattle.ftp_server_replies.specs.declared.fault.Fault.{Fault}
+use Rattle.ftp_server_replies.specs.declared.transfer.Told.{Told}
+use Rattle.ftp_server_replies.specs.declared.transfer.Told.TheVariants.{Nothing, Mark, Faulty, NoMemory}
 
 -- octets came, and this is the session then; where the transfer is over by the last of them, the 451 is to be said
 abbrev pub ComesIn : View → List ℕ → Told → Session → Type 0

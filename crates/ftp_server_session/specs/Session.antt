@@ -6,16 +6,16 @@ use Rattle.ftp_tree.specs.Tree.{Table}
 use Rattle.ftp_tree.specs.declared.fault.TreeFault.{TreeFault}
 use Rattle.ftp_tree.specs.declared.fault.TreeFault.TheVariants as Faults
 use Rattle.ftp_server_model.specs.Replies.{Turn}
-use Rattle.ftp_server_model.specs.View.{Footing, Session, Transfer}
+use Rattle.ftp_server_model.specs.View.{Context, Session, Transfer}
 use Rattle.ftp_server_model.specs.declared.reply.ReplyKind.{ReplyKind}
 use Rattle.ftp_server_model.specs.declared.reply.ReplyKind.TheVariants as Replies
 use Rattle.ftp_server_model.specs.declared.reply.FixedReply.{FixedReply}
 use Rattle.ftp_server_model.specs.declared.session.ServerLink.{ServerLink}
 use Rattle.ftp_server_model.specs.declared.session.ServerLink.TheVariants as Data
-use Rattle.ftp_server_parts.specs.Fault.{Counted}
-use Rattle.ftp_server_parts.specs.declared.fault.Fault.{Fault}
-use Rattle.ftp_server_parts.specs.declared.fault.Fault.TheVariants.{Memory, Device}
-use Rattle.ftp_server_session.specs.declared.footing.Footing.{Footing as Stands}
+use Rattle.ftp_server_replies.specs.Fault.{Counted}
+use Rattle.ftp_server_replies.specs.declared.fault.Fault.{Fault}
+use Rattle.ftp_server_replies.specs.declared.fault.Fault.TheVariants.{Memory, Device}
+use Rattle.ftp_server_session.specs.declared.context.Context.{Context as Stands}
 use Rattle.ftp_server_session.specs.declared.session.Session.{Session as Held}
 
 -- a data connection, by how its transfer is seen
@@ -56,8 +56,8 @@ session_of table view s = record {
 }
 
 -- what no command changes
-abbrev pub footing_of : {A : Type 0} → Stands A → Footing
-footing_of f = record { accounts = f.accounts; here = f.here; peer = f.peer; moment = f.moment.seconds }
+abbrev pub context_of : {A : Type 0} → Stands A → Context
+context_of f = record { accounts = f.accounts; here = f.here; peer = f.peer; moment = f.moment.seconds }
 
 -- what a command leaves: session and reply are its row of the definitions; or nothing has changed, for want of memory or as the
 -- device failed. Where the device strayed only the counts are told of

@@ -4,44 +4,44 @@ ghost use Rattle.ftp_server_model.specs.Act.{act};
 ghost use Rattle.ftp_server_model.specs.Failing.{may_fail};
 ghost use Rattle.ftp_server_session.specs.Line.{HasPathTexts};
 
-use crate::footing::Footing;
+use crate::context::Context;
 use crate::session::Session;
 use ftp_command::{Argument, Command};
 use ftp_path::Path;
 use ftp_server_model::{FixedReply, Pending, ReplyKind};
-use ftp_server_parts::{Fault, ServerTransfer};
+use ftp_server_replies::{Fault, ServerTransfer};
 use ftp_tree::Tree;
 use std::alloc::Allocator;
 
 impl<A: Allocator + Copy, T: Tree<A>, J: ServerTransfer<A, T>> Session<A, T, J> {
     ghost use Rattle.ftp_server_session.specs.Little.{LeavesLittle, name_len};
-    ghost use Rattle.ftp_server_session.specs.Session.{Turns, footing_of};
+    ghost use Rattle.ftp_server_session.specs.Session.{Turns, context_of};
 
     /// Does a command, after what the line before left pending for it. An ABOR during a transfer is not done here. Of the texts of commands
     /// the name of USER alone is kept.
     pub(crate) fn act(
         &mut self,
-        footing: &Footing<A>,
+        context: &Context<A>,
         command: Command<Argument<A>>,
         pending: &Pending<Path<A>>,
     ) -> Result<ReplyKind<Path<A>>, Fault>
         requires paths { HasPathTexts command }
-        ensures turn { Turns T.table T.failures J.view (act (footing_of footing.now) command pending.now) self.old self.new result }
+        ensures turn { Turns T.table T.failures J.view (act (context_of context.now) command pending.now) self.old self.new result }
         ensures little { LeavesLittle (name_len command) self.old self.new result }
         ensures may_fail { OnErr result (may_fail command ≡ true) }
     {
         match command {
-            Command::User(name) => self.user(&footing.accounts, name),
-            Command::Pass(word) => self.pass(&footing.accounts, word.octets()),
+            Command::User(name) => self.user(&context.accounts, name),
+            Command::Pass(word) => self.pass(&context.accounts, word.octets()),
             Command::Acct(_) => Ok(ReplyKind::Fixed(FixedReply::NotNeeded)),
             Command::Cwd(text) => self.change_dir(text.octets()),
             Command::Cdup => Ok(self.go_up()),
             Command::Rein => Ok(self.rein()),
             Command::Quit => Ok(self.quit()),
-            Command::Port(endpoint) => Ok(self.port(footing, endpoint)),
-            Command::Pasv => Ok(self.pasv(footing)),
-            Command::Eprt(endpoint) => Ok(self.port(footing, endpoint)),
-            Command::Epsv(family) => Ok(self.epsv(footing, family)),
+            Command::Port(endpoint) => Ok(self.port(context, endpoint)),
+            Command::Pasv => Ok(self.pasv(context)),
+            Command::Eprt(endpoint) => Ok(self.port(context, endpoint)),
+            Command::Epsv(family) => Ok(self.epsv(context, family)),
             Command::Repr(kind) => Ok(self.set_kind(kind)),
             Command::Stru(structure) => Ok(self.set_structure(structure)),
             Command::Mode(mode) => Ok(self.set_mode(mode)),

@@ -14,7 +14,7 @@ use ftp_facts::moment_text;
 use ftp_operation::{How, is_number};
 use ftp_path::Path;
 use ftp_server_model::{FixedReply, Pending, ReplyKind};
-use ftp_server_parts::{Fault, ServerTransfer};
+use ftp_server_replies::{Fault, ServerTransfer};
 use ftp_settings::{Mode, Representation, Structure};
 use ftp_tree::{Sight, Tree};
 use std::alloc::Allocator;

@@ -5,30 +5,30 @@ ghost use Rattle.ftp_server_session.specs.Line.{HasPathTexts, HeardPaths};
 ghost use Rattle.ftp_server_session.specs.Little.{KeepsName, LeavesLittle, SaysLittle, heard_name_len, is_busy, name_len};
 ghost use Rattle.ftp_server_session.specs.Session.{has_transfer};
 
-use crate::footing::Footing;
+use crate::context::Context;
 use crate::session::Session;
 use ftp_command::{Argument, Command};
 use ftp_path::Path;
 use ftp_server_model::{FixedReply, HeardLine, Pending, ReplyKind, ServerLink};
-use ftp_server_parts::{
+use ftp_server_replies::{
     Fault, ServerTransfer, fault_text, is_free, is_in, is_transfer, pending_for,
 };
 use ftp_tree::Tree;
 use std::alloc::Allocator;
 
 impl<A: Allocator + Copy, T: Tree<A>, J: ServerTransfer<A, T>> Session<A, T, J> {
-    ghost use Rattle.ftp_server_session.specs.Session.{footing_of, session_of};
+    ghost use Rattle.ftp_server_session.specs.Session.{context_of, session_of};
     ghost use Rattle.ftp_server_session.specs.Line.{Asked, Decides};
 
     /// Acts on a line: what was pending is taken, the order of decisions gone through, and the reply that is to be said answered. A server has
     /// its lines wait while a transfer is under way; one that comes here then is out of sequence, and nothing is done.
     pub fn decide(
         &mut self,
-        footing: &Footing<A>,
+        context: &Context<A>,
         heard: HeardLine<Argument<A>>,
     ) -> Result<ReplyKind<Path<A>>, Fault>
         requires { HeardPaths heard }
-        ensures idle { has_transfer self.old.connection ≡ false → Decides T.table T.failures J.view (footing_of footing.now) heard self.old self.new result }
+        ensures idle { has_transfer self.old.connection ≡ false → Decides T.table T.failures J.view (context_of context.now) heard self.old self.new result }
         ensures busy { has_transfer self.old.connection ≡ true → (result ≡ Ok (ReplyKind.Fixed FixedReply.BadSequence)) × (self.new ≡ self.old) }
 
         // Whatever the tree's device gives.
@@ -38,24 +38,24 @@ impl<A: Allocator + Copy, T: Tree<A>, J: ServerTransfer<A, T>> Session<A, T, J> 
         if has_transfer(&self.connection) {
             return Ok(ReplyKind::Fixed(FixedReply::BadSequence));
         }
-        self.decide_idle(footing, heard)
+        self.decide_idle(context, heard)
     }
 
     /// The same where no transfer is under way.
     fn decide_idle(
         &mut self,
-        footing: &Footing<A>,
+        context: &Context<A>,
         heard: HeardLine<Argument<A>>,
     ) -> Result<ReplyKind<Path<A>>, Fault>
         requires paths { HeardPaths heard }
-        ensures decides { Decides T.table T.failures J.view (footing_of footing.now) heard self.old self.new result }
+        ensures decides { Decides T.table T.failures J.view (context_of context.now) heard self.old self.new result }
         ensures little { LeavesLittle (heard_name_len heard) self.old self.new result }
     {
         let pending = pending_for(&mut self.pending);
         match heard {
             HeardLine::TooLong => Ok(ReplyKind::Fixed(FixedReply::LineTooLong)),
             HeardLine::Bad(fault) => Ok(ReplyKind::Fixed(fault_text(fault))),
-            HeardLine::Asks(command) => self.answer(footing, command, &pending),
+            HeardLine::Asks(command) => self.answer(context, command, &pending),
         }
     }
 
@@ -63,12 +63,12 @@ impl<A: Allocator + Copy, T: Tree<A>, J: ServerTransfer<A, T>> Session<A, T, J> 
     /// that is not begun has forgotten the endpoint.
     fn answer(
         &mut self,
-        footing: &Footing<A>,
+        context: &Context<A>,
         command: Command<Argument<A>>,
         pending: &Pending<Path<A>>,
     ) -> Result<ReplyKind<Path<A>>, Fault>
         requires paths { HasPathTexts command }
-        ensures asked { Asked T.table T.failures J.view (footing_of footing.now) command pending.now self.old self.new result }
+        ensures asked { Asked T.table T.failures J.view (context_of context.now) command pending.now self.old self.new result }
         ensures little { LeavesLittle (name_len command) self.old self.new result }
     {
         let is_transfer = is_transfer(&command);
@@ -77,7 +77,7 @@ impl<A: Allocator + Copy, T: Tree<A>, J: ServerTransfer<A, T>> Session<A, T, J> 
             self.forget_if(is_transfer);
             return Ok(ReplyKind::Fixed(FixedReply::NotLoggedIn));
         }
-        match self.act(footing, command, pending) {
+        match self.act(context, command, pending) {
             Ok(kind) => Ok(kind),
             Err(fault) => {
                 self.forget_if(is_transfer);

@@ -2,20 +2,20 @@
 ghost use Rattle.std.specs.Prelude.{◌≡◌, Ok};
 ghost use Rattle.ftp_server_model.specs.Endpoint.{asks, disconnected, epsv, forgotten, is_standing, pasv, port};
 
-use crate::footing::Footing;
+use crate::context::Context;
 use crate::session::Session;
 use ftp_command::Passive;
 use ftp_endpoint::Endpoint;
 use ftp_ends::is_v6;
 use ftp_path::Path;
 use ftp_server_model::{FixedReply, PassiveVerb, ReplyKind, ServerLink, Way};
-use ftp_server_parts::{ServerTransfer, is_taken};
+use ftp_server_replies::{ServerTransfer, is_taken};
 use ftp_tree::Tree;
 use std::alloc::Allocator;
 
 impl<A: Allocator + Copy, T: Tree<A>, J: ServerTransfer<A, T>> Session<A, T, J> {
     ghost use Rattle.ftp_server_session.specs.Little.{LeavesLittle};
-    ghost use Rattle.ftp_server_session.specs.Session.{connection_of, footing_of, session_of};
+    ghost use Rattle.ftp_server_session.specs.Session.{connection_of, context_of, session_of};
 
     /// Whether the data connection is open, or a port is listened at.
     pub fn is_standing(&self) -> bool
@@ -50,8 +50,8 @@ impl<A: Allocator + Copy, T: Tree<A>, J: ServerTransfer<A, T>> Session<A, T, J> 
     }
 
     /// PORT and EPRT.
-    pub(crate) fn port(&mut self, footing: &Footing<A>, endpoint: Endpoint) -> ReplyKind<Path<A>>
-        ensures turn { (session_of T.table J.view self.new, result) ≡ port (footing_of footing.now) endpoint (session_of T.table J.view self.old) }
+    pub(crate) fn port(&mut self, context: &Context<A>, endpoint: Endpoint) -> ReplyKind<Path<A>>
+        ensures turn { (session_of T.table J.view self.new, result) ≡ port (context_of context.now) endpoint (session_of T.table J.view self.old) }
         ensures tree { self.new.tree ≡ self.old.tree }
         ensures little { LeavesLittle 0 self.old self.new (Ok result) }
     {
@@ -59,7 +59,7 @@ impl<A: Allocator + Copy, T: Tree<A>, J: ServerTransfer<A, T>> Session<A, T, J> 
             return ReplyKind::Fixed(FixedReply::BadSequence);
         }
         self.forget();
-        if !is_taken(footing.peer, endpoint) {
+        if !is_taken(context.peer, endpoint) {
             return ReplyKind::Fixed(FixedReply::BadParameter);
         }
         self.connection = ServerLink::Active(endpoint);
@@ -78,36 +78,36 @@ impl<A: Allocator + Copy, T: Tree<A>, J: ServerTransfer<A, T>> Session<A, T, J> 
     }
 
     /// PASV.
-    pub(crate) fn pasv(&mut self, footing: &Footing<A>) -> ReplyKind<Path<A>>
-        ensures turn { (session_of T.table J.view self.new, result) ≡ pasv (footing_of footing.now) (session_of T.table J.view self.old) }
+    pub(crate) fn pasv(&mut self, context: &Context<A>) -> ReplyKind<Path<A>>
+        ensures turn { (session_of T.table J.view self.new, result) ≡ pasv (context_of context.now) (session_of T.table J.view self.old) }
         ensures tree { self.new.tree ≡ self.old.tree }
         ensures little { LeavesLittle 0 self.old self.new (Ok result) }
     {
         if self.only_extended {
             return ReplyKind::Fixed(FixedReply::BadSequence);
         }
-        if is_v6(footing.here) {
+        if is_v6(context.here) {
             return ReplyKind::Fixed(FixedReply::NoConnection);
         }
         self.ask(PassiveVerb::Pasv)
     }
 
     /// EPSV.
-    pub(crate) fn epsv(&mut self, footing: &Footing<A>, family: Passive) -> ReplyKind<Path<A>>
-        ensures turn { (session_of T.table J.view self.new, result) ≡ epsv (footing_of footing.now) family (session_of T.table J.view self.old) }
+    pub(crate) fn epsv(&mut self, context: &Context<A>, family: Passive) -> ReplyKind<Path<A>>
+        ensures turn { (session_of T.table J.view self.new, result) ≡ epsv (context_of context.now) family (session_of T.table J.view self.old) }
         ensures tree { self.new.tree ≡ self.old.tree }
         ensures little { LeavesLittle 0 self.old self.new (Ok result) }
     {
         match family {
             Passive::Any => self.ask(PassiveVerb::Epsv),
             Passive::Ipv4 => {
-                if is_v6(footing.here) {
+                if is_v6(context.here) {
                     return ReplyKind::Fixed(FixedReply::OnlyIpv6);
                 }
                 self.ask(PassiveVerb::Epsv)
             }
             Passive::Ipv6 => {
-                if !is_v6(footing.here) {
+                if !is_v6(context.here) {
                     return ReplyKind::Fixed(FixedReply::OnlyIpv4);
                 }
                 self.ask(PassiveVerb::Epsv)

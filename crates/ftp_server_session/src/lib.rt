@@ -4,9 +4,9 @@
 
 mod act;
 mod ask;
+mod context;
 mod decide;
 mod endpoint;
-mod footing;
 mod login;
 mod look;
 mod options;
@@ -16,7 +16,7 @@ mod settings;
 mod transfers;
 mod walk;
 
-pub use footing::Footing;
+pub use context::Context;
 pub use ftp_ends::is_same_host;
-pub use ftp_server_parts::{Fault, Given, Marker, Received, ServerTransfer, Told};
+pub use ftp_server_replies::{Fault, Given, Marker, Received, ServerTransfer, Told};
 pub use session::Session;

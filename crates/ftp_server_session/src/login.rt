@@ -11,7 +11,7 @@ use ftp_facts::{Facts, Text};
 use ftp_operation::{Account, Accounts, Rights};
 use ftp_path::Path;
 use ftp_server_model::{Access, FixedReply, Life, ReplyKind};
-use ftp_server_parts::{Fault, ServerTransfer};
+use ftp_server_replies::{Fault, ServerTransfer};
 use ftp_tree::{Sight, Tree};
 use std::alloc::Allocator;
 

@@ -6,14 +6,14 @@ ghost use Rattle.ftp_direct.specs.declared.refusal.Refusal.{Refusal};
 ghost use Rattle.ftp_path.specs.Path.{IsPathText, fits, resolved};
 ghost use Rattle.ftp_server_model.specs.Ask.{or_empty};
 ghost use Rattle.ftp_server_model.specs.View.{direct_of};
-ghost use Rattle.ftp_server_parts.specs.Fault.{Counted};
+ghost use Rattle.ftp_server_replies.specs.Fault.{Counted};
 ghost use Rattle.ftp_tree.specs.Change.{IsSteady, NoStray};
 
 use crate::session::Session;
 use ftp_command::Argument;
 use ftp_direct::file_fault;
 use ftp_path::{Path, PathFault};
-use ftp_server_parts::{Fault, ServerTransfer};
+use ftp_server_replies::{Fault, ServerTransfer};
 use ftp_tree::{Sight, Tree};
 use std::alloc::Allocator;
 

@@ -11,7 +11,7 @@ ghost use Rattle.ftp_server_session.specs.Receiving.{ComesIn, Gives, GivesOut};
 
 use crate::session::Session;
 use ftp_server_model::ServerLink;
-use ftp_server_parts::{Given, Received, ServerTransfer, Told};
+use ftp_server_replies::{Given, Received, ServerTransfer, Told};
 use ftp_tree::Tree;
 use std::alloc::Allocator;
 

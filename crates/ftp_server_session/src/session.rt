@@ -8,7 +8,7 @@ use ftp_facts::Facts;
 use ftp_operation::Rights;
 use ftp_path::Path;
 use ftp_server_model::{Access, Life, Pending, ServerLink};
-use ftp_server_parts::ServerTransfer;
+use ftp_server_replies::ServerTransfer;
 use ftp_settings::{Kind, Mode, Representation, Structure};
 use ftp_tree::Tree;
 use std::alloc::Allocator;

@@ -6,7 +6,7 @@ use crate::options::{is_utf8_on, option_facts};
 use crate::session::Session;
 use ftp_path::Path;
 use ftp_server_model::{FixedReply, ReplyKind};
-use ftp_server_parts::ServerTransfer;
+use ftp_server_replies::ServerTransfer;
 use ftp_settings::{Kind, Mode, Structure};
 use ftp_tree::Tree;
 use std::alloc::Allocator;

@@ -21,7 +21,7 @@ use ftp_command::Argument;
 use ftp_direct::{absent_fault, directory_fault, len_at, may_put_at, place_at};
 use ftp_path::Path;
 use ftp_server_model::{FixedReply, Keep, Pending, ReplyKind, ServerLink, Way};
-use ftp_server_parts::{Fault, ServerTransfer, room_text};
+use ftp_server_replies::{Fault, ServerTransfer, room_text};
 use ftp_tree::{Sight, Tree, TreeFault};
 use std::alloc::Allocator;
 

@@ -10,7 +10,7 @@ use crate::session::Session;
 use ftp_direct::{directory_fault, is_busy, is_held, move_to};
 use ftp_path::Path;
 use ftp_server_model::{FixedReply, Pending, ReplyKind};
-use ftp_server_parts::{Fault, ServerTransfer};
+use ftp_server_replies::{Fault, ServerTransfer};
 use ftp_tree::{Sight, Tree, TreeFault};
 use std::alloc::Allocator;
 

@@ -12,8 +12,8 @@ use Rattle.ftp_server_model.specs.declared.session.Keep.{Keep}
 use Rattle.ftp_server_model.specs.declared.reply.FixedReply.{FixedReply}
 use Rattle.ftp_server_model.specs.declared.reply.FixedReply.TheVariants as Texts
 use Rattle.ftp_server_model.specs.declared.session.Transfer.TheVariants as Transfers
-use Rattle.ftp_server_parts.specs.ServerTransfer.{Ends}
-use Rattle.ftp_server_parts.specs.declared.fault.Fault.{Fault}
+use Rattle.ftp_server_replies.specs.ServerTransfer.{Ends}
+use Rattle.ftp_server_replies.specs.declared.fault.Fault.{Fault}
 
 -- a whole file and one that is not
 pub at_whole : (moment : ℕ) (path : Names) (keep : Keep) (d e : Decoder) (s : Session) (new : Table) (result : Result FixedReply Fault) (before after : Failures) → is_whole d ≡ true

@@ -21,9 +21,9 @@ use Rattle.ftp_server_model.specs.declared.heard.HeardLine.{HeardLine as Line}
 use Rattle.ftp_server_model.specs.declared.session.Keep.{Keep}
 use Rattle.ftp_server_model.specs.declared.session.Transfer.TheVariants as Transfers
 use Rattle.ftp_server_model.specs.declared.session.ServerLink.TheVariants as Data
-use Rattle.ftp_server_parts.specs.ServerTransfer.{IsUnderWay, ComesTo, Comes}
-use Rattle.ftp_server_parts.specs.declared.transfer.Told.{Told}
-use Rattle.ftp_server_parts.specs.declared.transfer.Told.TheVariants as Tells
+use Rattle.ftp_server_replies.specs.ServerTransfer.{IsUnderWay, ComesTo, Comes}
+use Rattle.ftp_server_replies.specs.declared.transfer.Told.{Told}
+use Rattle.ftp_server_replies.specs.declared.transfer.Told.TheVariants as Tells
 use Rattle.ftp_server_transfer.specs.Receiving.{Leaves, is_over, IsTold}
 
 -- a view in which this upload is under way, and one in which it passed a limit

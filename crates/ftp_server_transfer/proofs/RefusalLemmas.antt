@@ -22,7 +22,7 @@ use Rattle.ftp_server_model.specs.Walk.{refusal_text}
 use Rattle.ftp_server_model.specs.declared.session.Keep.{Keep}
 use Rattle.ftp_server_model.specs.declared.reply.FixedReply.{FixedReply}
 use Rattle.ftp_server_model.specs.declared.reply.FixedReply.TheVariants as Texts
-use Rattle.ftp_server_parts.specs.ServerTransfer.{Ends}
+use Rattle.ftp_server_replies.specs.ServerTransfer.{Ends}
 use Rattle.ftp_server_transfer.proofs.LimitLemmas.{limits_tell}
 
 -- ---- why it is refused

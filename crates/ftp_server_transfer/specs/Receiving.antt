@@ -4,8 +4,8 @@ use Rattle.ftp_path.specs.Path.{Names}
 use Rattle.ftp_tree.specs.Tree.{Table, octets_refusal}
 use Rattle.ftp_wire.specs.declared.decoded.Decoded.{Decoded}
 use Rattle.ftp_wire.specs.declared.decoded.Decoded.TheVariants as Heards
-use Rattle.ftp_server_parts.specs.declared.transfer.Told.{Told}
-use Rattle.ftp_server_parts.specs.declared.transfer.Told.TheVariants as Tells
+use Rattle.ftp_server_replies.specs.declared.transfer.Told.{Told}
+use Rattle.ftp_server_replies.specs.declared.transfer.Told.TheVariants as Tells
 
 -- behind the octets that are kept the file at a path may have so many more, and not one beyond
 pub record Leaves (part : Table) (path : Names) (keep most : ℕ) : Type 0 where

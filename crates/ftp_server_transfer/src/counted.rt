@@ -1,6 +1,6 @@
 // How much a transfer stores.
 use crate::transfer::TreeTransfer;
-use ftp_server_parts::Counted;
+use ftp_server_replies::Counted;
 use ftp_tree::Tree;
 use std::alloc::Allocator;
 

@@ -5,7 +5,7 @@ ghost use Rattle.ftp_server_model.specs.Transfer.{file_wire};
 ghost use Rattle.ftp_server_transfer.specs.Download.{given_by, is_plain};
 ghost use Rattle.ftp_tree.specs.Change.{IsSteady, NoStray, TellsOne};
 
-use ftp_server_parts::Given;
+use ftp_server_replies::Given;
 use ftp_settings::{Kind, Mode, Representation, Structure};
 use ftp_tree::{Broken, Tree};
 use ftp_wire::{Encoded, Encoder};

@@ -7,7 +7,7 @@ ghost use Rattle.ftp_server_model.specs.Keep.{is_overtaken, kept_count, kept_of,
 ghost use Rattle.ftp_server_model.specs.Machine.{end_refusal};
 ghost use Rattle.ftp_server_model.specs.View.{Session};
 ghost use Rattle.ftp_server_model.specs.Walk.{refusal_text};
-ghost use Rattle.ftp_server_parts.specs.Fault.{Counted};
+ghost use Rattle.ftp_server_replies.specs.Fault.{Counted};
 ghost use Rattle.ftp_server_transfer.specs.Receiving.{Leaves};
 ghost use Rattle.ftp_tree.specs.Tree.{octets_or_none, octets_refusal, under};
 
@@ -15,7 +15,7 @@ use ftp_direct::{len_at, may_put_at};
 use ftp_operation::Rights;
 use ftp_path::Path;
 use ftp_server_model::{FixedReply, Keep};
-use ftp_server_parts::{Fault, room_text};
+use ftp_server_replies::{Fault, room_text};
 use ftp_tree::Tree;
 use std::alloc::Allocator;
 

@@ -9,7 +9,7 @@ ghost use Rattle.ftp_tree.specs.Tree.{Table, kind_at, size_at, stamp_at, under};
 use ftp_facts::Moment;
 use ftp_path::Path;
 use ftp_server_model::Standing;
-use ftp_server_parts::same_standing;
+use ftp_server_replies::same_standing;
 use ftp_tree::{Broken, NodeKind, Sight, Tree};
 use std::alloc::Allocator;
 

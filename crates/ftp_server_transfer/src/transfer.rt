@@ -13,7 +13,7 @@ use ftp_facts::{Facts, Moment};
 use ftp_operation::Rights;
 use ftp_path::Path;
 use ftp_server_model::{FixedReply, Keep, Standing};
-use ftp_server_parts::{Fault, Given, Received, ServerTransfer, Told};
+use ftp_server_replies::{Fault, Given, Received, ServerTransfer, Told};
 use ftp_settings::{Mode, Representation};
 use ftp_tree::Tree;
 use std::alloc::{AllocError, Allocator};

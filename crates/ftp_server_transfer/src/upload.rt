@@ -2,7 +2,7 @@
 ghost use Rattle.std.specs.Prelude.{◌≡◌, ◌≤◌, ◌<◌, ◌+◌, ◌^◌, ℕ, Some, false, length, take, is_none, is_some, if◌then◌else◌};
 ghost use Rattle.std.specs.Option.{IfSome};
 ghost use Rattle.ftp_wire.specs.Decoder.{no_octets};
-ghost use Rattle.ftp_server_parts.specs.ServerTransfer.{Comes, Ends};
+ghost use Rattle.ftp_server_replies.specs.ServerTransfer.{Comes, Ends};
 ghost use Rattle.ftp_server_model.specs.Keep.{kept_count};
 ghost use Rattle.ftp_server_model.specs.Machine.{at_break, at_end, installs};
 ghost use Rattle.ftp_server_model.specs.Standing.{overtaken, standing_at};
@@ -21,7 +21,7 @@ use ftp_facts::Moment;
 use ftp_operation::Rights;
 use ftp_path::Path;
 use ftp_server_model::{FixedReply, Keep, Standing};
-use ftp_server_parts::{Fault, Marker, Received, Told};
+use ftp_server_replies::{Fault, Marker, Received, Told};
 use ftp_settings::{MARKER_LIMIT, Representation};
 use ftp_tree::Tree;
 use ftp_wire::{Decoded, Decoder, Taken};

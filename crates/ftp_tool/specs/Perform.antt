@@ -1,11 +1,11 @@
 -- What the program has done for a command line, between a reader and two writers, of which the second is told the fault of a wire.
 use Rattle.std.specs.Prelude.{ℕ, List, [], Option}
 use Rattle.std.specs.Io.KnownBytes.{Appends}
-use Rattle.ftp_tool_dialogue.specs.Converses.{Converses, BreaksOff as DialogueBreaksOff, most_of}
-use Rattle.ftp_tool_files.specs.Direction.{Goes, GoesFront}
-use Rattle.ftp_tool_files.specs.FactLines.{TellsAll, TellsFront}
-use Rattle.ftp_tool_command.specs.declared.task.Task.{Task}
-use Rattle.ftp_tool_command.specs.declared.task.Task.TheVariants.{Dialogue, Facts, Frame}
+use Rattle.tool_dialogue.specs.Converses.{Converses, BreaksOff as DialogueBreaksOff, most_of}
+use Rattle.tool_codec.specs.Direction.{Goes, GoesFront}
+use Rattle.tool_codec.specs.FactLines.{TellsAll, TellsFront}
+use Rattle.tool_command.specs.declared.task.Task.{Task}
+use Rattle.tool_command.specs.declared.task.Task.TheVariants.{Dialogue, Facts, Frame}
 
 -- it was done: a dialogue, the entries of lines, or a file to its wire or back. A is the type of an allocator, and says nothing
 abbrev pub Does : Type 0 → Task → (before after old new untold told : Option (List ℕ)) → ℕ → Type 0

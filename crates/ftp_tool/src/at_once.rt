@@ -1,10 +1,10 @@
 // Several files of a command line over several control connections at once: those that are asked of one server, one directly behind another.
 use crate::programs::Programs;
-use ftp_tool_fetch::{Each, Pair};
-use ftp_tool_single::Target;
-use ftp_tool_status::Status;
 use std::alloc::Global;
 use std::io;
+use tool_get_put::{Each, Pair};
+use tool_job::Target;
+use tool_status::Status;
 
 /// Files that are asked of one server by one user, and what is done with each.
 pub(crate) struct Batch<'a> {

@@ -5,17 +5,17 @@ use crate::refusing::refuse;
 use crate::several::{check_places, check_targets, is_any_matched, sources_of};
 use crate::{number_of, tell_undone};
 use clap::ArgMatches;
-use ftp_tool_asking::Openings;
-use ftp_tool_command::{
-    PLACE_OPTION, Refusal, asked_of, each_got, get_task_of, is_matched, openings_of, urls_in,
-};
-use ftp_tool_fetch::Pair;
-use ftp_tool_single::{Target, Targets};
-use ftp_tool_status::Status;
-use ftp_tool_words::{UrlPlace, place_for, says_directory};
 use std::alloc::Global;
 use std::io;
 use std::io::Eprint;
+use tool_command::{
+    PLACE_OPTION, Refusal, asked_of, each_got, get_task_of, is_matched, openings_of, urls_in,
+};
+use tool_get_put::Pair;
+use tool_job::{Target, Targets};
+use tool_session::Openings;
+use tool_status::Status;
+use tool_words::{UrlPlace, place_for, says_directory};
 
 /// Does what `get` asks for, file by file, each over a control connection of its own; the status is the worst.
 pub(crate) fn get<R>(

@@ -10,18 +10,6 @@ mod several;
 
 use at_once::Batch;
 use clap::{ArgMatches, Error};
-use ftp_tool_asking::Openings;
-use ftp_tool_command::{
-    PLACE_OPTION, Program, Refusal, asked_of, command, fetch_task_of, mirror_of, openings_of,
-    program_of, rounds_of, script_server_of, script_user_of, serving_of, settings_of, task_of,
-    told_of, url_in, urls_in,
-};
-use ftp_tool_fetch::{Each, Pair, Task};
-use ftp_tool_quiet::{Hushed, Told};
-use ftp_tool_shown::Shown;
-use ftp_tool_single::{Simple, Target};
-use ftp_tool_status::Status;
-use ftp_tool_words::{Location, UrlPlace, place_for};
 use getting::get;
 use programs::Programs;
 use refusing::refuse;
@@ -35,6 +23,17 @@ use std::process::ExitCode;
 use std::random::RandomSource;
 use std::time::Clock;
 use std::{env, io};
+use tool_command::{
+    PLACE_OPTION, Program, Refusal, asked_of, command, fetch_task_of, mirror_of, openings_of,
+    program_of, rounds_of, script_server_of, script_user_of, serving_of, settings_of, task_of,
+    told_of, url_in, urls_in,
+};
+use tool_get_put::{Each, Pair, Task};
+use tool_job::{Simple, Target};
+use tool_session::Openings;
+use tool_status::Status;
+use tool_terminal::{QuietHandle, Shown, Told};
+use tool_words::{Location, UrlPlace, place_for};
 
 fn main(rt: HostRuntime) -> ExitCode {
     ExitCode::from(run(&rt, &mut rt.stderr()).unwrap_or(Status::Failed.number()))
@@ -66,7 +65,7 @@ where
     where
         F: Write + IsTerminal,
     {
-        obey(&Hushed { rt: self, told }, self.alloc(), words, faults)
+        obey(&QuietHandle { rt: self, told }, self.alloc(), words, faults)
     }
 }
 

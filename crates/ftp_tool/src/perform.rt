@@ -2,11 +2,11 @@
 ghost use Rattle.std.specs.Prelude.{◌≡◌, ◌≢◌};
 ghost use Rattle.ftp_tool.specs.Perform.{Does, BreaksOff};
 
-use ftp_tool_command::Task;
-use ftp_tool_dialogue::dialogue;
-use ftp_tool_files::{facts, frame};
 use std::alloc::Allocator;
 use std::io::{Read, Write};
+use tool_codec::{facts, frame};
+use tool_command::Task;
+use tool_dialogue::dialogue;
 
 /// Does a task and gives the exit status; `faults` is told the fault of a wire, and nothing else.
 pub fn perform<A, R, W, F>(

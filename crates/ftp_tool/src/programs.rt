@@ -1,16 +1,6 @@
 // The programs, each one call: what stands on a trait without types of its own is proved for less than on those of the system's sockets, files and
 // streams.
 use crate::perform::perform;
-use ftp_tool_asking::ServerAddress;
-use ftp_tool_command::Task;
-use ftp_tool_copying::Mirror;
-use ftp_tool_fetch::{Each, Pair};
-use ftp_tool_pair::PairSettings;
-use ftp_tool_quiet::Hushed;
-use ftp_tool_serve::Serving;
-use ftp_tool_single::Target;
-use ftp_tool_status::Status;
-use ftp_tool_words::User;
 use std::env::Env;
 use std::fs::{File, Files};
 use std::io::Write;
@@ -18,6 +8,16 @@ use std::net::{Net, TcpListener, TcpStream};
 use std::random::RandomSource;
 use std::time::Clock;
 use std::{fs, io};
+use tool_command::Task;
+use tool_get_put::{Each, Pair};
+use tool_job::Target;
+use tool_mirror_copy::Mirror;
+use tool_pair::PairSettings;
+use tool_serve::Serving;
+use tool_session::ServerAddress;
+use tool_status::Status;
+use tool_terminal::QuietHandle;
+use tool_words::User;
 
 /// What the program can do for a command line. Each call gives the exit status.
 pub(crate) trait Programs {
@@ -35,7 +35,7 @@ pub(crate) trait Programs {
 
     fn mirror(&self, asked: Mirror<'_>) -> io::Result<Status>;
 
-    fn fetch(&self, asked: &Target<'_>, task: ftp_tool_fetch::Task<'_>) -> io::Result<Status>;
+    fn fetch(&self, asked: &Target<'_>, task: tool_get_put::Task<'_>) -> io::Result<Status>;
 
     /// Of several files of one server.
     fn fetch_each(&self, asked: &Target<'_>, each: Each<'_>, pairs: &[Pair]) -> io::Result<Status>;
@@ -48,7 +48,7 @@ pub(crate) trait Programs {
 }
 
 /// What `get` and its like, and `mirror`, tell on standard error is what is to be told; the others tell all.
-impl<'a, R> Programs for Hushed<'a, R>
+impl<'a, R> Programs for QuietHandle<'a, R>
 where
     R: Input
         + Print
@@ -63,16 +63,16 @@ where
         + Drop,
 {
     fn serve(&self, job: Serving<'_>) -> io::Result<Status> {
-        ftp_tool_serve::serve(self.rt, job)
+        tool_serve::serve(self.rt, job)
     }
 
     fn play_loop(&self) -> io::Result<Status> {
-        ftp_tool_loop::play(self.rt)
+        tool_loop::play(self.rt)
     }
 
     fn play_pair<F: Write>(&self, settings: PairSettings, faults: &mut F) -> Status {
         let mut reader = self.rt.reader();
-        ftp_tool_pair::pair(
+        tool_pair::pair(
             self.rt.alloc(),
             settings,
             &mut reader,
@@ -82,26 +82,26 @@ where
     }
 
     fn password<F: Write>(&self, rounds: Option<u32>, faults: &mut F) -> Status {
-        ftp_tool_password::password(self.rt, rounds, faults)
+        tool_accounts::password(self.rt, rounds, faults)
     }
 
     fn run(&self, server: ServerAddress<'_>, user: Option<User<'_>>) -> io::Result<Status> {
         match user {
-            Some(user) => ftp_tool_fetch::run_as(self.rt, server, user),
-            None => ftp_tool_fetch::run(self.rt, server),
+            Some(user) => tool_get_put::run_as(self.rt, server, user),
+            None => tool_get_put::run(self.rt, server),
         }
     }
 
     fn mirror(&self, asked: Mirror<'_>) -> io::Result<Status> {
-        ftp_tool_mirror::mirror(self, asked)
+        tool_mirror::mirror(self, asked)
     }
 
-    fn fetch(&self, asked: &Target<'_>, task: ftp_tool_fetch::Task<'_>) -> io::Result<Status> {
-        ftp_tool_fetch::fetch(self, asked, task)
+    fn fetch(&self, asked: &Target<'_>, task: tool_get_put::Task<'_>) -> io::Result<Status> {
+        tool_get_put::fetch(self, asked, task)
     }
 
     fn fetch_each(&self, asked: &Target<'_>, each: Each<'_>, pairs: &[Pair]) -> io::Result<Status> {
-        ftp_tool_fetch::fetch_each(self, asked, each, pairs)
+        tool_get_put::fetch_each(self, asked, each, pairs)
     }
 
     fn perform<F: Write>(&self, task: Task, faults: &mut F) -> u8 {

@@ -1,10 +1,10 @@
 // Why a command line asks for nothing.
-use ftp_tool_command::{BadValue, Refusal};
-use ftp_tool_shown::Shown;
-use ftp_tool_status::Status;
 use std::alloc::AllocError;
 use std::io;
 use std::io::Eprint;
+use tool_command::{BadValue, Refusal};
+use tool_status::Status;
+use tool_terminal::Shown;
 
 /// Tells why the words of a command line ask for nothing.
 pub(crate) fn refuse<R: Eprint>(rt: &R, refusal: Refusal<'_>) -> io::Result<u8> {

@@ -1,2 +1,2 @@
-pub mod Folder
-pub mod Kept
+pub mod pages
+pub mod trees

@@ -1,11 +1,11 @@
 -- The decoder as the two readers, one behind the other.
 use Rattle.std.proofs.Common.{◌≡◌, ℕ, List, [], ◌∷◌, ◌++◌, refl, sym, ap, ◌∙◌, append_assoc, append-nil}
-use Rattle.ftp_cutting.specs.Machine.{after, gives}
+use Rattle.ftp_pieces.specs.Machine.{after, gives}
 use Rattle.ftp_repr.specs.Signs.{Sign}
 use Rattle.ftp_settings.specs.Representation.{Form, form_of}
 use Rattle.ftp_repr.specs.Receiving.{Taking, receiving}
 use Rattle.ftp_repr.specs.Content.{content}
-use Rattle.ftp_cutting.proofs.MachineLemmas.{after-append, gives-append}
+use Rattle.ftp_pieces.proofs.MachineLemmas.{after-append, gives-append}
 use Rattle.ftp_repr.proofs.ContentLemmas.{gives-receiving}
 use Rattle.ftp_mode.specs.Said.{Said, says, marker, file_signs}
 use Rattle.ftp_mode.specs.Reading.{Reading, reader, start, read_step}

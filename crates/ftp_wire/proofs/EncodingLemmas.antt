@@ -5,7 +5,7 @@ use Rattle.std.specs.List.{AllByRecursion}
 use Rattle.std.proofs.lemmas.Bool.{false≢true, eqb-true}
 use Rattle.std.proofs.lemmas.List.{take-append-drop, length-take-le, length-map}
 use Rattle.std.proofs.Math.Seq.{take-append-add}
-use Rattle.ftp_cutting.specs.Machine.{gives}
+use Rattle.ftp_pieces.specs.Machine.{gives}
 use Rattle.ftp_repr.specs.Signs.{Sign, octet, end_record, end_file, wire_octets, octet_signs, signs_of}
 use Rattle.ftp_repr.specs.Runs.{IsRun, is_changed}
 use Rattle.ftp_repr.specs.Sending.{has_sent_end, sender_form, still_to_send}

@@ -1,8 +1,8 @@
 -- Decoders over rows of octets.
 use Rattle.std.proofs.Common.{◌≡◌, ℕ, zero, suc, ◌+◌, ◌<◌, ◌≤◌, List, [], ◌∷◌, ◌++◌, length, take, drop, get_or, Option, None, refl, ap, sym, subst, ◌∙◌, arith, map, append-nil, length-append}
 use Rattle.std.proofs.lemmas.List.{take-append-drop, take-take}
-use Rattle.ftp_cutting.specs.Machine.{after, gives}
-use Rattle.ftp_cutting.proofs.MachineLemmas.{after-append, gives-append}
+use Rattle.ftp_pieces.specs.Machine.{after, gives}
+use Rattle.ftp_pieces.proofs.MachineLemmas.{after-append, gives-append}
 use Rattle.ftp_settings.specs.Representation.{Form}
 use Rattle.ftp_repr.specs.Receiving.{Taking, receiving}
 use Rattle.ftp_mode.specs.Said.{Said, says, marker, file_signs, octets_said}

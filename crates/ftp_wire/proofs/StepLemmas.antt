@@ -1,8 +1,8 @@
 -- What a step tells.
 use Rattle.std.proofs.Common.{◌≡◌, ◌≢◌, ℕ, zero, suc, inl, inr, ◌+◌, ◌-◌, ◌<◌, ◌≤◌, List, [], ◌∷◌, ◌++◌, length, take, drop, get_or, Option, Some, None, refl, ap, sym, subst, ◌∙◌, arith, append-nil, length-append}
 use Rattle.std.proofs.lemmas.List.{take-append-drop, take-take}
-use Rattle.ftp_cutting.specs.Machine.{after, gives}
-use Rattle.ftp_cutting.proofs.MachineLemmas.{gives-append}
+use Rattle.ftp_pieces.specs.Machine.{after, gives}
+use Rattle.ftp_pieces.proofs.MachineLemmas.{gives-append}
 use Rattle.ftp_repr.specs.Receiving.{receiving}
 use Rattle.ftp_mode.specs.Said.{Said, says, marker, file_signs, octets_said}
 use Rattle.ftp_mode.specs.declared.fault.FrameFault.{FrameFault}

@@ -2,14 +2,14 @@
 use Rattle.std.proofs.Common.{◌≡◌, ℕ, List, [], ◌∷◌, ◌++◌, Bool, true, false, refl, sym, ap, subst, ◌∙◌, append-nil, map}
 use Rattle.std.specs.Prelude.{IsTrue}
 use Rattle.std.specs.List.{flat_map}
-use Rattle.ftp_cutting.specs.Machine.{after, gives}
+use Rattle.ftp_pieces.specs.Machine.{after, gives}
 use Rattle.ftp_repr.specs.Signs.{Sign, end_file, signs_of, signs_of_octet}
 use Rattle.ftp_settings.specs.Representation.{Form, form_of}
 use Rattle.ftp_repr.specs.Receiving.{Taking, fresh, receiving}
 use Rattle.ftp_settings.specs.declared.representation.Kind.{Kind}
 use Rattle.ftp_settings.specs.declared.representation.Structure.{Structure}
 use Rattle.ftp_settings.specs.declared.representation.Structure.TheVariants.{File, Record}
-use Rattle.ftp_cutting.proofs.MachineLemmas.{after-append, gives-append}
+use Rattle.ftp_pieces.proofs.MachineLemmas.{after-append, gives-append}
 use Rattle.ftp_repr.proofs.ContentLemmas.{gives-receiving, content-signs_of}
 use Rattle.ftp_mode.specs.Said.{Said, says, file_signs}
 use Rattle.ftp_mode.specs.Reading.{Reading, going, failed, reader, start, is_complete}

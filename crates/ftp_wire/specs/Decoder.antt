@@ -1,7 +1,7 @@
 -- What a receiving end has made of the octets of one data connection: the reader of the mode, and behind it the reader of
 -- type and structure (RFC 959, sections 3.1 to 3.5).
 use Rattle.std.specs.Prelude.{◌≡◌, ℕ, ◌<◌, ◌+◌, ◌^◌, List, [], ◌∷◌, ◌++◌, length, Bool, false, Option, Some, None, IsTrue}
-use Rattle.ftp_cutting.specs.Machine.{IsFront}
+use Rattle.ftp_pieces.specs.Machine.{IsFront}
 use Rattle.ftp_repr.specs.Signs.{Sign, end_file}
 use Rattle.ftp_settings.specs.Representation.{Form, form_of}
 use Rattle.ftp_repr.specs.Receiving.{Taking, fresh, receiving}

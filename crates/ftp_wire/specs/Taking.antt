@@ -1,6 +1,6 @@
 -- What a step of a decoder makes of signs.
 use Rattle.std.specs.Prelude.{◌≡◌, ℕ, ◌+◌, ◌<◌, ◌≤◌, List, [], ◌++◌, length, take}
-use Rattle.ftp_cutting.specs.Machine.{after, gives}
+use Rattle.ftp_pieces.specs.Machine.{after, gives}
 use Rattle.ftp_repr.specs.Signs.{Sign}
 use Rattle.ftp_repr.specs.Receiving.{receiving}
 use Rattle.ftp_repr.specs.Received.{receiver_form, taking, lent_octets, comes_with}

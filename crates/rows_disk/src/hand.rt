@@ -9,7 +9,7 @@ use std::io;
 const LAST_SECOND: u64 = 253_402_300_799;
 
 #[derive(Clone, Copy)]
-enum Deed {
+enum Action {
     Write,
     Replace,
     Decay,
@@ -27,32 +27,32 @@ enum Deed {
     Unknown,
 }
 
-const DEEDS: &[(&'static [u8], Deed)] = &[
-    (b"write", Deed::Write),
-    (b"replace", Deed::Replace),
-    (b"decay", Deed::Decay),
-    (b"stamp", Deed::Stamp),
-    (b"take", Deed::Take),
-    (b"dir", Deed::Dir),
-    (b"odd", Deed::Odd),
-    (b"move", Deed::Move),
-    (b"pass", Deed::Pass),
-    (b"slow", Deed::Slow),
-    (b"fails", Deed::Fails),
-    (b"fails-late", Deed::FailsLate),
-    (b"strays", Deed::Strays),
-    (b"well", Deed::GoesWell),
+const ACTIONS: &[(&'static [u8], Action)] = &[
+    (b"write", Action::Write),
+    (b"replace", Action::Replace),
+    (b"decay", Action::Decay),
+    (b"stamp", Action::Stamp),
+    (b"take", Action::Take),
+    (b"dir", Action::Dir),
+    (b"odd", Action::Odd),
+    (b"move", Action::Move),
+    (b"pass", Action::Pass),
+    (b"slow", Action::Slow),
+    (b"fails", Action::Fails),
+    (b"fails-late", Action::FailsLate),
+    (b"strays", Action::Strays),
+    (b"well", Action::GoesWell),
 ];
 
 /// Does in a folder what a line says, `write /f abc` or `fails 3`; where that fails, it is written why.
 pub fn do_so(alloc: Global, host: &MemoryHost, line: &[u8], paper: &mut Paper) {
     let (word, rest) = split(line);
-    let deed = found(DEEDS, word, Deed::Unknown);
-    if let Some(trouble) = trouble_of(deed, rest) {
+    let action = found(ACTIONS, word, Action::Unknown);
+    if let Some(trouble) = trouble_of(action, rest) {
         host.meet(trouble);
         return;
     }
-    if let Err(error) = done(alloc, host, deed, rest) {
+    if let Err(error) = done(alloc, host, action, rest) {
         paper.put(b"! ");
         paper.put(line);
         paper.put(b": ");
@@ -61,46 +61,45 @@ pub fn do_so(alloc: Global, host: &MemoryHost, line: &[u8], paper: &mut Paper) {
     }
 }
 
-/// What goes wrong, if a deed is to say that.
-fn trouble_of(deed: Deed, rest: &[u8]) -> Option<Trouble> {
-    match deed {
-        Deed::Fails => Some(Trouble::Fails(number(rest))),
-        Deed::FailsLate => Some(Trouble::FailsLate(number(rest))),
-        Deed::Strays => Some(Trouble::Strays(number(rest))),
-        Deed::GoesWell => Some(Trouble::Nothing),
+/// What goes wrong, if a action is to say that.
+fn trouble_of(action: Action, rest: &[u8]) -> Option<Trouble> {
+    match action {
+        Action::Fails => Some(Trouble::Fails(number(rest))),
+        Action::FailsLate => Some(Trouble::FailsLate(number(rest))),
+        Action::Strays => Some(Trouble::Strays(number(rest))),
+        Action::GoesWell => Some(Trouble::Nothing),
         _ => None,
     }
 }
 
-fn done(alloc: Global, host: &MemoryHost, deed: Deed, rest: &[u8]) -> io::Result<()> {
+fn done(alloc: Global, host: &MemoryHost, action: Action, rest: &[u8]) -> io::Result<()> {
     let (place, rest) = split(rest);
     let place = octets_of(alloc, place)?;
     let place = text_of(place.as_slice())?;
-    match deed {
-        Deed::Write => host.write_file(place, octets_of(alloc, rest)?.as_slice()),
-        Deed::Replace => host.replace_file(place, octets_of(alloc, rest)?.as_slice()),
-        Deed::Decay => host.decay(place, octets_of(alloc, rest)?.as_slice()),
-        Deed::Stamp => host.stamp(
+    match action {
+        Action::Write => host.write_file(place, octets_of(alloc, rest)?.as_slice()),
+        Action::Replace => host.replace_file(place, octets_of(alloc, rest)?.as_slice()),
+        Action::Decay => host.decay(place, octets_of(alloc, rest)?.as_slice()),
+        Action::Stamp => host.stamp(
             place,
             Moment {
                 seconds: number(rest).min(LAST_SECOND),
             },
         ),
-        Deed::Take => host.take(place),
-        Deed::Dir => host.put_dir(place),
-        Deed::Odd => host.put_odd(place),
-        Deed::Move => host.move_to(place, text_of(rest)?),
-        Deed::Pass => {
+        Action::Take => host.take(place),
+        Action::Dir => host.put_dir(place),
+        Action::Odd => host.put_odd(place),
+        Action::Move => host.move_to(place, text_of(rest)?),
+        Action::Pass => {
             host.pass(number(place.as_bytes()));
             Ok(())
         }
-        Deed::Slow => {
+        Action::Slow => {
             host.slow(number(place.as_bytes()));
             Ok(())
         }
-        Deed::Fails | Deed::FailsLate | Deed::Strays | Deed::GoesWell | Deed::Unknown => Err(
-            io::Error::from(io::ErrorKind::InvalidInput),
-        ),
+        Action::Fails | Action::FailsLate | Action::Strays | Action::GoesWell | Action::Unknown =>
+            Err(io::Error::from(io::ErrorKind::InvalidInput)),
     }
 }
 

@@ -2,8 +2,8 @@
 ghost use Rattle.std.specs.Prelude.{◌≤◌, ◌<◌, IfOk, length};
 
 use crate::memory_shelf::{Kind, Shelf, above};
+use ftp_disk_host::{Found, Host, Look, Stamp};
 use ftp_facts::Moment;
-use ftp_tree_host::{Found, Host, Look, Stamp};
 use std::alloc::{AllocError, Global};
 use std::cell::{Cell, RefCell, RefMut};
 use std::io;

@@ -1,6 +1,6 @@
 // What stands in a folder that is kept in memory.
+use ftp_disk_host::{Found, Look, Stamp};
 use ftp_facts::Moment;
-use ftp_tree_host::{Found, Look, Stamp};
 use std::alloc::{AllocError, Global};
 use std::io;
 use std::io::{Error, ErrorKind};

@@ -1,9 +1,9 @@
 // A row: what others do, what goes wrong, and operations, line by line, on one tree over one folder.
 use crate::hand::{do_so, show_error, text_of};
 use crate::memory_host::{MemoryHost, Trouble};
+use ftp_disk_tree::{DiskTree, Explains, LeftOut, LoadFault, Odd, Others, Unknown, open};
 use ftp_path::Path;
 use ftp_tree::{Limits, Tree};
-use ftp_tree_disk::{DiskTree, Explains, LeftOut, LoadFault, Odd, Others, Unknown, open};
 use rows_base::{Paper, cut, number, octets_of, row_in_front, said, split};
 use rows_tree::{Told, cut_before, play_user};
 use std::alloc::Global;
@@ -52,9 +52,9 @@ fn play_once(alloc: Global, row: &[u8], call: u64, paper: &mut Paper) {
     for _ in 0..row.len() {
         let (line, behind) = cut(rest, b'\n');
         rest = match line {
-            [b'-', b' ', deed @ ..] => {
-                show_deed(line, call, paper);
-                tree = play_deed(alloc, &host, tree, deed, call, paper);
+            [b'-', b' ', action @ ..] => {
+                show_action(line, call, paper);
+                tree = play_action(alloc, &host, tree, action, call, paper);
                 behind
             }
             [b'a', b's', b' ', ..] => play_group(alloc, &mut tree, rest, paper),
@@ -68,29 +68,29 @@ fn play_once(alloc: Global, row: &[u8], call: u64, paper: &mut Paper) {
 }
 
 /// Writes what a line says, of a row that is played once.
-fn show_deed(line: &[u8], call: u64, paper: &mut Paper) {
+fn show_action(line: &[u8], call: u64, paper: &mut Paper) {
     if call == 0 {
         paper.line(line);
     }
 }
 
 /// Does what a line says: a tree begins, the call of the row fails from there on, or what another hand does.
-fn play_deed<'a>(
+fn play_action<'a>(
     alloc: Global,
     host: &'a MemoryHost,
     tree: Option<DiskTree<'a, MemoryHost, Unknown>>,
-    deed: &[u8],
+    action: &[u8],
     call: u64,
     paper: &mut Paper,
 ) -> Option<DiskTree<'a, MemoryHost, Unknown>> {
-    match split(deed) {
+    match split(action) {
         (b"start", how) => started(alloc, host, how, paper),
         (b"here", _) => {
             host.meet(Trouble::Fails(call));
             tree
         }
         _ => {
-            do_so(alloc, host, deed, paper);
+            do_so(alloc, host, action, paper);
             tree
         }
     }

@@ -9,7 +9,7 @@ use std::alloc::Global;
 
 /// What was asked and answered.
 #[derive(Clone, Copy)]
-pub enum Deed {
+pub enum Action {
     /// A port was asked for, and had or not.
     Listened(Option<u16>),
     /// A data connection came from this host.
@@ -30,11 +30,11 @@ pub enum Deed {
 #[derive(Drop)]
 pub struct History {
     alloc: Global,
-    deeds: Vec<Deed>,
+    actions: Vec<Action>,
     is_short: bool,
-    /// Each deed, with the octets that were written to its data connection by then.
-    pub(crate) log: Log<Deed, Vec<u8>>,
-    ghost said: { IsSaid is_short deeds.items log.items },
+    /// Each action, with the octets that were written to its data connection by then.
+    pub(crate) log: Log<Action, Vec<u8>>,
+    ghost said: { IsSaid is_short actions.items log.items },
 }
 
 impl History {
@@ -43,26 +43,26 @@ impl History {
     {
         History {
             alloc,
-            deeds: Vec::new(alloc),
+            actions: Vec::new(alloc),
             is_short: false,
             log: Log::new(),
         }
     }
 
     /// This was asked too, of no data connection that stands.
-    pub fn note(&mut self, deed: Deed)
-        ensures { asked_in self.new.log.items ≡ asked_by deed [] ∷ asked_in self.old.log.items }
+    pub fn note(&mut self, action: Action)
+        ensures { asked_in self.new.log.items ≡ asked_by action [] ∷ asked_in self.old.log.items }
     {
         let none = Vec::new(self.alloc);
-        self.note_of(deed, &none);
+        self.note_of(action, &none);
     }
 
     /// This was asked too, of a data connection to which these octets were written by then.
-    pub fn note_of(&mut self, deed: Deed, written: &Vec<u8>)
-        ensures { asked_in self.new.log.items ≡ asked_by deed written.now.items ∷ asked_in self.old.log.items }
+    pub fn note_of(&mut self, action: Action, written: &Vec<u8>)
+        ensures { asked_in self.new.log.items ≡ asked_by action written.now.items ∷ asked_in self.old.log.items }
     {
-        let log = self.log.and(&deed, written);
-        if self.deeds.push(deed).is_err() {
+        let log = self.log.and(&action, written);
+        if self.actions.push(action).is_err() {
             self.is_short = true;
         }
         self.log = log;
@@ -75,28 +75,28 @@ impl History {
             return;
         }
         paper.put(b"= asked");
-        for deed in self.deeds.as_slice() {
-            show_deed(*deed, paper);
+        for action in self.actions.as_slice() {
+            show_action(*action, paper);
         }
         paper.put(b"\n");
     }
 }
 
-fn show_deed(deed: Deed, paper: &mut Paper) {
-    match deed {
-        Deed::Listened(Some(port)) => {
+fn show_action(action: Action, paper: &mut Paper) {
+    match action {
+        Action::Listened(Some(port)) => {
             paper.put(b", listened ");
             paper.number(port as u64);
         }
-        Deed::Listened(None) => paper.put(b", no port"),
-        Deed::Came(host) => show_endpoint(b", came ", Endpoint { host, port: 0 }, paper),
-        Deed::Connected(endpoint) => show_endpoint(b", connected ", endpoint, paper),
-        Deed::NotCame => paper.put(b", did not come"),
-        Deed::NotConnected(endpoint) => show_endpoint(b", not connected ", endpoint, paper),
-        Deed::Ended => paper.put(b", ended"),
-        Deed::Reset => paper.put(b", reset"),
-        Deed::Shut => paper.put(b", shut"),
-        Deed::Lost => paper.put(b", lost"),
+        Action::Listened(None) => paper.put(b", no port"),
+        Action::Came(host) => show_endpoint(b", came ", Endpoint { host, port: 0 }, paper),
+        Action::Connected(endpoint) => show_endpoint(b", connected ", endpoint, paper),
+        Action::NotCame => paper.put(b", did not come"),
+        Action::NotConnected(endpoint) => show_endpoint(b", not connected ", endpoint, paper),
+        Action::Ended => paper.put(b", ended"),
+        Action::Reset => paper.put(b", reset"),
+        Action::Shut => paper.put(b", shut"),
+        Action::Lost => paper.put(b", lost"),
     }
 }
 

@@ -1,20 +1,20 @@
 // The other side of data connections that is the same each time: it opens each at once, sends so many octets, has no room at first, breaks the
 // first ones, moves few octets a call, fails at a call, and the control connection speaks at a time of its choice.
 ghost use Rattle.std.specs.Prelude.{◌≡◌, None, Some};
-ghost use Rattle.ftp_control.specs.Asking.{Closes};
+ghost use Rattle.ftp_ports.specs.Asking.{Closes};
 ghost use Rattle.rows_ends.specs.History.{asked_in};
 
 use crate::driven::Drive;
 use crate::embedded::sockets::Sockets;
 use crate::event::YEAR_2000;
-use crate::history::{Deed, History};
-use ftp_control::{
-    Accepted, Awaited, Beside, Duplex, Failed, For, Ports, Ready, Spoken, Watch, Whole, get, put,
-};
+use crate::history::{Action, History};
 use ftp_endpoint::{Endpoint, Host};
 use ftp_ends::Wants;
 use ftp_facts::Moment;
-use ftp_server_drive::Data;
+use ftp_ports::{
+    Accepted, Awaited, Beside, Duplex, Failed, For, Ports, Ready, Spoken, Watch, Whole, get, put,
+};
+use ftp_server_driver::Data;
 use rows_base::{Paper, Tally, fixed};
 use std::alloc::Global;
 use std::io;
@@ -235,19 +235,20 @@ impl Ports for Peer {
 
     fn listen(&mut self) -> Option<u16> {
         let port = Some(1930);
-        self.history.note(Deed::Listened(port));
+        self.history.note(Action::Listened(port));
         port
     }
 
     fn accept(&mut self, _hears: bool) -> Accepted<Link> {
         let link = self.link();
-        self.history.note_of(Deed::Came(PEER), &link.taken);
+        self.history.note_of(Action::Came(PEER), &link.taken);
         Accepted::Came(link, PEER)
     }
 
     fn connect(&mut self, endpoint: Endpoint) -> Option<Link> {
         let link = self.link();
-        self.history.note_of(Deed::Connected(endpoint), &link.taken);
+        self.history
+            .note_of(Action::Connected(endpoint), &link.taken);
         Some(link)
     }
 
@@ -281,15 +282,15 @@ impl Ports for Peer {
         match stream {
             Some(whole) => {
                 let link = whole.into_stream();
-                self.history.note_of(Deed::Ended, &link.taken);
+                self.history.note_of(Action::Ended, &link.taken);
                 self.taken.take(link.taken.as_slice());
             }
-            None => self.history.note(Deed::Shut),
+            None => self.history.note(Action::Shut),
         }
     }
 
     fn reset(&mut self, stream: Link) {
-        self.history.note_of(Deed::Reset, &stream.taken);
+        self.history.note_of(Action::Reset, &stream.taken);
         self.taken.take(stream.taken.as_slice());
         self.resets = self.resets.wrapping_add(1);
     }

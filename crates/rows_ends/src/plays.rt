@@ -6,7 +6,7 @@ use ftp_client::Client;
 use ftp_client_steps::CountedTransfer;
 use ftp_ends::Wants;
 use ftp_server::Server;
-use ftp_server_parts::Counted;
+use ftp_server_replies::Counted;
 use ftp_tree::Tree;
 use rows_base::{FailingReader, FailingWriter, Paper};
 use std::alloc::{Allocator, Global};

@@ -1,14 +1,14 @@
-// Rows of several sessions over one tree: calls of the session in a seat (`ftp_server_seats`).
+// Rows of several sessions over one tree: calls of the session in a slot (`ftp_server_calls`).
 use crate::server::begun::{accounts_with, plants};
 use crate::server::cued::{cue_of, show};
 use crate::turn::{SERVER, Turn};
 use ftp_operation::Rights;
 use ftp_server::Server;
-use ftp_server_parts::ServerTransfer;
-use ftp_server_seats::{Played, Sessions, Turn as Seated};
-use ftp_server_several::Lends;
+use ftp_server_calls::several::{Played, Sessions, Turn as InSlot};
+use ftp_server_replies::ServerTransfer;
 use ftp_server_transfer::TreeTransfer;
 use ftp_tree_memory::MemTree;
+use laws_server::Lends;
 use rows_base::{Paper, cut, number, split};
 use rows_tree::show_tree;
 use std::alloc::{AllocError, Global};
@@ -33,7 +33,7 @@ pub fn play_row(alloc: Global, row: &[u8], paper: &mut Paper) {
     paper.put(b"\n");
 }
 
-/// Seats a session for each line `session`, with such transfers, and plays the row: who names a tree's does not name these.
+/// Slots a session for each line `session`, with such transfers, and plays the row: who names a tree's does not name these.
 fn begin<J: ServerTransfer<Global, Trees>>(turn: Turn<'_>, tree: Trees, paper: &mut Paper) {
     let mut sessions: Sessions<Global, Trees, Server<Global, Trees, J>> = Sessions::new(
         turn.alloc, tree,
@@ -42,10 +42,10 @@ fn begin<J: ServerTransfer<Global, Trees>>(turn: Turn<'_>, tree: Trees, paper: &
     for _ in 0..turn.row.len() {
         let (line, after) = cut(rest, b'\n');
         if let Some(root) = word_of(line, b"session") {
-            seat(&mut sessions, turn, root, Rights::all(), paper);
+            slot(&mut sessions, turn, root, Rights::all(), paper);
         }
         if let Some(root) = word_of(line, b"looker") {
-            seat(&mut sessions, turn, root, Rights::none(), paper);
+            slot(&mut sessions, turn, root, Rights::none(), paper);
         }
         rest = after;
     }
@@ -58,8 +58,8 @@ fn word_of<'a>(line: &'a [u8], word: &[u8]) -> Option<&'a [u8]> {
     if first == word { Some(rest) } else { None }
 }
 
-/// Seats a session whose accounts have this root and these rights.
-fn seat<J: ServerTransfer<Global, Trees>>(
+/// Slots a session whose accounts have this root and these rights.
+fn slot<J: ServerTransfer<Global, Trees>>(
     sessions: &mut Sessions<Global, Trees, Server<Global, Trees, J>>,
     turn: Turn<'_>,
     root: &[u8],
@@ -76,7 +76,7 @@ fn seat<J: ServerTransfer<Global, Trees>>(
         paper.fill();
         return;
     };
-    if sessions.seat(server).is_err() {
+    if sessions.slot(server).is_err() {
         paper.fill();
     }
 }
@@ -107,7 +107,7 @@ fn play<F: Lends<Global, Trees>>(
     }
 }
 
-/// Whether a line begins with a seat.
+/// Whether a line begins with a slot.
 fn is_call(line: &[u8]) -> bool {
     matches!(split(line).0.first(), Some(b'0'..=b'9'))
 }
@@ -144,9 +144,9 @@ fn make<F: Lends<Global, Trees>>(
         return;
     };
     match turns.as_slice() {
-        [lone] if lone.seat < sessions.len() => {
+        [lone] if lone.slot < sessions.len() => {
             paper.line(cut(calls, b'\n').0);
-            match sessions.call(lone.seat, &lone.cue) {
+            match sessions.call(lone.slot, &lone.cue) {
                 Ok(gift) => show(&gift, paper),
                 Err(_) => paper.fill(),
             }
@@ -160,14 +160,14 @@ fn turns_of(
     turn: Turn<'_>,
     calls: &[u8],
     count: usize,
-) -> Result<Vec<Seated<Global>, Global>, AllocError> {
+) -> Result<Vec<InSlot<Global>, Global>, AllocError> {
     let mut turns = Vec::new(turn.alloc);
     let mut rest = calls;
     for _ in 0..count {
         let (line, after) = cut(rest, b'\n');
-        let (seat, call) = split(line);
-        turns.push(Seated {
-            seat: number(seat) as usize,
+        let (slot, call) = split(line);
+        turns.push(InSlot {
+            slot: number(slot) as usize,
             cue: cue_of(turn.alloc, turn, call)?,
         })?;
         rest = after;

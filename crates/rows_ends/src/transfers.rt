@@ -3,7 +3,7 @@ use ftp_facts::{Facts, Moment};
 use ftp_operation::Rights;
 use ftp_path::Path;
 use ftp_server_model::{FixedReply, Keep};
-use ftp_server_parts::{Fault, ServerTransfer, Told, fixed_code};
+use ftp_server_replies::{Fault, ServerTransfer, Told, fixed_code};
 use ftp_server_transfer::TreeTransfer;
 use ftp_settings::{Kind, Mode, Representation, Structure};
 use ftp_tree::{Draft, Tree, TreeFault};

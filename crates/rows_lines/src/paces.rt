@@ -1,8 +1,8 @@
 //! How far transfers are, as it is printed.
 use crate::report::put_printed;
-use ftp_tool_status::{Span, measured, pace_of, unit_for};
 use rows_base::Paper;
 use std::alloc::Global;
+use tool_status::{Span, measured, pace_of, unit_for};
 
 /// Sizes around the places where a unit begins.
 const SIZES: &[u128] = &[

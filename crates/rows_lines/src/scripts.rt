@@ -1,9 +1,9 @@
 //! Whole scripts: how many orders they have, or which line is refused; a report; each growth refused in turn.
 use ftp_facts::Text;
 use ftp_operation::Answer;
-use ftp_tool_script::{ScriptFault, report_of, script_of};
 use rows_base::Paper;
 use std::alloc::{AllocError, Allocator, Global};
+use tool_script::{ScriptFault, report_of, script_of};
 
 /// How many orders a script has.
 fn count_of<A: Allocator + Copy>(alloc: A, script: &[u8]) -> Result<usize, ScriptFault> {

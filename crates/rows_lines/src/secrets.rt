@@ -1,7 +1,7 @@
 //! Passwords, the fields that they open, and the fields that are made of them.
 use crate::report::put_printed;
 use crate::row::Row;
-use ftp_operation_secret::{Method, Secret, SecretFault};
+use ftp_secret::{Method, Secret, SecretFault};
 use rows_base::{Paper, number, split};
 use std::alloc::Global;
 

@@ -1,16 +1,16 @@
 // What a download of the octets 0123456789 asks of a server that answers so, and how it stands then.
-use crate::seat::played;
+use crate::slot::played;
 use crate::tries::Row;
 use ftp_facts::Moment;
 use ftp_operation::Answer;
-use ftp_tool_asking::{Openings, SessionFault};
-use ftp_tool_local::{LocalFiles, OpenPart, Reading, read_from};
-use ftp_tool_status::Arrival;
-use ftp_tool_transfer::{Downloading, Stamp};
 use rows_base::Paper;
 use std::alloc::Global;
 use std::io;
 use std::io::{Error, ErrorKind, Write};
+use tool_files::{LocalFiles, OpenPart, Reading, read_from};
+use tool_resume::{Downloading, Stamp};
+use tool_session::{Openings, SessionFault};
+use tool_status::Arrival;
 
 /// The most octets that the file may have.
 const LIMIT: u64 = 100;

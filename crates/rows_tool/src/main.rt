@@ -7,18 +7,18 @@ mod downloads;
 mod places;
 mod quiet;
 mod scripts;
-mod seat;
+mod slot;
 mod tries;
 mod turns;
 mod uploads;
 mod worlds;
 
-use ftp_tool_status::Status;
 use rows_base::Paper;
 use std::alloc::Global;
 use std::io::Write;
 use std::process::ExitCode;
 use std::{fs, io};
+use tool_status::Status;
 
 fn main(rt: HostRuntime) -> ExitCode {
     ExitCode::from(played(&rt).unwrap_or(Status::Failed).number())
@@ -28,7 +28,7 @@ fn main(rt: HostRuntime) -> ExitCode {
 fn played(rt: &HostRuntime) -> io::Result<Status> {
     others(rt)?;
     programs(rt)?;
-    ftp_tool_loop::play(rt)
+    tool_loop::play(rt)
 }
 
 /// Rows that lie in a file.

@@ -1,6 +1,6 @@
 // Which places texts say.
-use ftp_tool_words::{Location, place_of};
 use rows_base::Paper;
+use tool_words::{Location, place_of};
 
 /// Texts that say a place.
 const SAID: &[&str] = &[

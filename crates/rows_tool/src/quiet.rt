@@ -1,10 +1,10 @@
 // What is told on standard error with `--quiet`.
-use ftp_tool_quiet::{Hushed, Told, is_told};
 use rows_base::Paper;
 use std::cell::RefCell;
 use std::fmt::Display;
 use std::io;
 use std::io::Eprint;
+use tool_terminal::{QuietHandle, Told, is_told};
 
 /// Texts of the programs, and whether each is an error.
 const TEXTS: &[(&str, bool)] = &[
@@ -66,7 +66,7 @@ fn hears(rt: &HostRuntime, told: Told, text: &str) -> bool {
     let listener = Listener {
         told: RefCell::new(Paper::new(rt.alloc())),
     };
-    let hushed = Hushed {
+    let hushed = QuietHandle {
         rt: &listener,
         told,
     };

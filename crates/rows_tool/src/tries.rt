@@ -3,9 +3,9 @@ use crate::downloads::Known;
 use crate::{downloads, uploads};
 use ftp_operation::How;
 use ftp_settings::{Kind, Mode, Representation, Structure};
-use ftp_tool_asking::Opening;
 use rows_base::{Paper, cut, found, split};
 use std::io;
+use tool_session::Opening;
 
 const HOW: How = How {
     representation: Representation {

@@ -1,24 +1,24 @@
-// A script of operations, each asked by `ask` of `ftp_pair_turns`, at most so many octets a turn (RFC 959).
+// A script of operations, each asked by `ask` of `ftp_pair_memory`, at most so many octets a turn (RFC 959).
 use ftp_client::Client;
 use ftp_client_model::Near;
 use ftp_client_steps::ClientTransfer;
 use ftp_client_transfer::OperationTransfer;
-use ftp_control::Watch;
 use ftp_endpoint::Host;
 use ftp_facts::{Moment, Text};
 use ftp_operation::{Accounts, Login, Op};
-use ftp_pair_turns::{Line, Seat, ask};
+use ftp_pair_memory::{Line, Slot, ask};
+use ftp_ports::Watch;
 use ftp_server::Server;
-use ftp_server_drive::Clocked;
+use ftp_server_driver::Clocked;
 use ftp_server_model::Far;
-use ftp_server_parts::ServerTransfer;
+use ftp_server_replies::ServerTransfer;
 use ftp_server_transfer::TreeTransfer;
-use ftp_tool_accounts::two_accounts;
-use ftp_tool_script::{Order, Script, read_script, write_report};
 use ftp_tree_memory::MemTree;
 use std::alloc::Global;
 use std::io;
 use std::io::Print;
+use tool_accounts::two_accounts;
+use tool_script::{Order, Script, read_script, write_report};
 
 const HERE: Host = Host::V4([127, 0, 0, 1]);
 
@@ -49,8 +49,8 @@ impl Watch for Still {
 fn report<R, N, F>(
     (rt, alloc): (&R, Global),
     op: Op<Text<Global>>,
-    client: &mut Seat<N>,
-    server: &mut Seat<Clocked<F, Still, ()>>,
+    client: &mut Slot<N>,
+    server: &mut Slot<Clocked<F, Still, ()>>,
     line: &mut Line,
     most: usize,
 ) -> io::Result<()>
@@ -87,8 +87,8 @@ where
         },
         watcher: (),
     };
-    let mut client = Seat::new(client, alloc, HERE, ONE);
-    let mut server = Seat::new(clocked, alloc, HERE, ONE);
+    let mut client = Slot::new(client, alloc, HERE, ONE);
+    let mut server = Slot::new(clocked, alloc, HERE, ONE);
     let mut line = Line::new(alloc);
     let mut most = 1usize;
     for order in orders {

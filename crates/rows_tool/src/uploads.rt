@@ -1,14 +1,14 @@
 // What an upload of the file `ten` asks of a server that answers so, and the status.
-use crate::seat::played;
+use crate::slot::played;
 use crate::tries::Row;
 use ftp_operation::Answer;
-use ftp_tool_asking::{LastReply, Openings, SessionFault};
-use ftp_tool_local::LocalFiles;
-use ftp_tool_transfer::{Source, Uploading};
 use rows_base::Paper;
 use std::alloc::Global;
 use std::io;
 use std::io::{Error, ErrorKind};
+use tool_files::LocalFiles;
+use tool_resume::{Source, Uploading};
+use tool_session::{LastReply, Openings, SessionFault};
 
 /// A file of ten octets.
 const FILE: &str = "ten";

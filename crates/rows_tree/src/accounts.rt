@@ -4,8 +4,8 @@ use crate::step::{Line, Step};
 use crate::words::split;
 use ftp_facts::Text;
 use ftp_operation::{Account, Accounts, AccountsFault, Login, Rights};
-use ftp_operation_secret::Secret;
 use ftp_path::Path;
+use ftp_secret::Secret;
 use rows_base::{Paper, cut};
 use std::alloc::{Allocator, Global};
 

@@ -1,7 +1,7 @@
 // A folder in memory that fails.
 ghost use Rattle.std.specs.Prelude.{◌≡◌, IfOk, OnErr, OnOk, Some};
 ghost use Rattle.ftp_tree.specs.Change.{next_count};
-ghost use Rattle.ftp_tree_memory.specs.Folder.{HasFailed, IsKept, changed_below};
+ghost use Rattle.ftp_tree_memory.specs.trees.Folder.{HasFailed, IsKept, changed_below};
 ghost use Rattle.ftp_tree.specs.Tree.{installed, root_alone};
 
 use ftp_facts::Moment;

@@ -5,14 +5,14 @@ use crate::embedded::client::perform;
 use crate::event::{Event, Told};
 use crate::peer::Peer;
 use crate::plays::{Holds, Plays};
-use ftp_client_drive::{Control, Data, Driven, drive_client};
+use ftp_client_driver::{Control, Data, Driven, drive_client};
 use ftp_client_model::{Busy, Near};
 use ftp_ends::Wants;
 use ftp_facts::Text;
 use ftp_operation::{Answer, How, Op};
-use ftp_tool_script::{LineFault, Order, order_of, put_field};
 use rows_base::{FailingReader, FailingWriter, Paper, cut, fixed, number};
 use std::alloc::{AllocError, Allocator, Global};
+use tool_script::{LineFault, Order, order_of, put_field};
 
 /// A client, and what the texts of its operations grow by.
 #[derive(Drop)]

@@ -1,10 +1,10 @@
 // An operation of a client: what it owes goes out, and then what it wants is done (RFC 959, section 2.3).
 use crate::embedded::sockets::Sockets;
 use ftp_client_model::Near;
-use ftp_control::{Failed, TURNS, get, put};
 use ftp_ends::Wants;
 use ftp_facts::Text;
 use ftp_operation::{Answer, Op};
+use ftp_ports::{Failed, TURNS, get, put};
 use std::alloc::Allocator;
 use std::io::{Read, Write};
 

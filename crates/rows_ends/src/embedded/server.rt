@@ -1,7 +1,7 @@
 // A session of a server: what it owes goes out, and then what it wants is done (RFC 959, section 2.3).
 use crate::embedded::sockets::Sockets;
-use ftp_control::{Failed, TURNS, get, put};
 use ftp_ends::Wants;
+use ftp_ports::{Failed, TURNS, get, put};
 use ftp_server_model::Far;
 use ftp_tree::Tree;
 use std::alloc::Allocator;

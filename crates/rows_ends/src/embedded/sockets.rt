@@ -1,8 +1,8 @@
 // What a program that embeds an end asks of its sockets.
-use ftp_control::Failed;
 use ftp_endpoint::Host;
 use ftp_ends::Wants;
 use ftp_facts::Moment;
+use ftp_ports::Failed;
 
 /// One data connection after another, each call of which waits by itself, and a clock. The last is closed by whose the sockets are.
 pub trait Sockets {

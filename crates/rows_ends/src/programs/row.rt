@@ -1,8 +1,8 @@
 // The lines of a row: which program it is of, what that reads, and what has to come.
-use ftp_tool_files::{Direction, Representation, representation_of};
 use rows_base::{Paper, cut, found, number, octets_of, said, split};
 use std::alloc::Global;
 use std::str;
+use tool_codec::{Direction, Representation, representation_of};
 
 /// A program that reads and writes octets, or a call of one.
 #[derive(Clone, Copy)]

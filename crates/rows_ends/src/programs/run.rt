@@ -1,12 +1,12 @@
 // A program runs on a row.
 use crate::programs::row::{Program, Row, word};
-use ftp_control::{Failed, get, put};
-use ftp_tool_dialogue::dialogue;
-use ftp_tool_files::{Direction, facts, frame, number_of};
-use ftp_tool_password::make;
+use ftp_ports::{Failed, get, put};
 use itoa::Buffer;
 use rows_base::{FailingReader, FailingWriter, Refusing};
 use std::alloc::{Allocator, Global};
+use tool_accounts::make;
+use tool_codec::{Direction, facts, frame, number_of};
+use tool_dialogue::dialogue;
 
 /// The number of no call, and more octets than a call moves.
 pub const NEVER: u32 = u32::MAX;

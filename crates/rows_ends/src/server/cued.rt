@@ -1,10 +1,10 @@
-// Calls of a server by a list (`ftp_server_play`): the lines of a row that begin with `call`, made before all others.
+// Calls of a server by a list (`ftp_server_calls`): the lines of a row that begin with `call`, made before all others.
 use crate::desk::Desk;
 use crate::event::{Event, Told, told_of};
 use crate::stage::put_wants;
 use crate::turn::Turn;
 use crate::verb::{Verb, verb_of};
-use ftp_server_play::{Cue, Gift, Played};
+use ftp_server_calls::{Cue, Gift, Played};
 use rows_base::{Paper, cut, number, octets_of, split};
 use std::alloc::{AllocError, Allocator, Global};
 

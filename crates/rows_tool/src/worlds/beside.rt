@@ -7,12 +7,12 @@ use crate::worlds::words::{Word, word_of};
 use ftp_direct::direct;
 use ftp_facts::{Moment, Text};
 use ftp_operation::{Accounts, Login, Op};
-use ftp_tool_accounts::two_accounts;
-use ftp_tool_script::{Order, login_of, moment_of, order_of};
 use ftp_tree_memory::{HeldTree, MemTree};
 use rows_base::{Paper, Refusing, cut, first_other, number};
 use rows_tree::show_tree;
 use std::alloc::{AllocError, Allocator, Global};
+use tool_accounts::two_accounts;
+use tool_script::{Order, login_of, moment_of, order_of};
 
 /// How lines of reports begin.
 const REPORTS: &[&'static [u8]] = &[

@@ -8,15 +8,15 @@ use ftp_client_transfer::OperationTransfer;
 use ftp_operation::Login;
 use ftp_pair::World;
 use ftp_server_model::SureFar;
-use ftp_server_parts::Counted;
+use ftp_server_replies::Counted;
 use ftp_server_transfer::TreeTransfer;
-use ftp_tool_pair::{Beginning, beginning_of, world_of};
-use ftp_tool_script::login_of;
 use ftp_tree::SureTree;
 use ftp_tree_memory::{HeldTree, MemTree};
 use rows_base::{Refusing, cut};
 use rows_ends::Holds;
 use std::alloc::{Allocator, Global};
+use tool_pair::{Beginning, beginning_of, world_of};
+use tool_script::login_of;
 
 /// The first line of a world that memory is refused for.
 pub const NO_WORLD: &'static [u8] = b"! no world";

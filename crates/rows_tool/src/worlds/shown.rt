@@ -1,9 +1,9 @@
 // Reports and marks as a row writes them.
 use ftp_operation::Answer;
 use ftp_pair::Mark;
-use ftp_tool_script::report_of;
 use rows_base::{Paper, Tally};
 use std::alloc::{Allocator, Global};
+use tool_script::report_of;
 
 /// More octets than are written one by one.
 const MANY: usize = 200;

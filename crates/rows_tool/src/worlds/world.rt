@@ -8,12 +8,12 @@ use ftp_operation::{How, Op};
 use ftp_pair::{Event, World};
 use ftp_server_model::SureFar;
 use ftp_settings::{Kind, Mode, Representation, Structure};
-use ftp_tool_script::{Order, moment_of, order_of};
 use ftp_tree_memory::HeldTree;
 use rows_base::Paper;
 use rows_ends::Holds;
 use rows_tree::show_tree;
 use std::alloc::{AllocError, Allocator, Global};
+use tool_script::{Order, moment_of, order_of};
 
 /// A world, and how it grows.
 #[derive(Drop)]

@@ -1,4 +1,4 @@
-use Rattle.ftp_tree_memory.proofs.ContentLemmas.{front-more}
+use Rattle.ftp_tree_memory.proofs.trees.ContentLemmas.{front-more}
 use Rattle.rows_tree.proofs.failing_folder.copy_of.Goals as goal
 
 -- with one more piece the copy is a beginning of the content too

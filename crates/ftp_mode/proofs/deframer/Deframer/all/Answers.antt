@@ -5,7 +5,7 @@ use Rattle.ftp_mode.specs.declared.deframer.Gave.TheVariants.{Nothing, Octets}
 use Rattle.ftp_mode.specs.Said.{Said, octets_said}
 use Rattle.ftp_mode.specs.Count.{count_on}
 use Rattle.ftp_mode.specs.Deframing.{reading, owed, owed_said, last_marker, gave_said, Moves, SaysLast, reading_of}
-use Rattle.ftp_cutting.specs.Machine.{gives}
+use Rattle.ftp_pieces.specs.Machine.{gives}
 use Rattle.ftp_mode.specs.Reading.{reader, plain}
 use Rattle.ftp_mode.proofs.ReaderRuns.{run_gives, plain_runs}
 use Rattle.ftp_mode.proofs.BiteLemmas.{plain_moves, ended_moves, going_by, run_last, none_last}

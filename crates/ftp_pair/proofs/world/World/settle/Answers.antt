@@ -1,5 +1,5 @@
 use Rattle.std.proofs.Common.{◌-◌, ◌*◌, sym, subst, arith}
-use Rattle.ftp_pair_world.specs.Still.{IsStill}
+use Rattle.laws_world.specs.Still.{IsStill}
 use Rattle.ftp_pair.specs.Session.{Counted, LeadsSmall, Seen}
 use Rattle.ftp_pair.proofs.Agreeing.{settles}
 use Rattle.ftp_pair.proofs.Calming.{left_few, settled_calm, turned}

@@ -1,5 +1,5 @@
 use Rattle.std.proofs.Common.{◌≡◌, ◌≤◌, ◌-◌, ◌*◌, true}
-use Rattle.ftp_pair_world.specs.Still.{IsStill}
+use Rattle.laws_world.specs.Still.{IsStill}
 use Rattle.ftp_pair.specs.Session.{Counted, LeadsSmall}
 use Rattle.ftp_pair.proofs.Settling.{still_to_do}
 use Rattle.ftp_pair.proofs.world.World.settle.Given as goal

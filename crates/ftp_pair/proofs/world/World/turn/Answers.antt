@@ -1,9 +1,9 @@
 use Rattle.std.proofs.Common.{◌∙◌, ◌≡◌, true, false, ap, subst}
-use Rattle.ftp_pair_parts.specs.Calm.{Keeps, tally_of}
-use Rattle.ftp_pair_parts.specs.Happening.{Stirs}
-use Rattle.ftp_pair_parts.specs.Shown.{shown}
-use Rattle.ftp_pair_settling.specs.Steady.{IsSteady}
-use Rattle.ftp_pair_world.specs.Still.{IsStill}
+use Rattle.ftp_pair_events.specs.events.Calm.{Keeps, tally_of}
+use Rattle.ftp_pair_events.specs.events.Happening.{Stirs}
+use Rattle.ftp_pair_events.specs.events.Shown.{shown}
+use Rattle.laws_settling.specs.Steady.{IsSteady}
+use Rattle.laws_world.specs.Still.{IsStill}
 use Rattle.ftp_pair.specs.Session.{Seen, seen}
 use Rattle.ftp_pair.proofs.Reaching.{reached_calm, reached_steady, reached_turn}
 use Rattle.ftp_pair.proofs.world.World.turn.Goals as goal

@@ -1,5 +1,5 @@
 use Rattle.std.proofs.Common.{◌≡◌, ◌≤◌, ℕ, List, ◌++◌, length, vec_capacity}
-use Rattle.ftp_cutting.specs.Machine.{after}
+use Rattle.ftp_pieces.specs.Machine.{after}
 use Rattle.ftp_repr.specs.Items.{signs}
 use Rattle.ftp_repr.specs.Receiving.{receiving}
 use Rattle.ftp_repr.specs.Received.{receiver_form, taking, settled_by}

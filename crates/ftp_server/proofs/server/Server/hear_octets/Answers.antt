@@ -1,6 +1,6 @@
 use Rattle.std.proofs.Common.{◌≡◌, ◌+◌, ◌∙◌, ap, arith, inr, sym}
 use Rattle.ftp_tree.proofs.CountLemmas.{stray-first, stray-second}
-use Rattle.ftp_server_parts.proofs.SteadyLemmas.{steady_twice}
+use Rattle.ftp_server_replies.proofs.SteadyLemmas.{steady_twice}
 use Rattle.ftp_server.proofs.CountingLemmas.{none_told, steady_then}
 use Rattle.ftp_server.proofs.HearLemmas.{of_ok, on_err, piece_lost, piece_more, some_taken}
 use Rattle.ftp_server.proofs.ToldLemmas.{piece_told}

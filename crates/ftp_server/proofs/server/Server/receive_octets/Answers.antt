@@ -1,7 +1,7 @@
 use Rattle.std.proofs.Common.{◌≡◌, ◌<◌, ◌∙◌, List, ℕ, arith, inr, length, subst, sym, take}
 use Rattle.ftp_tree.proofs.CountLemmas.{stray-first, stray-second}
 use Rattle.ftp_server_model.specs.Failing.{AreReceived}
-use Rattle.ftp_server_parts.proofs.SteadyLemmas.{steady_twice}
+use Rattle.ftp_server_replies.proofs.SteadyLemmas.{steady_twice}
 use Rattle.ftp_server.proofs.CountingLemmas.{none_told, steady_then}
 use Rattle.ftp_server.proofs.HearLemmas.{of_ok, on_err}
 use Rattle.ftp_server.proofs.TakenLemmas.{row_lost, row_more, some_taken}

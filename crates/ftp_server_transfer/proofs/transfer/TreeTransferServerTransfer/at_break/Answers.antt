@@ -1,7 +1,7 @@
 use Rattle.std.proofs.Common.{sym, ap, subst}
 use Rattle.ftp_server_model.specs.Machine.{at_break}
 use Rattle.ftp_server_model.specs.View.{Transfer}
-use Rattle.ftp_server_parts.specs.ServerTransfer.{Ends}
+use Rattle.ftp_server_replies.specs.ServerTransfer.{Ends}
 use Rattle.ftp_server_transfer.specs.TreeTransfer.{transfer_of}
 use Rattle.ftp_server_transfer.proofs.transfer.TreeTransferServerTransfer.at_break.Goals as goal
 

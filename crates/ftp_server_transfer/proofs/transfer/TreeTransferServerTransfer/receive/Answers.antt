@@ -1,8 +1,8 @@
 use Rattle.std.proofs.Common.{length, take, sym, ap, subst}
 use Rattle.ftp_tree.specs.Tree.{under}
 use Rattle.ftp_server_model.specs.View.{Transfer}
-use Rattle.ftp_server_parts.specs.ServerTransfer.{Comes}
-use Rattle.ftp_server_parts.specs.declared.transfer.Told.TheVariants as Tells
+use Rattle.ftp_server_replies.specs.ServerTransfer.{Comes}
+use Rattle.ftp_server_replies.specs.declared.transfer.Told.TheVariants as Tells
 use Rattle.ftp_server_transfer.proofs.ReceiveLemmas.{over_comes}
 use Rattle.ftp_server_transfer.specs.TreeTransfer.{transfer_of}
 use Rattle.ftp_server_transfer.proofs.transfer.TreeTransferServerTransfer.receive.Goals as goal

@@ -3,7 +3,7 @@ use Rattle.std.specs.Prelude.{if◌then◌else◌}
 use Rattle.ftp_tree.specs.Tree.{under}
 use Rattle.ftp_wire.specs.Hearing.{Hears}
 use Rattle.ftp_server_model.specs.declared.session.Transfer.TheVariants as Transfers
-use Rattle.ftp_server_parts.specs.ServerTransfer.{Comes}
+use Rattle.ftp_server_replies.specs.ServerTransfer.{Comes}
 use Rattle.ftp_server_transfer.proofs.MarkLemmas.{mark_fits}
 use Rattle.ftp_server_transfer.proofs.ReceiveLemmas.{comes, refused}
 use Rattle.ftp_server_transfer.proofs.upload.Upload.receive.Goals as goal

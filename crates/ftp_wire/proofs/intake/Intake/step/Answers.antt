@@ -1,5 +1,5 @@
 use Rattle.std.proofs.Common.{◌≡◌, ◌+◌, ◌-◌, ◌<◌, ◌≤◌, ◌++◌, ℕ, List, [], Option, Some, None, length, take, refl, sym, ap, subst, ◌∙◌, arith, length-append}
-use Rattle.ftp_cutting.specs.Machine.{after, gives}
+use Rattle.ftp_pieces.specs.Machine.{after, gives}
 use Rattle.ftp_repr.specs.Signs.{Sign}
 use Rattle.ftp_repr.specs.Items.{signs}
 use Rattle.ftp_mode.specs.Said.{Said, file_signs}

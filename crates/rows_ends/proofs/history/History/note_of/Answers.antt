@@ -4,4 +4,4 @@ use Rattle.rows_ends.proofs.HistoryLemmas.{asked_last}
 use Rattle.rows_ends.proofs.history.History.note_of.Goals as goal
 
 pub returns : goal.returns
-returns c = ap asked_in c.and-log.ensures ∙ asked_last [] c.args.self.now.log.items (c.args.deed, c.args.written.now)
+returns c = ap asked_in c.and-log.ensures ∙ asked_last [] c.args.self.now.log.items (c.args.action, c.args.written.now)

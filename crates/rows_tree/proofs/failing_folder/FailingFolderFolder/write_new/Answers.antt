@@ -1,6 +1,6 @@
 use Rattle.std.proofs.Common.{◌≡◌, None, Some, is_some, sym, ap, ◌∙◌, subst}
 use Rattle.ftp_tree.specs.Tree.{Table, node_at, under}
-use Rattle.ftp_tree_memory.proofs.MirrorLemmas.{always-ok, kind-absent}
+use Rattle.ftp_tree_memory.proofs.trees.MirrorLemmas.{always-ok, kind-absent}
 use Rattle.rows_tree.proofs.failing_folder.FailingFolderFolder.write_new.Goals as goal
 
 -- what is kept is one map

@@ -1,7 +1,0 @@
-use Rattle.std.specs.Io.KnownBytes.{Keeps}
-use Rattle.ftp_control.proofs.pieces.get.Given as goal
-
-abbrev pub invariant-loop : goal.invariant-loop
-invariant-loop g l =
-    let remaining = g.R.Read.remaining in
-    Keeps (remaining l.fn.reader) (remaining l.reader)

@@ -1,6 +1,0 @@
-use Rattle.ftp_control.proofs.Lanes.{none_had}
-use Rattle.ftp_control_drive.proofs.data.Data.new.Goals as goal
-
-pub returns : goal.returns
-returns g c asked =
-    none_had g.S.Read.remaining g.S.Write.contents c.new.result asked _ c.new.ensures.none (c.new.ensures.whole).0 c.new.ensures.sound (c.new.ensures.whole).1

@@ -1,8 +1,0 @@
-use Rattle.ftp_control_drive.proofs.Words.{then_gets, then_stirs}
-use Rattle.ftp_control_drive.proofs.drive.Drive.broke.Goals as goal
-
-pub returns-then-goes_first-clause-gets : goal.returns-then-goes_first-clause-gets
-returns-then-goes_first-clause-gets g c = then_gets _ _ _ c.heed.result c.look-spoken.ensures.leads c.heed.ensures.gets
-
-pub returns-clause-gets : goal.returns-clause-gets
-returns-clause-gets g c = then_stirs _ _ _ c.look-spoken.ensures.leads c.lose.ensures.stirs

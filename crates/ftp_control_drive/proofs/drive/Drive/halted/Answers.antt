@@ -1,5 +1,0 @@
-use Rattle.ftp_control_drive.proofs.Words.{stirs_lead}
-use Rattle.ftp_control_drive.proofs.drive.Drive.halted.Goals as goal
-
-pub returns-in-Broken-clause-goes : goal.returns-in-Broken-clause-goes
-returns-in-Broken-clause-goes g c = stirs_lead _ _ c.lose.ensures.stirs

@@ -1,6 +1,0 @@
-use Rattle.ftp_control_drive.proofs.Words.{leaves, leaves_flushed, refl}
-use Rattle.ftp_control_drive.proofs.drive.Drive.leave.Goals as goal
-
-pub returns-clause-stirs : goal.returns-clause-stirs
-returns-clause-stirs g c = leaves g.K.EndCalls.machine c.leave.ensures.left.0 _ _ c.leave.ensures.left.1 c.requires.may c.leave.ensures.left.2
-    (leaves_flushed g.K.EndCalls.machine _ _ c.requires.flushed) refl

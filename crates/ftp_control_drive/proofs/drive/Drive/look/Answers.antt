@@ -1,5 +1,0 @@
-use Rattle.ftp_control_drive.proofs.Words.{asks, is_over, rules}
-use Rattle.ftp_control_drive.proofs.drive.Drive.look.Goals as goal
-
-pub returns-then-awaits-clause-leads : goal.returns-then-awaits-clause-leads
-returns-then-awaits-clause-leads g c = asks g.K.EndCalls.machine (is_over c.spoken.result) _ _ (search rules) c.spoken.ensures

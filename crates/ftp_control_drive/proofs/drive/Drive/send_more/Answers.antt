@@ -1,5 +1,0 @@
-use Rattle.ftp_control_drive.proofs.Words.{leads_then}
-use Rattle.ftp_control_drive.proofs.drive.Drive.send_more.Goals as goal
-
-pub returns-clause-leads : goal.returns-clause-leads
-returns-clause-leads g c = leads_then _ _ _ c.fill.ensures.leads c.push.ensures.leads

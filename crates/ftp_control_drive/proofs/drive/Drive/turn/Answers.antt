@@ -1,9 +1,0 @@
-use Rattle.std.proofs.Common.{inl}
-use Rattle.ftp_control_drive.proofs.Words.{then_stirs, then_turns}
-use Rattle.ftp_control_drive.proofs.drive.Drive.turn.Goals as goal
-
-pub returns-then-hears_now-clause-gets : goal.returns-then-hears_now-clause-gets
-returns-then-hears_now-clause-gets g c = inl (then_stirs _ _ _ c.in_ok-flush.ensures.goes c.hear.ensures.stirs)
-
-pub returns-clause-gets : goal.returns-clause-gets
-returns-clause-gets g c = then_turns g.K.EndCalls.machine _ _ _ c.act.result c.in_ok-flush.ensures.goes c.act.ensures.gets

@@ -1,0 +1,27 @@
+// What stands on a disk comes into the nodes of a tree: all below a folder at the start, later what a look found. No file is opened, and what can't be
+// served is left out.
+
+mod changes;
+mod counting;
+mod dirs;
+mod fault;
+mod freed;
+mod here;
+mod loading;
+mod names;
+mod place;
+mod roots;
+mod taking;
+mod version;
+mod walking;
+
+pub use changes::{Changes, Findings, Thing};
+pub use dirs::{Dirs, Seen};
+pub use fault::{LeftOut, LoadFault, Odd, Reason};
+pub use here::Here;
+pub use loading::load;
+pub use names::{served, sorted};
+pub use place::{above, below_of};
+pub use roots::Roots;
+pub use taking::take_up;
+pub use version::{Held, Unknown, Version};

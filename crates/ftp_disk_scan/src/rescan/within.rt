@@ -1,0 +1,206 @@
+// What others changed in a directory: its names, held against those that the tree has.
+use crate::loading::{Changes, Dirs, Held, Here, Seen, Version, served, sorted};
+use crate::rescan::finding::{Finding, add};
+use ftp_disk_host::{Host, Look};
+use ftp_path::PathFault;
+use ftp_tree::Sight;
+use ftp_tree_nodes::Nodes;
+use std::alloc::Global;
+use std::io;
+use std::io::{Error, ErrorKind};
+
+/// What a look at a directory found.
+pub(crate) struct Within {
+    changes: Changes,
+    /// How it looked before its names were listed, if they were.
+    listed: Option<Seen>,
+}
+
+/// By hand, as that of a tree.
+impl Drop for Within {
+    fn drop(self) {
+        let Self {
+            changes: _,
+            listed: _,
+        } = self;
+    }
+}
+
+impl Within {
+    /// The changes, and how it looked.
+    pub(crate) fn into_parts(self) -> (Changes, Option<Seen>) {
+        let Self { changes, listed } = self;
+        (changes, listed)
+    }
+
+    /// No change, and no names.
+    pub(crate) fn none(alloc: Global) -> Within {
+        Within {
+            changes: Changes::none(alloc),
+            listed: None,
+        }
+    }
+}
+
+/// Looks at a directory that is on the disk, where it looks so, and in the tree.
+pub(crate) fn look_in<H: Host, K: Held>(
+    host: &H,
+    nodes: &Nodes<Global, Version<K>>,
+    dirs: &mut Dirs,
+    here: Here,
+    look: Look,
+    sight: Sight,
+) -> io::Result<Within> {
+    let are_known = dirs.has(here.below.as_bytes(), look, sight);
+    if are_known && sight == Sight::Path {
+        return Ok(Within::none(host.memory()));
+    }
+    let folder = host.folder(here.below.as_str())?;
+    let looking = Looking {
+        host,
+        nodes,
+        here,
+        folder,
+    };
+    let mut changes = Changes::none(host.memory());
+    let mut listed = None;
+    if !are_known {
+        listed = Some(Seen::of(look, host.now()));
+        looking.look_at_names(sight, &mut changes)?;
+    }
+    if sight == Sight::Files {
+        looking.look_at_children(&mut changes)?;
+    }
+    if let Some(seen) = listed {
+        if changes.is_empty() {
+            // Refused memory, its names are listed again at the next look.
+            let place = looking.here.below.as_bytes();
+            let _noted = dirs.note(place, seen.by(host.now()));
+        }
+    }
+    Ok(Within { changes, listed })
+}
+
+/// A directory that is looked at, and open.
+struct Looking<'a, H: Host, K: Held> {
+    host: &'a H,
+    nodes: &'a Nodes<Global, Version<K>>,
+    here: Here,
+    folder: H::Folder,
+}
+
+/// By hand, as that of a tree.
+impl<'a, H: Host, K: Held> Drop for Looking<'a, H, K> {
+    fn drop(self) {
+        let Self {
+            host: _,
+            nodes: _,
+            here: _,
+            folder: _,
+        } = self;
+    }
+}
+
+impl<'a, H: Host, K: Held> Looking<'a, H, K> {
+    /// Lists the names in it, and holds them against those that the tree has. Which of these are gone is seen by a look at each file as well.
+    fn look_at_names(&self, sight: Sight, changes: &mut Changes) -> io::Result<()> {
+        let octets = self.host.names(&self.folder)?;
+        let names = sorted(self.host.memory(), octets.as_slice())?;
+        self.find_new(names.as_slice(), changes)?;
+        match sight {
+            Sight::Path => self.find_gone(names.as_slice(), changes),
+            Sight::Files => Ok(()),
+        }
+    }
+
+    /// What of some names the tree has not.
+    fn find_new(&self, names: &[&[u8]], changes: &mut Changes) -> io::Result<()> {
+        for octets in names {
+            if let Some(name) = served(self.host, octets) {
+                self.look_at_name(name, changes)?;
+            }
+        }
+        Ok(())
+    }
+
+    /// Looks at a name, unless the tree has it. A path past its limits can't be served.
+    fn look_at_name(&self, name: &str, changes: &mut Changes) -> io::Result<()> {
+        let path = match self.here.child(self.host.memory(), name) {
+            Ok(path) => path,
+            Err(PathFault::Memory) => return Err(error_of(PathFault::Memory)),
+            Err(_) => return Ok(()),
+        };
+        if self.nodes.kind(&self.here.root, &path).is_some() {
+            return Ok(());
+        }
+        let found = self.host.found_in(&self.folder, name)?;
+        self.put(name, Finding::of_new(found), changes)
+    }
+
+    /// What the tree has and is none of some names, which are in order.
+    fn find_gone(&self, names: &[&[u8]], changes: &mut Changes) -> io::Result<()> {
+        for at in 0..usize::MAX {
+            let Some(name) = self.nodes.nth_name(&self.here.root, &self.here.path, at) else {
+                return Ok(());
+            };
+            if !is_among(name.octets(), names) {
+                self.put(text_of(name.octets())?, Finding::Gone, changes)?;
+            }
+        }
+        Ok(())
+    }
+
+    /// Looks at each name that the tree has.
+    fn look_at_children(&self, changes: &mut Changes) -> io::Result<()> {
+        for at in 0..usize::MAX {
+            let Some(name) = self.nodes.nth_name(&self.here.root, &self.here.path, at) else {
+                return Ok(());
+            };
+            self.look_at_child(text_of(name.octets())?, changes)?;
+        }
+        Ok(())
+    }
+
+    /// Looks at a name that the tree has.
+    fn look_at_child(&self, name: &str, changes: &mut Changes) -> io::Result<()> {
+        let path = match self.here.child(self.host.memory(), name) {
+            Ok(path) => path,
+            Err(fault) => return Err(error_of(fault)),
+        };
+        let found = self.host.found_in(&self.folder, name)?;
+        let finding = Finding::of(found, self.nodes.standing(&self.here.root, &path));
+        self.put(name, finding, changes)
+    }
+
+    /// Puts what was seen by a name, where that is a change: its place is written for that alone.
+    fn put(&self, name: &str, finding: Finding, changes: &mut Changes) -> io::Result<()> {
+        if let Finding::SameFile | Finding::SameDir(_) = finding {
+            return Ok(());
+        }
+        let alloc = self.host.memory();
+        let mut place = String::new(alloc);
+        self.here.put_place(name, &mut place)?;
+        Ok(add(changes, alloc, place.as_str(), finding)?)
+    }
+}
+
+/// A name that a tree has, as a text.
+fn text_of(name: &[u8]) -> io::Result<&str> {
+    match std::str::from_utf8(name) {
+        Ok(name) => Ok(name),
+        Err(_) => Err(Error::from(ErrorKind::InvalidFilename)),
+    }
+}
+
+/// Why a place has no path.
+pub(crate) fn error_of(fault: PathFault) -> io::Error {
+    match fault {
+        PathFault::Memory => Error::from(ErrorKind::OutOfMemory),
+        PathFault::NotText | PathFault::TooBig => Error::from(ErrorKind::InvalidFilename),
+    }
+}
+
+/// Whether a name is among some that are in order.
+fn is_among(name: &[u8], names: &[&[u8]]) -> bool {
+    names.binary_search_by(|other| (*other).cmp(name)).is_ok()
+}

@@ -1,0 +1,17 @@
+use Rattle.std.proofs.Common.{sym, ◌∙◌}
+use Rattle.ftp_tree_nodes.proofs.PlacingLemmas.{had, make-above, make-absent}
+use Rattle.ftp_disk_tree.proofs.PutLemmas.{on-ok, refuses-device}
+use Rattle.ftp_disk_tree.proofs.disk.DiskTreeTreeGlobal.make_dir.Goals as goal
+
+pub make_place-requires-clause-absent : goal.make_place-requires-clause-absent
+make_place-requires-clause-absent g c = make-absent _ c.args.path.now (sym c.make_refusal.ensures ∙ c.in_default.is)
+
+pub make_place-requires-clause-above : goal.make_place-requires-clause-above
+make_place-requires-clause-above g c = make-above _ c.args.path.now (sym c.make_refusal.ensures ∙ c.in_default.is)
+
+pub returns-in-Err-clause-refused : goal.returns-in-Err-clause-refused
+returns-in-Err-clause-refused g c =
+    let none = sym c.make_refusal.ensures ∙ c.in_default.is in
+    let place = had c.args.self.now.nodes c.make_place.new.self c.args.root.now c.args.path.now (make-absent _ c.args.path.now none)
+    (on-ok c.make_place.result (sym c.is_err.ensures.value ∙ c.if-is_err.false) c.make_place.ensures.ok) in
+    (c.take_away.ensures ∙ place.back, refuses-device _ _ _ none c.fail.ensures)

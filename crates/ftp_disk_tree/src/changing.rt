@@ -1,0 +1,103 @@
+// What is asked of a host at a path, and which directories are listed anew after it.
+use ftp_disk_host::{Host, Look};
+use ftp_disk_scan::{Dirs, above, below_of};
+use ftp_path::Path;
+use std::alloc::Allocator;
+use std::io;
+
+/// Opens the file at a path that looked so.
+pub(crate) fn open_at<H: Host, B: Allocator + Copy, C: Allocator + Copy>(
+    host: &H,
+    root: &Path<B>,
+    path: &Path<C>,
+    look: Look,
+) -> io::Result<H::File> {
+    let below = below_of(host.memory(), root, path)?;
+    host.open(below.as_str(), look)
+}
+
+/// Begins a file that is written beside a path.
+pub(crate) fn begin_at<H: Host, B: Allocator + Copy, C: Allocator + Copy>(
+    host: &H,
+    root: &Path<B>,
+    path: &Path<C>,
+) -> io::Result<H::Part> {
+    let below = below_of(host.memory(), root, path)?;
+    host.begin(below.as_str())
+}
+
+/// Makes a directory.
+pub(crate) fn make_at<H: Host, B: Allocator + Copy, C: Allocator + Copy>(
+    host: &H,
+    dirs: &mut Dirs,
+    root: &Path<B>,
+    path: &Path<C>,
+) -> io::Result<()> {
+    let below = below_of(host.memory(), root, path)?;
+    host.make_dir(below.as_str())?;
+    dirs.changed(above(below.as_str()).as_bytes());
+    Ok(())
+}
+
+/// Removes an empty directory.
+pub(crate) fn remove_at<H: Host, B: Allocator + Copy, C: Allocator + Copy>(
+    host: &H,
+    dirs: &mut Dirs,
+    root: &Path<B>,
+    path: &Path<C>,
+) -> io::Result<()> {
+    let below = below_of(host.memory(), root, path)?;
+    host.remove_dir(below.as_str())?;
+    dirs.forget_one(below.as_bytes());
+    dirs.changed(above(below.as_str()).as_bytes());
+    Ok(())
+}
+
+/// Removes a file.
+pub(crate) fn delete_at<H: Host, B: Allocator + Copy, C: Allocator + Copy>(
+    host: &H,
+    dirs: &mut Dirs,
+    root: &Path<B>,
+    path: &Path<C>,
+) -> io::Result<()> {
+    let below = below_of(host.memory(), root, path)?;
+    host.delete(below.as_str())?;
+    dirs.changed(above(below.as_str()).as_bytes());
+    Ok(())
+}
+
+/// Moves what stands at a path to one where nothing stands.
+pub(crate) fn rename_at<H: Host, B: Allocator + Copy, C: Allocator + Copy, D: Allocator + Copy>(
+    host: &H,
+    dirs: &mut Dirs,
+    root: &Path<B>,
+    from: &Path<C>,
+    to: &Path<D>,
+) -> io::Result<()> {
+    let old = below_of(host.memory(), root, from)?;
+    let new = below_of(host.memory(), root, to)?;
+    host.rename(old.as_str(), new.as_str())?;
+    dirs.forget(old.as_bytes());
+    both_changed(dirs, old.as_str(), new.as_str());
+    Ok(())
+}
+
+/// Moves a file into the place of another.
+pub(crate) fn rename_onto_at<
+    H: Host,
+    B: Allocator + Copy,
+    C: Allocator + Copy,
+    D: Allocator + Copy,
+>(host: &H, dirs: &mut Dirs, root: &Path<B>, from: &Path<C>, to: &Path<D>) -> io::Result<()> {
+    let old = below_of(host.memory(), root, from)?;
+    let new = below_of(host.memory(), root, to)?;
+    host.rename_onto(old.as_str(), new.as_str())?;
+    both_changed(dirs, old.as_str(), new.as_str());
+    Ok(())
+}
+
+/// A name was changed in each of the directories that two places are in.
+fn both_changed(dirs: &mut Dirs, old: &str, new: &str) {
+    dirs.changed(above(old).as_bytes());
+    dirs.changed(above(new).as_bytes());
+}

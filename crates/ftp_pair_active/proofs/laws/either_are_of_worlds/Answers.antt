@@ -1,5 +1,0 @@
-use Rattle.ftp_pair_active.proofs.Reaching.{either_are_of_worlds}
-use Rattle.ftp_pair_active.proofs.laws.either_are_of_worlds.Goals as goal
-
-pub returns : goal.returns
-returns c = either_are_of_worlds

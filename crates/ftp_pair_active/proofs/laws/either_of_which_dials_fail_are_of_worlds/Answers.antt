@@ -1,5 +1,0 @@
-use Rattle.ftp_pair_active.proofs.Reaching.{tries_are_of_worlds}
-use Rattle.ftp_pair_active.proofs.laws.either_of_which_dials_fail_are_of_worlds.Goals as goal
-
-pub returns : goal.returns
-returns c = tries_are_of_worlds

@@ -1,5 +1,0 @@
-use Rattle.ftp_pair_active.proofs.Quitting.{either_that_quit_are_the_direct_run}
-use Rattle.ftp_pair_active.proofs.laws.either_that_quit_are_the_direct_run.Goals as goal
-
-pub returns : goal.returns
-returns c = either_that_quit_are_the_direct_run

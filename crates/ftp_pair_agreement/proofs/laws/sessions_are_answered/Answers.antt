@@ -1,5 +1,0 @@
-use Rattle.ftp_pair_agreement.proofs.Theorems.{quiet-is-answered}
-use Rattle.ftp_pair_agreement.proofs.laws.sessions_are_answered.Goals as goal
-
-pub returns : goal.returns
-returns c = quiet-is-answered

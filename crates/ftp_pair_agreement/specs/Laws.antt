@@ -1,8 +1,0 @@
--- What is claimed beside `Claims` of `ftp_pair_world`: where no delivery of 1 to 4,096 octets, no opening and no end is possible, nothing is in flight.
-use Rattle.ftp_pair_world.specs.Claims.{Always}
-use Rattle.ftp_pair_world.specs.Events.{IsQuiet}
-use Rattle.ftp_pair_world.specs.Still.{IsStill}
-
--- where nothing moves that takes no memory, nothing is in flight: no queue is full and refused
-abbrev pub RestIsQuiet : Type 0
-RestIsQuiet = Always (λ read b events begun w. IsStill w → IsQuiet w)

@@ -1,5 +1,0 @@
-use Rattle.ftp_pair_asked.proofs.Examples.{fetch_is_asked, peek_is_asked, put_is_asked}
-use Rattle.ftp_pair_asked.proofs.laws.transfers_are_asked.Goals as goal
-
-pub returns : goal.returns
-returns c = record { fetched = fetch_is_asked; peeked = peek_is_asked; put = put_is_asked }

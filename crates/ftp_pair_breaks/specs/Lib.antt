@@ -1,4 +1,0 @@
-pub mod Late
-pub mod Deeds
-pub mod Claims
-pub mod Over

@@ -1,4 +1,0 @@
-//! Data connections that break between two drives: laws, and no code (RFC 959, section 3.3).
-#![tactic(auto)]
-
-pub mod laws;

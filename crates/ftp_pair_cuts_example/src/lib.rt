@@ -1,4 +1,0 @@
-//! A session of two drives of which an upload breaks, as an example that the premises of `ftp_pair_cuts` can be met: laws, and no code (RFC 959, section 3.3).
-#![tactic(auto)]
-
-pub mod laws;

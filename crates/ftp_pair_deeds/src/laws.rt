@@ -1,7 +1,0 @@
-//! A law: a function that does nothing, whose contract is the claim of `specs/Bare`.
-ghost use Rattle.ftp_pair_deeds.specs.Bare.{NoneIsBare};
-
-/// Where no data connection stands, as where a call begins a drive, no octet of one is on its way or in hand.
-pub fn none_is_bare()
-    ensures { NoneIsBare }
-{}

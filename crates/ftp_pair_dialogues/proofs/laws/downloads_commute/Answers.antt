@@ -1,5 +1,0 @@
-use Rattle.ftp_pair_dialogues.proofs.Commuting.{downloads-commute}
-use Rattle.ftp_pair_dialogues.proofs.laws.downloads_commute.Goals as goal
-
-pub returns : goal.returns
-returns c = downloads-commute

@@ -1,6 +1,0 @@
-use Rattle.ftp_pair_drives.proofs.Example.{example_has_quit, example_is_over}
-use Rattle.ftp_pair_drives.proofs.Fair.{example_is_fair}
-use Rattle.ftp_pair_drives.proofs.laws.an_example_is_over.Goals as goal
-
-pub returns : goal.returns
-returns c = record { over = example_is_over; quit = example_has_quit; fair = example_is_fair }

@@ -1,5 +1,0 @@
-use Rattle.ftp_pair_drives.proofs.Ordering.{deeds_go_behind, neighbours_change_places, orders_leave_one, orders_leave_the_ends}
-use Rattle.ftp_pair_drives.proofs.laws.orders_change.Goals as goal
-
-pub returns : goal.returns
-returns c = record { one = orders_leave_one; neighbours = neighbours_change_places; behind = deeds_go_behind; ends = orders_leave_the_ends }

@@ -1,0 +1,5 @@
+use Rattle.ftp_pair_events.proofs.events.Keeping.{none}
+use Rattle.ftp_pair_events.proofs.events.parts.Parts.lose_link.Goals as goal
+
+pub returns-clause-counted : goal.returns-clause-counted
+returns-clause-counted g c = none _ _ _

@@ -1,5 +1,0 @@
-use Rattle.ftp_pair_example.proofs.FetchPlayed.{fetch_has_quit, fetch_is_over}
-use Rattle.ftp_pair_example.proofs.laws.an_example_is_fetched.Goals as goal
-
-pub returns : goal.returns
-returns c = record { over = fetch_is_over; quit = fetch_has_quit }

@@ -1,0 +1,2 @@
+pub mod streams
+pub mod steps

@@ -1,0 +1,36 @@
+-- Ends in their slots, and connections in memory, of values of the program.
+use Rattle.std.specs.Prelude.{ℕ}
+use Rattle.ftp_ports.specs.Machine.{Held, held}
+use Rattle.ftp_client_model.specs.Failing.{Client as NearEnd}
+use Rattle.laws_drivers.specs.control.Between.{Between, Near, Ways}
+use Rattle.ftp_pair_memory.specs.streams.MemoryEnds.{link_state_of, between_both, listens_of, plain_in}
+use Rattle.ftp_pair_memory.specs.streams.Order.{Hosts}
+use Rattle.ftp_server_driver.specs.alone.Side.{Timed}
+use Rattle.ftp_pair_memory.specs.steps.Taking.{Ends, ends}
+use Rattle.ftp_pair_memory.specs.declared.steps.slots.Line.{Line}
+use Rattle.ftp_pair_memory.specs.declared.steps.slots.Slot.{Slot}
+
+-- what either end is still to read of the control connection
+abbrev pub ways_of : Line → Ways
+ways_of line = record { to_server = line.to_server.items; to_client = line.to_client.items }
+
+-- what an end holds, and what it sees of its data connection, of whose octets and ports nothing is told
+abbrev pub held_at : {Here E : Type 0} → (here : E → Here) → Slot E → Held Here
+held_at here slot = held (here slot.end) (plain_in slot.memory_end.stream)
+
+-- what lies between both
+abbrev pub between_of : {N F : Type 0} → (client : Slot N) → (server : Slot F) → Line → Between
+between_of client server line = between_both Near client.memory_end server.memory_end (ways_of line)
+
+-- how many ports were listened at by both
+abbrev pub told_by : {N F : Type 0} → (client : Slot N) → (server : Slot F) → ℕ
+told_by client server = listens_of (link_state_of client.memory_end) (link_state_of server.memory_end)
+
+-- the host at the other end of each
+abbrev pub hosts_of : {N F : Type 0} → (client : Slot N) → (server : Slot F) → Hosts
+hosts_of client server = record { near = (link_state_of client.memory_end).host; far = (link_state_of server.memory_end).host }
+
+-- all of that
+abbrev pub ends_of : {N F : Type 0} → (far : F → Timed) → (near : N → NearEnd) → (client : Slot N) → (server : Slot F) → Line → Ends
+ends_of far near client server line =
+    ends (held_at far server) (held_at near client) (between_of client server line) (told_by client server) (hosts_of client server)

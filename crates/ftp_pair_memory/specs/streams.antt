@@ -1,0 +1,7 @@
+pub mod LinkState
+pub mod Claims
+pub mod PortTables
+pub mod Docking
+pub mod MemoryEnds
+pub mod Order
+pub mod Plain

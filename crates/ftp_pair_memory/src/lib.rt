@@ -1,0 +1,8 @@
+//! Both drivers in turns over connections in memory.
+#![tactic(auto)]
+
+pub mod steps;
+pub mod streams;
+
+pub use steps::{Line, Slot, ask};
+pub use streams::{Inlet, MemoryEnd, MemoryPorts, Outlet, Wire, meet};

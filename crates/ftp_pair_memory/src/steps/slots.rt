@@ -1,0 +1,67 @@
+// Both ends of a session in their slots, and a control connection in memory.
+ghost use Rattle.std.specs.Prelude.{◌≡◌, [], List, ℕ};
+ghost use Rattle.ftp_pair_memory.specs.streams.MemoryEnds.{IsFresh};
+
+use crate::streams::MemoryEnd;
+use ftp_endpoint::Host;
+use std::alloc::Global;
+
+/// A control connection in memory: the octets that were written to either end and are still to be read there, in order.
+#[derive(Drop)]
+pub struct Line {
+    pub(crate) to_server: Vec<u8>,
+    pub(crate) to_client: Vec<u8>,
+}
+
+impl Line {
+    /// One over which nothing was written.
+    pub fn new(alloc: Global) -> Line
+        ensures server { result.to_server.items ≡ [] }
+        ensures client { result.to_client.items ≡ [] }
+    {
+        Line {
+            to_server: Vec::new(alloc),
+            to_client: Vec::new(alloc),
+        }
+    }
+
+    /// Whether all that was written was read.
+    pub(crate) fn is_empty(&self) -> bool {
+        self.to_server.is_empty() && self.to_client.is_empty()
+    }
+}
+
+/// An end beside connections in memory.
+#[derive(Drop)]
+pub struct Slot<E> {
+    pub(crate) end: E,
+    pub(crate) memory_end: MemoryEnd,
+}
+
+impl<E> Slot<E> {
+    /// An end, as a session begins with this host at the other end: each read or write of a data connection moves at most so many octets, of none one.
+    pub fn new(end: E, alloc: Global, peer: Host, most: usize) -> Slot<E>
+        ensures end { result.end ≡ end }
+        ensures fresh { IsFresh peer result.memory_end }
+    {
+        Slot {
+            end,
+            memory_end: MemoryEnd::new(alloc, peer, most),
+        }
+    }
+
+    /// The end.
+    pub fn end(&self) -> &E
+        ensures { result.now ≡ self.now.end }
+    {
+        &self.end
+    }
+
+    /// The end, which leaves its slot.
+    pub fn leave(self) -> E
+        ensures { result ≡ self.end }
+    {
+        let Slot { end, memory_end: _ } = self;
+        end
+    }
+}

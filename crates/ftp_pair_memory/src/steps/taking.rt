@@ -1,0 +1,191 @@
+// Both ends take turns.
+ghost use Rattle.std.specs.Prelude.{◌≡◌, IsTrue};
+ghost use Rattle.ftp_pair_memory.specs.steps.Seating.{ends_of, held_at};
+ghost use Rattle.ftp_pair_memory.specs.steps.Taking.{Asks, Begins, FarTurns, NearTurns, Rounds, Settles};
+ghost use Rattle.ftp_server_driver.specs.alone.Side.{timed};
+
+use crate::steps::course::Course;
+use crate::steps::slots::{Line, Slot};
+use crate::steps::turns::{far_turn, near_turn};
+use crate::streams::{MemoryPorts, Wire, meet};
+use ftp_client_model::Near;
+use ftp_facts::Text;
+use ftp_operation::{Answer, Op};
+use ftp_ports::{TURNS, Watch};
+use ftp_server_driver::{Clocked, Watches};
+use ftp_server_model::Far;
+use ftp_tree::Tree;
+use std::alloc::Allocator;
+
+/// After so many rounds in which nothing was said over the control connection none is awaited any more: data connections move all that they can in one.
+const SILENT_ROUNDS: u64 = 8;
+
+/// The client's turn.
+fn client_turn<A, T, N, F, C, O>(
+    client: &mut Slot<N>,
+    server: &mut Slot<Clocked<F, C, O>>,
+    line: &mut Line,
+    most: usize,
+) -> Course<Answer<A>>
+where
+    A: Allocator + Copy,
+    T: Tree<A>,
+    N: Near<A>,
+    F: Far<A, T>,
+    C: Watch,
+    O: Watches<F>,
+    ensures { NearTurns result (ends_of (timed F.server C.told) N.client client.old server.old line.old) (ends_of (timed F.server C.told) N.client client.new server.new line.new) }
+{
+    if !meet(&mut client.memory_end, &mut server.memory_end) {
+        return Course::Off;
+    }
+    client
+        .memory_end
+        .tell(most > 0 && !line.to_client.is_empty());
+    let course = near_turn::<A, N, MemoryPorts, Wire>(
+        &mut client.end,
+        &mut client.memory_end.memory_ports,
+        &mut client.memory_end.stream,
+        &mut line.to_client,
+        &mut line.to_server,
+        most,
+    );
+    if client.memory_end.is_known() {
+        course
+    } else {
+        Course::Off
+    }
+}
+
+/// The server's turn.
+fn server_turn<A, T, N, F, C, O>(
+    client: &mut Slot<N>,
+    server: &mut Slot<Clocked<F, C, O>>,
+    line: &mut Line,
+    most: usize,
+) -> Course<()>
+where
+    A: Allocator + Copy,
+    T: Tree<A>,
+    N: Near<A>,
+    F: Far<A, T>,
+    C: Watch,
+    O: Watches<F>,
+    ensures { FarTurns result (ends_of (timed F.server C.told) N.client client.old server.old line.old) (ends_of (timed F.server C.told) N.client client.new server.new line.new) }
+{
+    if !meet(&mut server.memory_end, &mut client.memory_end) {
+        return Course::Off;
+    }
+    server
+        .memory_end
+        .tell(most > 0 && !line.to_server.is_empty());
+    let course = far_turn::<A, T, F, C, O, MemoryPorts, Wire>(
+        &mut server.end,
+        &mut server.memory_end.memory_ports,
+        &mut server.memory_end.stream,
+        &mut line.to_server,
+        &mut line.to_client,
+        most,
+    );
+    if server.memory_end.is_known() {
+        course
+    } else {
+        Course::Off
+    }
+}
+
+/// A turn of the server, and then one of the client.
+fn round<A, T, N, F, C, O>(
+    client: &mut Slot<N>,
+    server: &mut Slot<Clocked<F, C, O>>,
+    line: &mut Line,
+    most: usize,
+) -> Course<Answer<A>>
+where
+    A: Allocator + Copy,
+    T: Tree<A>,
+    N: Near<A>,
+    F: Far<A, T>,
+    C: Watch,
+    O: Watches<F>,
+    ensures { Rounds result (ends_of (timed F.server C.told) N.client client.old server.old line.old) (ends_of (timed F.server C.told) N.client client.new server.new line.new) }
+{
+    match server_turn::<A, T, N, F, C, O>(client, server, line, most) {
+        Course::On => client_turn::<A, T, N, F, C, O>(client, server, line, most),
+        Course::Over(()) | Course::Off => Course::Off,
+    }
+}
+
+/// Turns of both until the client's operation is answered; none where one broke off, or nothing was said for so many rounds.
+fn settle<A, T, N, F, C, O>(
+    client: &mut Slot<N>,
+    server: &mut Slot<Clocked<F, C, O>>,
+    line: &mut Line,
+    most: usize,
+) -> Option<Answer<A>>
+where
+    A: Allocator + Copy,
+    T: Tree<A>,
+    N: Near<A>,
+    F: Far<A, T>,
+    C: Watch,
+    O: Watches<F>,
+    ensures { Settles result (ends_of (timed F.server C.told) N.client client.old server.old line.old) (ends_of (timed F.server C.told) N.client client.new server.new line.new) }
+{
+    let mut silent: u64 = 0;
+    for _ in 0..TURNS {
+        match round::<A, T, N, F, C, O>(client, server, line, most) {
+            Course::On => {
+                if silent >= SILENT_ROUNDS {
+                    return None;
+                }
+                silent = if line.is_empty() {
+                    silent.saturating_add(1)
+                } else {
+                    0
+                };
+            }
+            Course::Over(answer) => return Some(answer),
+            Course::Off => return None,
+        }
+    }
+    None
+}
+
+/// Begins an operation, and says whether the client was free for it.
+fn begin<A, N>(client: &mut Slot<N>, op: Op<Text<A>>) -> bool
+where
+    A: Allocator + Copy,
+    N: Near<A>,
+    ensures begun { IsTrue result → Begins op (held_at N.client client.old) (held_at N.client client.new) }
+    ensures same { client.new.memory_end ≡ client.old.memory_end }
+{
+    let mut given = Some(op);
+    client.end.begin(&mut given);
+    given.is_none()
+}
+
+/// Begins an operation, and lets both ends take turns over their connections, the server first, until the client has its answer: in each turn an end
+/// reads at most `most` of the octets that came over the control connection. None where a drive broke off or the server's was over, where nothing moved any
+/// more, or where the client was busy.
+pub fn ask<A, T, N, F, C, O>(
+    op: Op<Text<A>>,
+    client: &mut Slot<N>,
+    server: &mut Slot<Clocked<F, C, O>>,
+    line: &mut Line,
+    most: usize,
+) -> Option<Answer<A>>
+where
+    A: Allocator + Copy,
+    T: Tree<A>,
+    N: Near<A>,
+    F: Far<A, T>,
+    C: Watch,
+    O: Watches<F>,
+    ensures { Asks op result (ends_of (timed F.server C.told) N.client client.old server.old line.old) (ends_of (timed F.server C.told) N.client client.new server.new line.new) }
+{
+    if !begin::<A, N>(client, op) {
+        return None;
+    }
+    settle::<A, T, N, F, C, O>(client, server, line, most)
+}

@@ -1,6 +1,0 @@
-use Rattle.std.proofs.Common.{arith}
-use Rattle.ftp_pair_parts.proofs.Keeping.{then}
-use Rattle.ftp_pair_parts.proofs.parts.Parts.finish.Goals as goal
-
-pub returns-clause-counted : goal.returns-clause-counted
-returns-clause-counted g c = then c.serve.ensures.counted c.collect.ensures.counted (omega arith)

@@ -1,6 +1,0 @@
-use Rattle.std.proofs.Common.{arith}
-use Rattle.ftp_pair_parts.proofs.Keeping.{fewer}
-use Rattle.ftp_pair_parts.proofs.parts.Parts.note.Goals as goal
-
-pub returns-clause-counted : goal.returns-clause-counted
-returns-clause-counted g c = fewer c.set_clock.ensures.counted (omega arith)

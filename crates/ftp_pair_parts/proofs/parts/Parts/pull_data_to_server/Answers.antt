@@ -1,7 +1,0 @@
-use Rattle.std.proofs.Common.{refl}
-use Rattle.ftp_pair_parts.proofs.Keeping.{near_kept}
-use Rattle.ftp_pair_parts.proofs.parts.Parts.pull_data_to_server.Goals as goal
-
-pub returns-clause-counted : goal.returns-clause-counted
-returns-clause-counted g c =
-    near_kept c.refusals-refusals.result c.refusals.result c.stays-self.ensures.fits c.refusals-refusals.ensures c.refusals.ensures c.data_out-given.ensures.counted refl c.stays-self.ensures.is

@@ -1,5 +1,0 @@
-use Rattle.ftp_pair_parts.proofs.parts.Parts.step_next.Given as goal
-
--- the operation that is handed on
-abbrev pub ghost-start : goal.ghost-start
-ghost-start g a = g.op

@@ -1,5 +1,0 @@
-use Rattle.ftp_pair_served.proofs.Served.{served_agree, served_are_direct}
-use Rattle.ftp_pair_served.proofs.laws.served_sessions_are_drives.Goals as goal
-
-pub returns : goal.returns
-returns c = record { agree = served_agree; direct = served_are_direct }

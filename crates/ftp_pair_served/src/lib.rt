@@ -1,4 +1,0 @@
-//! A session of several over one tree, as one of two drives: laws, and no code (RFC 959, section 2.3).
-#![tactic(auto)]
-
-pub mod laws;

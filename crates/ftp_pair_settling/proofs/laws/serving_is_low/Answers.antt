@@ -1,5 +1,0 @@
-use Rattle.ftp_pair_settling.proofs.Served.{serving_is_low}
-use Rattle.ftp_pair_settling.proofs.laws.serving_is_low.Goals as goal
-
-pub returns : goal.returns
-returns c = serving_is_low

@@ -1,5 +1,0 @@
-use Rattle.ftp_pair_settling.proofs.Settles.{settles_always}
-use Rattle.ftp_pair_settling.proofs.laws.settles_always.Goals as goal
-
-pub returns : goal.returns
-returns c = settles_always

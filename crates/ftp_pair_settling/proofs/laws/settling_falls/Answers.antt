@@ -1,5 +1,0 @@
-use Rattle.ftp_pair_settling.proofs.Steady.{settling_falls}
-use Rattle.ftp_pair_settling.proofs.laws.settling_falls.Goals as goal
-
-pub returns : goal.returns
-returns c = settling_falls

@@ -1,5 +1,0 @@
-use Rattle.ftp_pair_transfers.proofs.Concluding.{transfers_agree, transfers_parting_agree}
-use Rattle.ftp_pair_transfers.proofs.laws.transfers_agree.Goals as goal
-
-pub returns : goal.returns
-returns c = record { standing = transfers_agree; parting = transfers_parting_agree }

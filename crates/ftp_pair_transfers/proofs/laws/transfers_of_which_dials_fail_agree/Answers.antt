@@ -1,5 +1,0 @@
-use Rattle.ftp_pair_transfers.proofs.Concluding.{tries_agree, tries_parting_agree}
-use Rattle.ftp_pair_transfers.proofs.laws.transfers_of_which_dials_fail_agree.Goals as goal
-
-pub returns : goal.returns
-returns c = record { standing = tries_agree; parting = tries_parting_agree }

@@ -1,6 +1,0 @@
-pub mod Deeds
-pub mod Ahead
-pub mod Claims
-pub mod Over
-pub mod Quitting
-pub mod Refusals

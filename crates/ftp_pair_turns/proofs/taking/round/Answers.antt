@@ -1,5 +1,0 @@
-use Rattle.ftp_pair_turns.proofs.Gathering.{rounds_then}
-use Rattle.ftp_pair_turns.proofs.taking.round.Goals as goal
-
-pub returns-in-On : goal.returns-in-On
-returns-in-On g c = rounds_then c.client_turn.result _ _ _ c.client_turn.ensures (rw c.in-On.is at c.server_turn.ensures)

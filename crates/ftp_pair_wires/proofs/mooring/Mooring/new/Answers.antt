@@ -1,7 +1,0 @@
-use Rattle.ftp_pair_wires.proofs.Lifting.{fresh}
-use Rattle.ftp_pair_wires.proofs.mooring.Mooring.new.Goals as goal
-
-pub returns : goal.returns
-returns c =
-    fresh c.args.peer _ c.new-2.ensures c.new.ensures.stay c.new.ensures.came c.new.ensures.went c.new.ensures.closed c.new.ensures.calls
-    c.new.ensures.undialled c.new.ensures.listens c.new.ensures.host

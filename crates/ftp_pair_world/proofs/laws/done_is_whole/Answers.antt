@@ -1,5 +1,0 @@
-use Rattle.ftp_pair_world.proofs.DoneLemmas.{done_is_whole}
-use Rattle.ftp_pair_world.proofs.laws.done_is_whole.Goals as goal
-
-pub returns : goal.returns
-returns c = done_is_whole

@@ -1,5 +1,0 @@
-use Rattle.ftp_pair_world.proofs.HonestLemmas.{headline_follows}
-use Rattle.ftp_pair_world.proofs.laws.headline_follows_from_agreement.Goals as goal
-
-pub returns : goal.returns
-returns c = headline_follows

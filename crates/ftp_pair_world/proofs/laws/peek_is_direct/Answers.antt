@@ -1,5 +1,0 @@
-use Rattle.ftp_pair_world.proofs.AgreementLemmas.{peek_is_direct}
-use Rattle.ftp_pair_world.proofs.laws.peek_is_direct.Goals as goal
-
-pub returns : goal.returns
-returns c = peek_is_direct

@@ -1,5 +1,0 @@
-use Rattle.ftp_pair_world.proofs.TriesLemmas.{tries_are_few}
-use Rattle.ftp_pair_world.proofs.laws.tries_are_few.Goals as goal
-
-pub returns : goal.returns
-returns c = tries_are_few

@@ -1,5 +1,0 @@
-use Rattle.ftp_pair_world.proofs.WorldRows.{broken_download}
-use Rattle.ftp_pair_world.proofs.rows.broken_download.Goals as goal
-
-pub returns : goal.returns
-returns c = broken_download

@@ -1,5 +1,0 @@
-use Rattle.ftp_pair_world.proofs.WorldRows.{cut_upload}
-use Rattle.ftp_pair_world.proofs.rows.cut_upload.Goals as goal
-
-pub returns : goal.returns
-returns c = cut_upload

@@ -1,5 +1,0 @@
-use Rattle.ftp_pair_world.proofs.WorldRows.{whole_download}
-use Rattle.ftp_pair_world.proofs.rows.whole_download.Goals as goal
-
-pub returns : goal.returns
-returns c = whole_download

@@ -1,0 +1,13 @@
+pub mod Fronts
+pub mod Sending
+pub mod Channels
+pub mod Leading
+pub mod Totals
+pub mod Going
+pub mod Courses
+pub mod Causing
+pub mod Idling
+pub mod Meeting
+pub mod Outcomes
+pub mod Getting
+pub mod Closing

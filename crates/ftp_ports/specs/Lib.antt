@@ -1,0 +1,15 @@
+pub mod Unheard
+pub mod Beginning
+pub mod Whole
+pub mod Asking
+pub mod Cause
+pub mod Carrying
+pub mod Halting
+pub mod Channel
+pub mod Side
+pub mod Actions
+pub mod Driving
+pub mod Courses
+pub mod Machine
+pub mod Outcome
+pub mod Closing

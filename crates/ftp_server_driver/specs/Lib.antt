@@ -1,0 +1,2 @@
+pub mod alone
+pub mod shared

@@ -1,5 +1,0 @@
-use Rattle.ftp_server_laws.proofs.CopyLemmas.{calls_stay_apart, copies_look_alike, starts_are_copies}
-use Rattle.ftp_server_laws.proofs.roots.calls_stay_apart.Goals as goal
-
-pub returns : goal.returns
-returns c = record { start = starts_are_copies; calls = calls_stay_apart; alike = copies_look_alike }

@@ -1,6 +1,0 @@
-//! That a server holds little, whatever is called and whatever fails, and that an account's root keeps the rest of its map apart: laws of its
-//! definitions, and no code (own choice of the limits and of roots).
-#![tactic(auto)]
-
-pub mod laws;
-pub mod roots;

@@ -1,5 +1,0 @@
-use Rattle.ftp_server_lent.proofs.Whole.{one_drive}
-use Rattle.ftp_server_lent.proofs.laws.turns_are_one_drive.Goals as goal
-
-pub returns : goal.returns
-returns c = one_drive

@@ -1,4 +1,0 @@
--- Sessions over one tree. The files are in the order in which they are to be read.
-pub mod Lent
-pub mod Seats
-pub mod Playing

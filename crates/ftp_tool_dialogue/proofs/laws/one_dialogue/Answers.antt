@@ -1,5 +1,0 @@
-use Rattle.ftp_tool_dialogue.proofs.OnceLemmas.{converses_once}
-use Rattle.ftp_tool_dialogue.proofs.laws.one_dialogue.Goals as goal
-
-pub returns : goal.returns
-returns c = converses_once

@@ -1,9 +1,0 @@
-use Rattle.std.proofs.Common.{length}
-use Rattle.std.specs.Prelude.{⊤}
-use Rattle.ftp_tool_listing.proofs.reading.items_of_facts.Given as goal
-
-abbrev pub invariant-loop-rest : goal.invariant-loop-rest
-invariant-loop-rest l = ⊤
-
-abbrev pub decreases-loop-rest : goal.decreases-loop-rest
-decreases-loop-rest l = length l.rest

@@ -1,5 +1,0 @@
-use Rattle.std.proofs.Common.{refl}
-use Rattle.ftp_tool_listing.proofs.rows.json.Goals as goal
-
-pub returns : goal.returns
-returns c = (refl, refl, refl, refl, refl, refl, refl, refl, refl)

@@ -1,6 +1,0 @@
-use Rattle.std.proofs.Common.{arith}
-use Rattle.ftp_tool_listing.proofs.UnixLemmas.{few}
-use Rattle.ftp_tool_listing.proofs.unix_line.day_of.Goals as goal
-
-pub returns-clause-few : goal.returns-clause-few
-returns-clause-few c = few c.args.text.now c.number_in.result (omega arith) c.number_in.ensures

@@ -1,8 +1,0 @@
-use Rattle.std.proofs.Common.{rules, not, sym}
-use Rattle.std.proofs.lemmas.List.Sums.{prefix_len_is}
-use Rattle.ftp_tool_listing.specs.UnixLine.{is_blank}
-use Rattle.ftp_tool_listing.proofs.unix_line.first_blank.Goals as goal
-
-pub returns-clause-place : goal.returns-clause-place
-returns-clause-place c =
-    sym (prefix_len_is (λ octet. not (is_blank octet)) c.args.text.now c.unwrap_or.result 0 (search rules) (λ k lt. search rules) (λ lt. search rules))

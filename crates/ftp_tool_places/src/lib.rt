@@ -1,8 +1,0 @@
-//! What stands below a folder of this machine, reached through directories that are open: no link below the folder is followed, also none that comes
-//! meanwhile (own choice).
-#![tactic(auto)]
-
-mod folder;
-mod places;
-
-pub use places::{OpenBelow, OpenDir, Places, Sighting, Sightings};

@@ -1,7 +1,0 @@
-use Rattle.std.proofs.Common.{take}
-use Rattle.ftp_tool_plan.specs.Index.{Indexes}
-use Rattle.ftp_tool_plan.proofs.index.kinds_of.Given as goal
-
--- the map has what stands under the names of the entries so far
-abbrev pub invariant-loop-item : goal.invariant-loop-item
-invariant-loop-item l = Indexes l.kinds (take l.item-index l.items)

@@ -1,5 +1,0 @@
--- What a mirror does of a directory.
-pub mod Deeds
-pub mod Plan
-pub mod PlanRows
-pub mod Index

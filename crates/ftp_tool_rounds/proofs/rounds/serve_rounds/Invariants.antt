@@ -1,7 +1,0 @@
-use Rattle.std.proofs.Common.{min}
-use Rattle.ftp_tool_rounds.specs.Rounds.{Goes, start}
-use Rattle.ftp_tool_rounds.proofs.rounds.serve_rounds.Given as goal
-
--- what was told is of rounds, the last of which is done, and leads to this order
-abbrev pub invariant-loop : goal.invariant-loop
-invariant-loop g l = Goes (g.M.Seat.Seat.history l.fn.tree) (g.M.Seat.Seat.history l.tree) (start (min l.fn.house.at_once 64)) l.order

@@ -1,7 +1,0 @@
-use Rattle.std.proofs.Common.{eqb, not}
-use Rattle.ftp_tool_rounds.proofs.RoundLemmas.{Left}
-use Rattle.ftp_tool_rounds.proofs.waiting.unset.Given as goal
-
--- below a place those alone are left that are not gone
-abbrev pub invariant-loop-other : goal.invariant-loop-other
-invariant-loop-other l = Left (λ k. not (eqb k l.place)) l.fn.ready l.ready l.other

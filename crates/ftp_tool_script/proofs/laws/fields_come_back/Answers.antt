@@ -1,5 +1,0 @@
-use Rattle.ftp_tool_script.proofs.WrittenLemmas.{field_back}
-use Rattle.ftp_tool_script.proofs.laws.fields_come_back.Goals as goal
-
-pub returns : goal.returns
-returns c = field_back

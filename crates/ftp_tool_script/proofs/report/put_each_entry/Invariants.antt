@@ -1,6 +1,0 @@
-use Rattle.std.proofs.Common.{◌≡◌, ◌++◌, take, flat_map}
-use Rattle.ftp_tool_script.specs.Report.{listed_line}
-use Rattle.ftp_tool_script.proofs.report.put_each_entry.Given as goal
-
-abbrev pub invariant-loop-entry : goal.invariant-loop-entry
-invariant-loop-entry g l = l.out.items ≡ l.fn.out.items ++ flat_map listed_line (take l.entry-index l.entries)

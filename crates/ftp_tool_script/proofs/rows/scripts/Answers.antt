@@ -1,7 +1,0 @@
-use Rattle.std.proofs.Common.{refl}
-use Rattle.ftp_tool_script.specs.Line.{login_value, order_value}
-use Rattle.ftp_tool_script.proofs.rows.scripts.Goals as goal
-
-pub returns : goal.returns
-unfolding login_value order_value
-returns c = (refl, refl, refl, refl, refl, refl, refl)

@@ -1,7 +1,0 @@
-use Rattle.std.proofs.Common.{◌≡◌, ◌++◌, drop}
-use Rattle.ftp_tool_shown.specs.Shown.{shown, shown_from}
-use Rattle.ftp_tool_shown.proofs.shown.put_shown.Given as goal
-
--- what was put and what the rest shows are what all octets show
-abbrev pub invariant-loop-place : goal.invariant-loop-place
-invariant-loop-place l = l.out.items ++ shown_from l.kept (drop l.place l.octets) ≡ l.fn.out.items ++ shown l.octets

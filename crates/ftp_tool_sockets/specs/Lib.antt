@@ -1,3 +1,0 @@
-pub mod Host
-pub mod Patience
-pub mod Waiting

@@ -1,9 +1,0 @@
-use Rattle.std.proofs.Common.{length, sym, ap}
-use Rattle.ftp_tree_disk.proofs.StrayLemmas.{took_none}
-use Rattle.ftp_tree_disk.proofs.draft.DiskDraft.new.Goals as goal
-
-pub invariant_of-result : goal.invariant_of-result
-invariant_of-result g c = record { counted = sym (ap length (took_none c.new.result.events c.new.ensures)) }
-
-pub returns-clause-none : goal.returns-clause-none
-returns-clause-none g c = took_none c.new.result.events c.new.ensures

@@ -1,5 +1,0 @@
-use Rattle.ftp_tree_host.proofs.LeftLemmas.{part-left}
-use Rattle.ftp_tree_host.proofs.left.part_in.Goals as goal
-
-pub returns-clause-left : goal.returns-clause-left
-returns-clause-left c = part-left c.args.number

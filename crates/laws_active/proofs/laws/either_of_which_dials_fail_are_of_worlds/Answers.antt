@@ -1,0 +1,5 @@
+use Rattle.laws_active.proofs.Reaching.{tries_are_of_worlds}
+use Rattle.laws_active.proofs.laws.either_of_which_dials_fail_are_of_worlds.Goals as goal
+
+pub returns : goal.returns
+returns c = tries_are_of_worlds

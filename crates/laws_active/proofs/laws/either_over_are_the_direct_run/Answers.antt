@@ -1,0 +1,5 @@
+use Rattle.laws_active.proofs.Ending.{either_over_are_the_direct_run}
+use Rattle.laws_active.proofs.laws.either_over_are_the_direct_run.Goals as goal
+
+pub returns : goal.returns
+returns c = either_over_are_the_direct_run

@@ -1,0 +1,163 @@
+-- One server's drive and drives of one client that put, fetch and peek as those of `Actions` do, but for dials of either that fail: the marks that a world makes
+-- of the operations begun, and what is claimed of both (RFC 959, sections 3.2 and 5.4).
+use Rattle.std.specs.Prelude.{◌≡◌, ⊤, ℕ, Bool, true, false, List, [], ◌∷◌, ◌++◌, length, None, Some, option_to_list}
+use Rattle.ftp_ports.specs.Asking.{NotConnected}
+use Rattle.ftp_ports.specs.Actions.{Action, Led as HaveLed, Other, Stand}
+use Rattle.ftp_ports.specs.Machine.{Held, Refused}
+use Rattle.ftp_client_driver.specs.Side.{client_side}
+use Rattle.ftp_client_model.specs.Calls.{control_end, data_closed, hears, report_of, reports}
+use Rattle.ftp_client_model.specs.Failing.{Client}
+use Rattle.ftp_client_model.specs.View.{View as Near}
+use Rattle.ftp_operation.specs.Answer.{Said}
+use Rattle.laws_drivers.specs.control.Alone.{ClientIsCalm, ServerIsCalm, reports_in}
+use Rattle.laws_drivers.specs.control.Between.{Between, Client as ByClient, Happened, Server as ByServer, Turn, client_actions, server_actions}
+use Rattle.laws_drivers.specs.control.Claims.{Begins}
+use Rattle.laws_drivers.specs.events.Actions.{Along}
+use Rattle.laws_transfers.specs.Ahead.{Ahead, Fits, far_ahead}
+use Rattle.laws_transfers.specs.Claims.{IsNear}
+use Rattle.laws_transfers.specs.Actions.{AreMoments, AreResets, AreToldAt, begun_at}
+use Rattle.laws_transfers.specs.Refusals as passive
+use Rattle.laws_world.specs.Agreement.{Agrees, Leads}
+use Rattle.laws_world.specs.Claims.{AreTimed, Beginning, IsFair, state_of, world_of}
+use Rattle.laws_world.specs.Events.{Event}
+use Rattle.laws_world.specs.World.{Mark, Refused as WasRefused, Stands, World, marked_last}
+use Rattle.ftp_server_driver.specs.alone.Side.{Timed, server_side}
+use Rattle.ftp_server_model.specs.Calls.{clock_step}
+use Rattle.ftp_server_model.specs.Machine.{IsReading, Reading}
+use Rattle.laws_active.specs.Actions as whole
+use Rattle.laws_active.specs.Actions.{ArePorts}
+use Rattle.laws_active.specs.Lead.{Lead, led_by}
+
+-- ---- the actions
+
+-- a dial of the server fails, or it does what it does where none fails
+abbrev pub IsServing : Action server_side → Held Timed → Type 0
+IsServing (Other (Refused (NotConnected endpoint ∷ []))) at = ⊤
+IsServing action at = whole.IsServing action at
+
+-- so it does, and it was not refused memory, and no device of it failed or strayed
+abbrev pub ServerTries : Action server_side → (old new : Held Timed) → Type 0
+ServerTries action old new = IsServing action old × ServerIsCalm old new
+
+abbrev pub ServesAlong : (actions : List (Action server_side)) (start now : Stand server_side) → HaveLed actions start now → Type 0
+ServesAlong actions start now led = Along ServerTries actions start now led
+
+-- a dial of the client fails, or it does what it does where none fails
+abbrev pub IsAsking : Action client_side → Held Client → Type 0
+IsAsking (Other (Refused (NotConnected endpoint ∷ []))) at = ⊤
+IsAsking action at = whole.IsAsking action at
+
+-- so it does, and it was not refused memory
+abbrev pub ClientTries : Action client_side → (old new : Held Client) → Type 0
+ClientTries action old new = IsAsking action old × ClientIsCalm old new
+
+abbrev pub AsksAlong : (actions : List (Action client_side)) (start now : Stand client_side) → HaveLed actions start now → Type 0
+AsksAlong actions start now led = Along ClientTries actions start now led
+
+-- ---- the marks
+
+-- an operation that is begun has none; one for which a dial of either fails is marked, as that which was begun last
+abbrev pub marked_by : Turn → List (List Mark) → List (List Mark)
+marked_by (ByServer (Other (Refused asked))) marks = marked_last WasRefused marks
+marked_by (ByServer action) marks = marks
+marked_by (ByClient action) marks = passive.marked_by action marks
+
+-- those of each operation that was begun in an order of actions, the last action first
+abbrev pub marks_in : List Turn → List (List Mark)
+marks_in [] = []
+marks_in (turn ∷ before) = marked_by turn (marks_in before)
+
+-- ---- how a world's client is ahead
+
+-- a dial of the server failed
+abbrev pub has_failed : List Turn → Bool
+has_failed [] = false
+has_failed (ByServer (Other (Refused asked)) ∷ before) = true
+has_failed (turn ∷ before) = has_failed before
+
+-- as where none fails; or it heard these octets there, the first of those that come next: what is left of a 150, as a dial failed after that was said
+pub data Gain : Type 0 where
+  Led : (lead : Lead) → Gain
+  Heard : (octets : List ℕ) → Gain
+
+abbrev pub gained_by : Gain → Near → Near
+gained_by (Led lead) v = led_by lead v
+gained_by (Heard octets) v = hears (data_closed v) octets
+
+-- it heard some
+abbrev pub is_heard : Gain → Bool
+is_heard (Led lead) = false
+is_heard (Heard octets) = true
+
+-- ---- both
+
+-- one server's drive and drives of one client did these actions in this order, each when it could be done, and at these moments, and the ports of both are those
+-- of a world; as they began no octet of a data connection was on its way or in hand
+pub record DidTry (b : Beginning) (moments : ℕ → ℕ) (turns : List Turn) (between : Between) (server : Stand server_side)
+    (client : Stand client_side) : Type 0 where
+  pub server_start : Stand server_side
+  pub client_start : Stand client_side
+  pub begins : Begins b server_start client_start
+  pub untold : server_start.owner.channel.untold ≡ []
+  pub unwritten : client_start.owner.channel.unwritten ≡ []
+  pub server_unwritten : server_start.owner.channel.unwritten ≡ []
+  pub client_untold : client_start.owner.channel.untold ≡ []
+  pub happened : Happened turns between
+  pub resets : AreResets turns between happened
+  pub server_led : HaveLed (server_actions turns) server_start server
+  pub client_led : HaveLed (client_actions turns) client_start client
+  pub serves : ServesAlong (server_actions turns) server_start server server_led
+  pub asks : AsksAlong (client_actions turns) client_start client client_led
+  pub ports : ArePorts turns
+  pub told : AreToldAt moments turns server_start server server_led
+
+-- A world holds what both ends hold: a close, a report, a port and an opening that are due are done there, at either end, and its client heard what a dial that
+-- failed comes after; the moment that the server was told last is any. The control connection stands, and the world has these marks.
+pub record HoldsMarked (marks : List (List Mark)) (server : Stand server_side) (client : Stand client_side) (told : List Said) (w : World) : Type 0 where
+  pub moment : ℕ
+  pub ahead : Ahead
+  pub gain : Gain
+  pub fits : Fits ahead server.owner.end.server.view.session.connection
+  pub near : IsNear w.near (data_closed (reports (gained_by gain client.owner.end.view)))
+  pub far : w.far ≡ clock_step moment (far_ahead ahead server.owner.end.server.view)
+  pub reported : w.reports ≡ told ++ option_to_list (report_of client.owner.end.view)
+  pub control : w.control ≡ Stands
+  pub marked : w.marks ≡ marks
+  pub cutoff : w.cutoff ≡ None
+
+-- events of a world lead from the beginning to one that holds what both ends hold, and whose marks are those of the dials that failed; they began the same
+-- operations at these moments; its client heard octets that the drive's did not only where a dial of the server failed
+pub record TryIsOfWorld (read : Reading) (b : Beginning) (moments : ℕ → ℕ) (turns : List Turn) (server : Stand server_side)
+    (client : Stand client_side) : Type 0 where
+  pub events : List Event
+  pub timed : AreTimed events
+  pub world : World
+  pub leads : Leads read (world_of b) events (begun_at moments (client_actions turns)) world
+  pub both : HoldsMarked (marks_in turns) server client (reports_in (client_actions turns)) world
+  pub heard : is_heard both.gain ≡ true → has_failed turns ≡ true
+
+-- so it is of any such actions
+abbrev pub TriesAreOfWorlds : Type 0
+TriesAreOfWorlds =
+    (read : Reading) → IsReading read → (b : Beginning) → IsFair b → (moments : ℕ → ℕ) → AreMoments moments
+    → (turns : List Turn) (between : Between) (server : Stand server_side) (client : Stand client_side)
+    → DidTry b moments turns between server client → TryIsOfWorld read b moments turns server client
+
+-- so reports and map agree with what was begun, a report that was not taken yet among them: an operation is not opened only where a dial of either failed,
+-- and every other is whole
+abbrev pub TriesAgree : Type 0
+TriesAgree =
+    (b : Beginning) → IsFair b → (moments : ℕ → ℕ) → AreMoments moments
+    → (turns : List Turn) (between : Between) (server : Stand server_side) (client : Stand client_side)
+    → DidTry b moments turns between server client
+    → Agrees (state_of b) (begun_at moments (client_actions turns)) (marks_in turns) None
+    (reports_in (client_actions turns) ++ option_to_list (report_of client.owner.end.view)) server.owner.end.server.view.session.table
+
+-- so they do where both ends are told then, whatever was on its way, that the control connection ended: an operation that has no report is lost
+abbrev pub TriesPartingAgree : Type 0
+TriesPartingAgree =
+    (b : Beginning) → IsFair b → (moments : ℕ → ℕ) → AreMoments moments
+    → (turns : List Turn) (between : Between) (server : Stand server_side) (client : Stand client_side)
+    → DidTry b moments turns between server client
+    → Agrees (state_of b) (begun_at moments (client_actions turns)) (marks_in turns) (Some (length (marks_in turns)))
+    (reports_in (client_actions turns) ++ option_to_list (report_of (control_end client.owner.end.view))) server.owner.end.server.view.session.table

@@ -1,0 +1,2 @@
+pub mod downloads
+pub mod uploads

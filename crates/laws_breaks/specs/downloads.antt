@@ -1,0 +1,4 @@
+pub mod Late
+pub mod Actions
+pub mod Claims
+pub mod Over

@@ -1,0 +1,6 @@
+pub mod Late
+pub mod Coming
+pub mod ByActions
+pub mod Actions
+pub mod Claims
+pub mod Over

@@ -1,0 +1,102 @@
+-- What is claimed of two drives of which data connections break, those of uploads too.
+use Rattle.std.specs.Prelude.{◌≡◌, ◌⊎◌, ℕ, List, [], ◌++◌, length, None, Some, option_to_list}
+use Rattle.ftp_ports.specs.Actions.{Led, Stand}
+use Rattle.ftp_client_driver.specs.Side.{client_side}
+use Rattle.ftp_client_model.specs.Calls.{control_end, data_closed, data_fault, hears, report_of, reports}
+use Rattle.ftp_client_model.specs.View.{View}
+use Rattle.laws_breaks.specs.downloads.Claims.{AreSame, IsClientFirst, IsServerFirst, ReportAlike}
+use Rattle.laws_breaks.specs.uploads.Actions.{AreCutAt, AreMarks, GivesAlong, LosesAlong}
+use Rattle.laws_drivers.specs.control.Alone.{reports_in}
+use Rattle.laws_drivers.specs.control.Between.{Between, Happened, Turn, client_actions, server_actions}
+use Rattle.laws_drivers.specs.control.Claims.{Begins}
+use Rattle.laws_drivers.specs.events.Actions.{ArePorts}
+use Rattle.laws_transfers.specs.Actions.{AreMoments, AreToldAt, begun_at}
+use Rattle.laws_transfers.specs.Refusals.{HoldsMarked}
+use Rattle.laws_world.specs.Agreement.{Agrees, Leads}
+use Rattle.laws_world.specs.Claims.{AreTimed, Beginning, IsFair, state_of, world_of}
+use Rattle.laws_world.specs.Events.{Event}
+use Rattle.laws_world.specs.World.{Mark, World}
+use Rattle.ftp_server_driver.specs.alone.Side.{server_side}
+use Rattle.ftp_server_model.specs.Machine.{IsReading, Reading}
+
+-- one server's drive and drives of one client did these actions in this order, each when it could be done, and at these moments; as they began no octet of a
+-- data connection was on its way or in hand
+pub record DidCut (b : Beginning) (moments : ℕ → ℕ) (turns : List Turn) (between : Between) (server : Stand server_side)
+    (client : Stand client_side) : Type 0 where
+  pub server_start : Stand server_side
+  pub client_start : Stand client_side
+  pub begins : Begins b server_start client_start
+  pub untold : server_start.owner.channel.untold ≡ []
+  pub unwritten : client_start.owner.channel.unwritten ≡ []
+  pub server_unwritten : server_start.owner.channel.unwritten ≡ []
+  pub client_untold : client_start.owner.channel.untold ≡ []
+  pub happened : Happened turns between
+  pub server_led : Led (server_actions turns) server_start server
+  pub client_led : Led (client_actions turns) client_start client
+  pub takes : LosesAlong (server_actions turns) server_start server server_led
+  pub gives : GivesAlong (client_actions turns) client_start client client_led
+  pub ports : ArePorts (server_actions turns)
+  pub told : AreToldAt moments turns server_start server server_led
+  pub cut_at : AreCutAt moments turns server_start server server_led
+
+-- the server was told of the break of an upload, and its client was not: both are told in the world, whose client heard none of the octets that this one heard
+-- since
+pub record IsTakerFirst (server were : Stand server_side) (client was : Stand client_side) : Type 0 where
+  pub same : were.owner.end ≡ server.owner.end
+  pub before : View
+  pub told : was.owner.end.view ≡ data_fault before
+  pub heard : List ℕ
+  pub near : client.owner.end.view ≡ hears before heard
+
+-- one of these cases
+abbrev pub IsBeside : (server were : Stand server_side) (client was : Stand client_side) → Type 0
+IsBeside server were client was =
+    AreSame server were client was
+    ⊎ (IsClientFirst server were client was ⊎ (IsServerFirst server were client was ⊎ IsTakerFirst server were client was))
+
+-- Events of a world lead from the beginning to one that holds what the server holds and what the client holds; or what both held before one of them was told of
+-- a break that a world tells later, once the server has let the data connection go, or the other was told, too; or in which the client was told of one before
+-- this client was. It has marks of these actions; they began the same operations at these moments.
+pub record CutIsOfWorld (read : Reading) (b : Beginning) (moments : ℕ → ℕ) (turns : List Turn) (between : Between) (server : Stand server_side)
+    (client : Stand client_side) (did : DidCut b moments turns between server client) : Type 0 where
+  pub events : List Event
+  pub timed : AreTimed events
+  pub world : World
+  pub leads : Leads read (world_of b) events (begun_at moments (client_actions turns)) world
+  pub marks : List (List Mark)
+  pub are_marks : AreMarks turns did.server_start server did.server_led did.client_start client did.client_led marks
+  pub were : Stand server_side
+  pub was : Stand client_side
+  pub is : IsBeside server were client was
+  pub alike : ReportAlike client.owner.end.view was.owner.end.view
+  pub table : server.owner.end.server.view.session.table ≡ were.owner.end.server.view.session.table
+  pub both : HoldsMarked marks were was (reports_in (client_actions turns)) world
+  pub near : world.near ≡ data_closed (reports was.owner.end.view)
+
+-- so it is of any such actions
+abbrev pub CutsAreOfWorlds : Type 0
+CutsAreOfWorlds =
+    (read : Reading) → IsReading read → (b : Beginning) → IsFair b → (moments : ℕ → ℕ) → AreMoments moments
+    → (turns : List Turn) (between : Between) (server : Stand server_side) (client : Stand client_side)
+    → (did : DidCut b moments turns between server client) → CutIsOfWorld read b moments turns between server client did
+
+-- so reports and map agree with what was begun, a report that was not taken yet among them: an operation is cut only where its client was told of a break, or,
+-- of an upload, its server
+abbrev pub CutsAgree : Type 0
+CutsAgree =
+    (b : Beginning) → IsFair b → (moments : ℕ → ℕ) → AreMoments moments
+    → (turns : List Turn) (between : Between) (server : Stand server_side) (client : Stand client_side)
+    → (did : DidCut b moments turns between server client)
+    → (marks : List (List Mark)) × AreMarks turns did.server_start server did.server_led did.client_start client did.client_led marks
+    × Agrees (state_of b) (begun_at moments (client_actions turns)) marks None
+    (reports_in (client_actions turns) ++ option_to_list (report_of client.owner.end.view)) server.owner.end.server.view.session.table
+
+-- so they do where both ends are told then, whatever was on its way, that the control connection ended: an operation that has no report is lost
+abbrev pub CutsPartingAgree : Type 0
+CutsPartingAgree =
+    (b : Beginning) → IsFair b → (moments : ℕ → ℕ) → AreMoments moments
+    → (turns : List Turn) (between : Between) (server : Stand server_side) (client : Stand client_side)
+    → (did : DidCut b moments turns between server client)
+    → (marks : List (List Mark)) × AreMarks turns did.server_start server did.server_led did.client_start client did.client_led marks
+    × Agrees (state_of b) (begun_at moments (client_actions turns)) marks (Some (length marks))
+    (reports_in (client_actions turns) ++ option_to_list (report_of (control_end client.owner.end.view))) server.owner.end.server.view.session.table

@@ -1,0 +1,5 @@
+//! Two drivers where a data connection breaks.
+#![tactic(auto)]
+
+pub mod downloads;
+pub mod uploads;

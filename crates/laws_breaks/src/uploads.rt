@@ -1,0 +1,3 @@
+// Uploads whose data connection breaks between two drives: laws, and no code (RFC 959, section 3.3).
+
+pub mod laws;

@@ -1,0 +1,3 @@
+pub mod control
+pub mod world
+pub mod events

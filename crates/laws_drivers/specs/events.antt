@@ -1,0 +1,2 @@
+pub mod Actions
+pub mod Bare

@@ -1,0 +1,237 @@
+-- How such a session ends: the client's drive reports and shuts its port, and the server's drive is over since the client left; and the moment in its midst.
+use Rattle.std.proofs.Common.{◌≡◌, inr, ℕ, false, true, List, [], ◌∷◌, ◌++◌, None, Some, refl, sym, ap, subst}
+use Rattle.ftp_ports.specs.Asking.{Asked, Shut}
+use Rattle.ftp_ports.specs.Channel.{Channel}
+use Rattle.ftp_ports.specs.Actions.{Action, Done, Ended, EndsHere, Led, Other, Stand}
+use Rattle.ftp_ports.specs.Machine.{Closed, Left, move_of, seen, waits}
+use Rattle.ftp_ports.proofs.Courses.{carries}
+use Rattle.ftp_ports.proofs.Idling.{carrier}
+use Rattle.ftp_ports.proofs.Totals.{sums}
+use Rattle.ftp_client_driver.specs.Driving.{Drove as ClientDrove}
+use Rattle.ftp_client_driver.specs.Side.{Begun, Report, client_machine, client_side, is_under_way}
+use Rattle.ftp_client_model.specs.Calls as near
+use Rattle.ftp_client_model.specs.Plan.{count_of}
+use Rattle.ftp_client_model.specs.View.{View as Near}
+use Rattle.ftp_ends.specs.declared.link.Wants.TheVariants as Want
+use Rattle.ftp_operation.specs.Answer.{Said}
+use Rattle.ftp_operation.specs.declared.op.Op.{Op}
+use Rattle.ftp_server_driver.specs.alone.Driving.{Drove as ServerDrove}
+use Rattle.ftp_server_driver.specs.alone.Side.{server_machine, server_side}
+use Rattle.ftp_server_model.specs.Calls as far
+use Rattle.ftp_server_model.specs.Machine.{later}
+use Rattle.ftp_server_model.specs.View.{View as Far}
+use Rattle.laws_breaks.specs.uploads.Claims.{DidCut}
+use Rattle.laws_breaks.specs.uploads.Actions.{ClientGives}
+use Rattle.laws_breaks.specs.uploads.Over.{AreAnswered, AreOver}
+use Rattle.laws_drivers.proofs.events.Along.{Went}
+use Rattle.laws_drivers.specs.control.Between.{Between, CanTurn, Client, Turn, client_actions, server_actions}
+use Rattle.laws_drivers.specs.control.Claims.{Begins}
+use Rattle.laws_drivers.specs.control.Over.{Answers}
+use Rattle.laws_drivers.proofs.control.Playing.{Attends}
+use Rattle.laws_transfers.specs.Actions.{IsTransferred}
+use Rattle.laws_world.specs.Claims.{Beginning}
+use Rattle.laws_examples.proofs.transfers.Moves.{near_closes, says_answer}
+use Rattle.laws_examples.proofs.transfers.Playing.{PlayedBy, far_in, near_in, none_yet}
+use Rattle.laws_examples.proofs.uploads.Cutting.{cut_along, cutting, loses_along, went_on}
+
+-- what the client did from its beginning on
+went_so : {before : List Turn} {at : Far} (moments : ℕ → ℕ) (op : Op (List ℕ)) (first : Far) (client_first begun : Near) (between : Between)
+    (server : Stand server_side) (client : Stand client_side) → Done (Other (Begun op)) (near_in none_yet client_first []) (near_in none_yet begun [])
+    → IsTransferred op → count_of op ≡ None → client_first.closing ≡ false
+    → (p : PlayedBy (cutting before at (moments 0)) moments (far_in none_yet first []) (near_in none_yet begun []) op 1 between server client)
+    → Went ClientGives (client_actions p.turns) (near_in none_yet client_first []) client
+went_so moments op first client_first begun between server client does is all closing p =
+    subst (λ actions. Went ClientGives actions (near_in none_yet client_first []) client) (sym p.client_is)
+    (went_on op p.midst (near_in none_yet client_first []) (near_in none_yet begun []) client (p.near_led, p.takes) does (((is, closing), all), refl))
+
+-- ---- a moment in its midst
+
+-- both did these actions
+pub did_so : {before : List Turn} {at : Far} (b : Beginning) (moments : ℕ → ℕ) (op : Op (List ℕ)) (first : Far) (client_first begun : Near)
+    (between : Between) (server : Stand server_side) (client : Stand client_side) → Begins b (far_in none_yet first []) (near_in none_yet client_first [])
+    → Done (Other (Begun op)) (near_in none_yet client_first []) (near_in none_yet begun []) → IsTransferred op → count_of op ≡ None
+    → client_first.closing ≡ false → ((told : ℕ) → (later (far.break_step (later (far.clock_step told at)))).context.moment ≡ told)
+    → (p : PlayedBy (cutting before at (moments 0)) moments (far_in none_yet first []) (near_in none_yet begun []) op 1 between server client)
+    → DidCut b moments p.turns between server client
+did_so {before} {at} b moments op first client_first begun between server client begins does is all closing steps p =
+    let went : Went ClientGives (client_actions p.turns) (near_in none_yet client_first []) client =
+    went_so moments op first client_first begun between server client does is all closing p in
+    record {
+      server_start = far_in none_yet first [];
+      client_start = near_in none_yet client_first [];
+      begins = begins;
+      untold = refl;
+      unwritten = refl;
+      server_unwritten = refl;
+      client_untold = refl;
+      happened = p.happened;
+      server_led = p.far_led;
+      client_led = went.0;
+      takes = loses_along at (moments 0) (server_actions p.turns) (far_in none_yet first []) server p.far_led p.gives;
+      gives = went.1;
+      ports = p.ports;
+      told = p.told;
+      cut_at = cut_along at (moments 0) steps moments refl p.turns p.resets.1 (far_in none_yet first []) server p.far_led p.gives;
+    }
+
+-- ---- both are over
+
+module _ {before : List Turn} {at : Far} (b : Beginning) (first : Far) (op : Op (List ℕ)) (said : Said) (client_first begun : Near) (v : Far) (n : Near)
+    (moments : ℕ → ℕ) (channel : Channel) (asked : Asked) (there last : Between)
+    (begins : Begins b (far_in none_yet first []) (near_in none_yet client_first []))
+    (does : Done (Other (Begun op)) (near_in none_yet client_first []) (near_in none_yet begun [])) (is : IsTransferred op) (all : count_of op ≡ None)
+    (closing : client_first.closing ≡ false) (steps : (told : ℕ) → (later (far.break_step (later (far.clock_step told at)))).context.moment ≡ told)
+    (some : near.report_of n ≡ Some said) (free : is_under_way (near.reports n).job ≡ false)
+    (leaves : Done (Other (Left asked)) (near_in channel (near.reports n) []) (near_in none_yet (near.reports n) []))
+    (may : ClientGives (Other (Left asked)) (near_in channel (near.reports n) []).owner (near_in none_yet (near.reports n) []).owner)
+    (can : CanTurn (Client (Other (Left asked))) there last)
+    (p : PlayedBy (cutting before at (moments 0)) moments (far_in none_yet first []) (near_in none_yet begun []) op 1 there (far_in none_yet v [])
+    (near_in channel n [])) where
+  -- what the client holds as its drive is over
+  unfoldable near_done : Stand client_side
+  near_done = near_in none_yet (near.data_closed (near.reports n)) []
+
+  -- all that its drive did led there
+  near_led : Led (Other Closed ∷ Other (Left asked) ∷ Other (Report (Some said)) ∷ p.midst) (near_in none_yet begun []) near_done
+  unfolding near_done
+  near_led = (
+    near_in none_yet (near.reports n) [],
+    (
+      near_in channel (near.reports n) [],
+      (near_in channel n [], p.near_led, says_answer channel n said some),
+      leaves,
+    ),
+    near_closes (near.reports n) free,
+  )
+
+  -- so it was over
+  unfoldable near_drove : ClientDrove (near_in none_yet begun []) near_done (Some said)
+  near_drove =
+      let actions : List (Action client_side) = Other Closed ∷ Other (Left asked) ∷ Other (Report (Some said)) ∷ p.midst in
+      let totals = sums actions (near_in none_yet begun []) near_done near_led in
+      record {
+        answer = said;
+        answered = refl;
+        asked = asked;
+        did = record {
+          actions = p.midst;
+          sums = record { led = near_led; read = totals.read; heard = totals.heard; wrote = totals.wrote };
+          carries = carries move_of (carrier client_machine) actions (near_in none_yet begun []) near_done near_led refl refl;
+        };
+      }
+
+  -- the operation was begun and answered
+  unfoldable near_answers : Answers op said (near_in none_yet client_first []) near_done
+  near_answers = record { begun = near_in none_yet begun []; begins = does; drove = near_drove }
+
+  -- and that is all that was asked
+  unfoldable all_asked : AreAnswered ((op, said) ∷ []) (near_in none_yet client_first []) near_done
+  unfolding near_answers near_drove
+  all_asked = (near_in none_yet client_first [], refl, near_answers, p.are)
+
+  -- what it did from its beginning on
+  went : Went ClientGives (client_actions p.turns) (near_in none_yet client_first []) (near_in channel n [])
+  went = went_so moments op first client_first begun there (far_in none_yet v []) (near_in channel n []) does is all closing p
+
+  near_all : Went ClientGives (Other Closed ∷ Other (Left asked) ∷ Other (Report (Some said)) ∷ client_actions p.turns) (near_in none_yet client_first [])
+      near_done
+  unfolding near_done
+  near_all = (
+    (
+      near_in none_yet (near.reports n) [],
+      (
+        near_in channel (near.reports n) [],
+        (near_in channel n [], went.0, says_answer channel n said some),
+        leaves,
+      ),
+      near_closes (near.reports n) free,
+    ),
+    (((went.1, (tt, refl)), may), (tt, refl)),
+  )
+
+  -- the server as it was told that the client left
+  abbrev far_off : Stand server_side
+  far_off = record (far_in none_yet (far.control_end v) []) { left = record { octets = None; ended = true } }
+
+  -- then its port was shut
+  unfoldable far_end : v.owed ≡ [] → Attends v → far.wants (far.control_end v) ≡ Want.CloseAll
+      → Led (Other (Left Shut) ∷ Ended ∷ []) (far_in none_yet v []) far_off
+  far_end owed at over =
+      let end : EndsHere (far_in none_yet v []) far_off = record {
+        due = (owed, λ serves. ap waits at.wants);
+        heard = refl;
+        read = tt;
+        last = tt;
+        ended = refl;
+        cut = (refl, ap (λ q. seen q none_yet) (sym at.wants));
+        unheard = refl;
+        written = refl;
+      } in (
+        far_off,
+        (far_in none_yet v [], refl, end),
+        (
+          (
+            refl,
+            record { ended = refl; adds = tt; stands = refl; fate = refl; rest = refl; unwritten = refl; untold = refl },
+            (inr over, tt, tt),
+          ),
+          refl,
+        ),
+      )
+
+  -- all that its drive did
+  far_led : v.owed ≡ [] → Attends v → far.wants (far.control_end v) ≡ Want.CloseAll
+      → Led (Other (Left Shut) ∷ Ended ∷ server_actions p.turns) (far_in none_yet first []) far_off
+  unfolding far_end
+  far_led owed at over =
+      let end = far_end owed at over in (far_off, (far_in none_yet v [], p.far_led, end.1.2), end.2)
+
+  -- the client left: both are over, after those turns
+  pub both_over : v.owed ≡ [] → Attends v → far.wants (far.control_end v) ≡ Want.CloseAll
+      → (server : Stand server_side) × (over : AreOver b moments ((op, said) ∷ []) server) × (more : List Turn) × (over.turns ≡ more ++ before)
+  unfolding all_asked near_answers near_drove far_end far_led near_done
+  both_over owed attends over =
+      let actions : List (Action server_side) = Ended ∷ server_actions p.turns in
+      let led = far_led owed attends over in
+      let totals = sums (Other (Left Shut) ∷ actions) (far_in none_yet first []) far_off led in
+      let drove : ServerDrove (far_in none_yet first []) far_off = record {
+        asked = Shut;
+        did = record {
+          actions = actions;
+          sums = record { led = led; read = totals.read; heard = totals.heard; wrote = totals.wrote };
+          carries = carries move_of (carrier server_machine) (Other (Left Shut) ∷ actions) (far_in none_yet first []) far_off led refl refl;
+        };
+        over = over;
+      } in
+      let last_turns : List Turn = Client (Other Closed) ∷ Client (Other (Left asked)) ∷ Client (Other (Report (Some said))) ∷ [] in (
+        far_off,
+        record {
+          server_start = far_in none_yet first [];
+          client_start = near_in none_yet client_first [];
+          client = near_done;
+          begins = begins;
+          untold = refl;
+          unwritten = refl;
+          server_unwritten = refl;
+          client_untold = refl;
+          drove = drove;
+          put = all_asked;
+          turns = last_turns ++ p.turns;
+          between = last;
+          happened = (last, (there, (there, p.happened, refl), can), refl);
+          closed = Shut;
+          server_is = refl;
+          client_is = ap (λ l. Other Closed ∷ Other (Left asked) ∷ Other (Report (Some said)) ∷ l) p.client_is;
+          last = far_in none_yet v [];
+          server_led = p.far_led;
+          server_end = far_end owed attends over;
+          client_led = near_all.0;
+          takes = loses_along at (moments 0) (server_actions p.turns) (far_in none_yet first []) (far_in none_yet v []) p.far_led p.gives;
+          gives = near_all.1;
+          ports = p.ports;
+          told = p.told;
+          cut_at = cut_along at (moments 0) steps moments refl p.turns p.resets.1 (far_in none_yet first []) (far_in none_yet v []) p.far_led p.gives;
+        },
+        last_turns ++ p.resets.0.0,
+        ap (λ l. last_turns ++ l) p.resets.0.1,
+      )

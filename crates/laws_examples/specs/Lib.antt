@@ -1,0 +1,4 @@
+pub mod transfers
+pub mod active
+pub mod downloads
+pub mod uploads

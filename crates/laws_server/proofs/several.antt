@@ -1,0 +1,10 @@
+pub mod SlotLemmas
+pub mod OwnLemmas
+pub mod ActionLemmas
+pub mod LentLemmas
+pub mod LineLemmas
+pub mod OtherLemmas
+pub mod EndLemmas
+pub mod LimitLemmas
+pub mod CompanyLemmas
+pub mod SmallLemmas

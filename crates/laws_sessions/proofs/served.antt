@@ -1,0 +1,11 @@
+pub mod Staying
+pub mod Joining
+pub mod Slots
+pub mod Waiting
+pub mod Calling
+pub mod Receiving
+pub mod Seeing
+pub mod Rooted
+pub mod HomeTurns
+pub mod Home
+pub mod Served

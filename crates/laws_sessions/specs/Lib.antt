@@ -1,0 +1,3 @@
+pub mod passive
+pub mod either
+pub mod served

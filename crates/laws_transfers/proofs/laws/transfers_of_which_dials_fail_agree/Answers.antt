@@ -1,0 +1,5 @@
+use Rattle.laws_transfers.proofs.Concluding.{tries_agree, tries_parting_agree}
+use Rattle.laws_transfers.proofs.laws.transfers_of_which_dials_fail_agree.Goals as goal
+
+pub returns : goal.returns
+returns c = record { standing = tries_agree; parting = tries_parting_agree }

@@ -1,0 +1,2 @@
+pub mod accounts_file
+pub mod field

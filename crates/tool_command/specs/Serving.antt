@@ -1,0 +1,87 @@
+-- What the values of `serve` ask to be served (own choice).
+use Rattle.std.specs.Prelude.{◌≡◌, ◌^◌, ◌-◌, ⊤, ℕ, List, Option, Some, None, option_map}
+use Rattle.std.specs.Net.Grammar.{IsIpText}
+use Rattle.std.specs.declared.net.IpAddr.{IpAddr}
+use Rattle.tool_command.specs.Amount.{SaysMost}
+use Rattle.tool_command.specs.Crowd.{SaysAtOnce, SaysInput, SaysPerHost}
+use Rattle.tool_command.specs.declared.serving.LimitWords.{LimitWords}
+use Rattle.tool_command.specs.declared.serving.Scope.{Scope}
+use Rattle.tool_command.specs.declared.serving.Scope.TheVariants.{Any, Usual}
+use Rattle.tool_command.specs.declared.serving.ServeWords.{ServeWords}
+use Rattle.tool_command.specs.declared.serving.WaitWords.{WaitWords}
+use Rattle.tool_serve.specs.declared.serving.Serving.{Serving}
+use Rattle.tool_polling.specs.declared.timeouts.Limits.{Limits as Waits}
+use Rattle.tool_words.specs.Words.{SaysBelow, SaysPort, SaysPorts, SaysSessions}
+use Rattle.tool_words.specs.declared.words.Sessions.{Sessions}
+use Rattle.tool_words.specs.declared.words.Sessions.TheVariants.{Count, Forever}
+use Rattle.ftp_tree.specs.Tree.{default_limits}
+use Rattle.ftp_tree.specs.declared.limits.Limits.{Limits}
+use Rattle.ftp_disk_scan.specs.declared.loading.fault.Odd.{Odd}
+use Rattle.ftp_disk_scan.specs.declared.loading.fault.Odd.TheVariants.{LeaveOut}
+
+-- a number of seconds is what its word says, below 2 ^ 32, and without one this one
+abbrev pub SaysSeconds : Option (List ℕ) → ℕ → ℕ → Type 0
+SaysSeconds None unsaid seconds = seconds ≡ unsaid
+SaysSeconds (Some word) unsaid seconds = SaysBelow (2 ^ 32) word seconds
+
+-- what holds where no word says it: where only so many sessions are served there is no limit of time, which 0 stands for
+abbrev pub unsaid_waits : Sessions → Waits
+unsaid_waits (Count n) = record { login = 0; idle = 0; idle_while_waited = 0; session_while_waited = 0; login_while_waited = 0 }
+unsaid_waits Forever = record { login = 30; idle = 300; idle_while_waited = 15; session_while_waited = 60; login_while_waited = 10 }
+
+-- each of the five is what its word says, or what holds without one
+pub record AreWaits (words : WaitWords) (sessions : Sessions) (waits : Waits) : Type 0 where
+  pub login : SaysSeconds (option_map (λ word. word.now) words.login) (unsaid_waits sessions).login waits.login
+  pub idle : SaysSeconds (option_map (λ word. word.now) words.idle) (unsaid_waits sessions).idle waits.idle
+  pub idle_while_waited :
+      SaysSeconds (option_map (λ word. word.now) words.idle_while_waited) (unsaid_waits sessions).idle_while_waited waits.idle_while_waited
+  pub session_while_waited :
+      SaysSeconds (option_map (λ word. word.now) words.session_while_waited) (unsaid_waits sessions).session_while_waited waits.session_while_waited
+  pub login_while_waited :
+      SaysSeconds (option_map (λ word. word.now) words.login_while_waited) (unsaid_waits sessions).login_while_waited waits.login_while_waited
+
+-- a limit is what its word says, and without one this one
+abbrev pub SaysLimit : Option (List ℕ) → ℕ → ℕ → Type 0
+SaysLimit None unsaid most = most ≡ unsaid
+SaysLimit (Some word) unsaid most = SaysMost word most
+
+-- what holds where no word says a limit: with --any there is none, and else that of a tree that is told no other
+abbrev pub unsaid_limits : Scope → Limits
+unsaid_limits Usual = default_limits
+unsaid_limits Any = record { file = 2 ^ 64 - 1; total = 2 ^ 64 - 1; nodes = 2 ^ 64 - 1 }
+
+-- each of the three is what its word says, or what holds without one
+pub record AreLimits (scope : Scope) (words : LimitWords) (limits : Limits) : Type 0 where
+  pub file : SaysLimit (option_map (λ word. word.now) words.of_a_file) (unsaid_limits scope).file limits.file
+  pub total : SaysLimit (option_map (λ word. word.now) words.octets) (unsaid_limits scope).total limits.total
+  pub nodes : SaysLimit (option_map (λ word. word.now) words.files) (unsaid_limits scope).nodes limits.nodes
+
+-- with --any what can't be served is left out too
+abbrev pub odd_of : Scope → Odd → Odd
+odd_of Usual odd = odd
+odd_of Any odd = LeaveOut
+
+-- an address in numbers, if a word is given
+abbrev pub SaysAddress : Option (List ℕ) → Option IpAddr → Type 0
+SaysAddress None None = ⊤
+SaysAddress None (Some address) = ⊥
+SaysAddress (Some text) None = ⊥
+SaysAddress (Some text) (Some address) = IsIpText text address
+
+-- each value is what its word says, and the folder and the file of accounts are their words
+pub record Asks (words : ServeWords) (serving : Serving) : Type 0 where
+  pub host : IsIpText words.host.now serving.host
+  pub port : SaysPort words.port.now serving.port
+  pub dir : serving.dir ≡ words.dir
+  pub sessions : SaysSessions words.sessions.now serving.sessions
+  pub at_once : SaysAtOnce (option_map (λ word. word.now) words.at_once) serving.sessions serving.at_once
+  pub per_host : SaysPerHost (option_map (λ word. word.now) words.per_host) serving.at_once serving.per_host
+  pub input : SaysInput words.stop words.finish.now serving.input
+  pub accounts : serving.accounts ≡ words.accounts
+  pub log : serving.log ≡ words.log
+  pub others : serving.others ≡ words.others
+  pub passive : SaysPorts words.passive.now serving.passive.0 serving.passive.1
+  pub passive_address : SaysAddress (option_map (λ word. word.now) words.passive_address) serving.passive_address
+  pub odd : serving.odd ≡ odd_of words.scope words.odd
+  pub waits : AreWaits words.waits serving.sessions serving.waits
+  pub limits : AreLimits words.scope words.limits serving.limits

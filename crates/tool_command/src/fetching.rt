@@ -1,0 +1,335 @@
+// The subcommands of a client that ask at one place: their words.
+use crate::help;
+use crate::place::{host_in, location_in, user_in, wanted_of};
+use crate::refusal::Refusal;
+use crate::words::{
+    ACTIVE, EXTENDED, Form, LIMIT, LIMIT_RATE, MAX_TIME, MODE, NO_EXTENDED, PARALLEL,
+    PASSWORD_FILE, QUIET, STRU, Subcommand, TIMEOUT, TYPE, USER, Value, Word, at_once_in, chosen,
+    how_of, limit_in, rate_in, representation_in, text_in, timeout_in, until_in,
+};
+use clap::ArgMatches;
+use ftp_operation::How;
+use tool_get_put::{Each, Lines, Task};
+use tool_job::{Download, Parts, Simple, Target, Targets};
+use tool_listing::is_pattern;
+use tool_session::Openings;
+use tool_words::{Location, UrlPlace};
+
+pub const GET: Subcommand<'static> = Subcommand {
+    name: "get",
+    about: "downloads files from a server",
+    usage: Some("ftp_tool get [OPTIONS] <HOST:PORT/PATH>... [FILE|FOLDER/]"),
+    help: help::GET,
+    words: &[
+        Word {
+            name: "places",
+            form: Form::NeededPlaces(Value::Text("HOST:PORT/PATH")),
+            help: "what is fetched, as a place or a URL; the last of several words is FILE or FOLDER/, where it goes",
+        },
+        Word {
+            name: "keep",
+            form: Form::Flag,
+            help: "keeps what came of a download that is not whole, in FILE.ftp-part",
+        },
+        Word {
+            name: "continue",
+            form: Form::Flag,
+            help: "goes on behind a part that was kept, and keeps what came",
+        },
+        Word {
+            name: "moment",
+            form: Form::Flag,
+            help: "the last change of FILE is at the server's moment of it",
+        },
+        LIMIT_RATE,
+        PARALLEL,
+        Word {
+            name: "no-glob",
+            form: Form::Letter('g'),
+            help: "takes * and ? in the last name of PATH as they stand",
+        },
+    ],
+};
+
+pub const PUT: Subcommand<'static> = Subcommand {
+    name: "put",
+    about: "uploads files to a server",
+    usage: Some("ftp_tool put [OPTIONS] <FILE>... <HOST:PORT/PATH>"),
+    help: help::PUT,
+    words: &[
+        Word {
+            name: "files",
+            form: Form::NeededPlaces(Value::Name("FILE")),
+            help: "what is read, - is standard input; the last word is HOST:PORT/PATH or a URL, where it goes",
+        },
+        LIMIT_RATE,
+        PARALLEL,
+    ],
+};
+
+pub const LS: Subcommand<'static> = Subcommand {
+    name: "ls",
+    about: "lists a directory or a file of a server",
+    usage: None,
+    help: help::LS,
+    words: &[
+        PLACE,
+        Word {
+            name: "long",
+            form: Form::Flag,
+            help: "writes kind, size, moment and name in columns",
+        },
+        Word {
+            name: "json",
+            form: Form::Flag,
+            help: "writes an object of JSON for each entry, in a line",
+        },
+    ],
+};
+
+pub const CAT: Subcommand<'static> = Subcommand {
+    name: "cat",
+    about: "writes a file of a server to standard output",
+    usage: None,
+    help: help::CAT,
+    words: &[PLACE],
+};
+
+pub const SIZE: Subcommand<'static> = Subcommand {
+    name: "size",
+    about: "writes how many octets a file of a server has",
+    usage: None,
+    help: help::SIZE,
+    words: &[PLACE],
+};
+
+pub const RM: Subcommand<'static> = Subcommand {
+    name: "rm",
+    about: "removes files of a server",
+    usage: None,
+    help: help::RM,
+    words: &[PLACES, PARALLEL],
+};
+
+pub const MKDIR: Subcommand<'static> = Subcommand {
+    name: "mkdir",
+    about: "makes directories of a server",
+    usage: None,
+    help: help::MKDIR,
+    words: &[
+        PLACES,
+        Word {
+            name: "parents",
+            form: Form::Letter('p'),
+            help: "makes those above it too; one that stands is as well",
+        },
+    ],
+};
+
+pub const RMDIR: Subcommand<'static> = Subcommand {
+    name: "rmdir",
+    about: "removes empty directories of a server",
+    usage: None,
+    help: help::RMDIR,
+    words: &[PLACES],
+};
+
+pub const MV: Subcommand<'static> = Subcommand {
+    name: "mv",
+    about: "gives a file or a directory of a server another path",
+    usage: None,
+    help: help::MV,
+    words: &[
+        PLACE,
+        Word {
+            name: "path",
+            form: Form::NeededPlace(Value::Name("PATH")),
+            help: "its path from then on, at the same server",
+        },
+    ],
+};
+
+const PLACE: Word<'static> = Word {
+    name: "place",
+    form: Form::NeededPlace(Value::Text("HOST:PORT/PATH")),
+    help: "the server, its port (21 where none is written), and the path there; or ftp://USER@HOST:PORT/PATH",
+};
+
+const PLACES: Word<'static> = Word {
+    name: "places",
+    form: Form::NeededPlaces(Value::Text("HOST:PORT/PATH")),
+    help: "the server, its port (21 where none is written), and the path there; or ftp://USER@HOST:PORT/PATH",
+};
+
+/// The place, as the help has it.
+pub const PLACE_OPTION: &str = "<HOST:PORT/PATH>";
+
+/// The options that all of them have.
+pub fn place_options() -> &'static [Word<'static>] {
+    OPTIONS
+}
+
+const OPTIONS: &[Word<'static>] = &[
+    USER,
+    PASSWORD_FILE,
+    ACTIVE,
+    EXTENDED,
+    NO_EXTENDED,
+    Word {
+        name: "progress",
+        form: Form::Flag,
+        help: "tells how far a transfer is, each second; without it where standard error is a terminal",
+    },
+    QUIET,
+    TIMEOUT,
+    MAX_TIME,
+    LIMIT,
+    Word {
+        name: "type",
+        form: Form::Else(TYPE, "I"),
+        help: "",
+    },
+    Word {
+        name: "stru",
+        form: Form::Else(STRU, "F"),
+        help: "",
+    },
+    Word {
+        name: "mode",
+        form: Form::Else(MODE, "S"),
+        help: "",
+    },
+];
+
+/// What is asked at a place, which is this URL, if it is one, by data connections that are asked for so. At a terminal progress is told.
+pub fn asked_of<'a>(
+    words: &'a ArgMatches<'_>,
+    place: &'a str,
+    url: Option<&'a UrlPlace>,
+    openings: &'a Openings,
+    is_terminal: bool,
+) -> Result<Target<'a>, Refusal<'a>> {
+    let location = asked_at(place, url)?;
+    let timeout = timeout_in(words)?;
+    let until = until_in(words)?;
+    let how = how_in(words)?;
+    let limit = limit_in(words)?;
+    let rate = rate_in(words)?;
+    let at_once = at_once_in(words)?;
+    Ok(Target {
+        place: location,
+        user: user_in(words, url),
+        how,
+        openings,
+        timeout,
+        until,
+        progress: is_terminal || words.get_flag("progress"),
+        rate,
+        limit,
+        at_once,
+    })
+}
+
+/// The place that is asked at; refused where it is none.
+fn asked_at<'a>(place: &'a str, url: Option<&'a UrlPlace>) -> Result<Location<'a>, Refusal<'a>> {
+    match location_in(place, url) {
+        Some(location) => host_in(PLACE_OPTION, place, location),
+        None => Err(Refusal::of(PLACE_OPTION, place, wanted_of(place))),
+    }
+}
+
+/// How a transfer goes; `clap` lets no other letters through than these.
+fn how_in<'a>(words: &ArgMatches<'_>) -> Result<How, Refusal<'a>> {
+    match representation_in(words) {
+        Some(form) => Ok(how_of(words, form)),
+        None => Err(Refusal::Number),
+    }
+}
+
+/// What is done at a place that a subcommand of this name asks at.
+pub fn fetch_task_of<'a>(name: &str, words: &'a ArgMatches<'_>) -> Option<Task<'a>> {
+    match name {
+        "ls" => Some(Task::List(lines_of(words))),
+        "cat" => Some(Task::Get(SHOWN)),
+        "size" => Some(Task::Simple(Simple::Size)),
+        "rm" => Some(Task::Simple(Simple::Remove)),
+        "mkdir" => Some(chosen(
+            words,
+            "parents",
+            Task::MakeDirectories,
+            Task::Simple(Simple::MakeDirectory),
+        )),
+        "rmdir" => Some(Task::Simple(Simple::RemoveDirectory)),
+        "mv" => Some(Task::Simple(Simple::Move(text_in(words, "path")))),
+        _ => None,
+    }
+}
+
+/// What the lines of a listing are: of two options --json is meant.
+fn lines_of(words: &ArgMatches<'_>) -> Lines {
+    let other = chosen(words, "long", Lines::Long, Lines::Facts);
+    chosen(words, "json", Lines::Json, other)
+}
+
+/// A download that goes to standard output.
+const SHOWN: Download<'static> = Download {
+    file: "-",
+    parts: Parts::Dropped,
+    moment: false,
+    targets: None,
+};
+
+/// Whether `get` fetches what the directory of a place has that is of a pattern: where the name that its path ends in is one, and `--no-glob` is not there.
+pub fn is_matched(words: &ArgMatches<'_>, place: Location<'_>) -> bool {
+    !words.get_flag("no-glob") && is_pattern(place.name().as_bytes())
+}
+
+/// What `get` does at a place, into a file; into a folder of that name, where files of a pattern are fetched. Those of the command line go to `targets`, where
+/// there are several.
+pub fn get_task_of<'a>(
+    words: &ArgMatches<'_>,
+    place: Location<'_>,
+    file: &'a str,
+    targets: Option<&'a Targets>,
+) -> Task<'a> {
+    let download = download_of(words, file, targets);
+    if is_matched(words, place) {
+        Task::GetMatching(download)
+    } else {
+        Task::Get(download)
+    }
+}
+
+/// What `get` does with each of several files.
+pub fn each_got<'a>(words: &ArgMatches<'_>, targets: Option<&'a Targets>) -> Each<'a> {
+    Each::Get {
+        parts: parts_of(words),
+        moment: words.get_flag("moment"),
+        targets,
+    }
+}
+
+/// The download of `get` into a file.
+fn download_of<'a>(
+    words: &ArgMatches<'_>,
+    file: &'a str,
+    targets: Option<&'a Targets>,
+) -> Download<'a> {
+    Download {
+        file,
+        parts: parts_of(words),
+        moment: words.get_flag("moment"),
+        targets,
+    }
+}
+
+/// What becomes of the octets of a download that is not whole.
+fn parts_of(words: &ArgMatches<'_>) -> Parts {
+    if words.get_flag("continue") {
+        Parts::Continued
+    } else if words.get_flag("keep") {
+        Parts::Kept
+    } else {
+        Parts::Dropped
+    }
+}

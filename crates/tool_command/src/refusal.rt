@@ -1,0 +1,45 @@
+// Why the words of a command line ask for nothing.
+use tool_words::UrlFault;
+
+/// A value that is none of its option.
+#[derive(Clone, Copy)]
+pub struct BadValue<'a> {
+    /// The option as it stands in the help.
+    pub option: &'a str,
+    pub value: &'a str,
+    pub wanted: &'a str,
+}
+
+/// Why the words of a command line ask for nothing.
+#[derive(Clone, Copy)]
+pub enum Refusal<'a> {
+    /// A value is none of its option.
+    Value(BadValue<'a>),
+    /// A number has a sign.
+    Number,
+    /// Memory was refused.
+    Memory,
+}
+
+impl<'a> Refusal<'a> {
+    /// A value that is none of its option, and what is wanted there.
+    pub(crate) fn of(option: &'a str, value: &'a str, wanted: &'a str) -> Refusal<'a> {
+        Refusal::Value(BadValue {
+            option,
+            value,
+            wanted,
+        })
+    }
+
+    /// A word that is a URL names no place.
+    pub fn of_url(option: &'a str, word: &'a str, fault: UrlFault) -> Refusal<'a> {
+        match fault {
+            UrlFault::Memory => Refusal::Memory,
+            fault => Refusal::Value(BadValue {
+                option,
+                value: word,
+                wanted: fault.wanted(),
+            }),
+        }
+    }
+}

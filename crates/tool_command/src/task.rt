@@ -1,0 +1,42 @@
+// What goes between the standard streams.
+use crate::words::{number_in, representation_in};
+use clap::ArgMatches;
+use tool_codec::{Direction, Representation};
+
+/// What a command line asks for.
+#[derive(Clone, Copy)]
+pub enum Task {
+    /// Answers the octets of a control connection, at most `piece` at a time.
+    Dialogue {
+        piece: u32,
+    },
+    /// Writes the entry of each line, or its fault.
+    Facts,
+    /// Writes a file as the octets of a data connection, or reads it from them.
+    Frame {
+        form: Representation,
+        direction: Direction,
+    },
+}
+
+/// The task of words that the program knows; none where a value is none of its option.
+pub fn task_of(matches: &ArgMatches<'_>) -> Option<Task> {
+    let (name, inner) = matches.subcommand()?;
+    match name {
+        "dialogue" => dialogue_of(inner),
+        "facts" => Some(Task::Facts),
+        "frame" => frame_of(inner),
+        _ => None,
+    }
+}
+
+fn dialogue_of(words: &ArgMatches<'_>) -> Option<Task> {
+    let piece = number_in(words, "piece")?;
+    Some(Task::Dialogue { piece })
+}
+
+fn frame_of(words: &ArgMatches<'_>) -> Option<Task> {
+    let form = representation_in(words)?;
+    let direction = Direction::new(words.get_flag("read"), words.get_flag("marks"));
+    Some(Task::Frame { form, direction })
+}

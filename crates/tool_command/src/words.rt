@@ -1,0 +1,383 @@
+// Words of a command line, as tables, and what `clap` makes of them.
+use crate::amount::{amount_of, octets_of};
+use crate::refusal::Refusal;
+use clap::builder::{ValueParser, ValueRange};
+use clap::{Arg, ArgAction, ArgMatches, Command};
+use ftp_operation::How;
+use std::alloc::{AllocError, Global};
+use tool_codec::{Representation, number_of, representation_of};
+use tool_session::{Opening, Openings};
+use tool_sockets::monotonic_millis;
+use tool_terminal::Told;
+
+/// The letters of types, structures and modes (RFC 959, section 5.3.2), and the most that a number may be.
+pub const TYPE: Value<'static> = Value::One("A|I", &["A", "I"]);
+
+pub const STRU: Value<'static> = Value::One("F|R", &["F", "R"]);
+
+pub const MODE: Value<'static> = Value::One("S|B", &["S", "B"]);
+
+pub const MOST: u64 = 4_294_967_295;
+
+/// For how many seconds a server may be silent, for all programs of a client.
+pub const TIMEOUT: Word<'static> = Word {
+    name: "timeout",
+    form: Form::Else(Value::Number("SECONDS", 0, MOST), "60"),
+    help: "ends a control connection whose server says, takes and sends nothing for so long; 0: never",
+};
+
+/// For how many seconds all may take, for all programs of a client that ask at a place.
+pub const MAX_TIME: Word<'static> = Word {
+    name: "max-time",
+    form: Form::Given(Value::Number("SECONDS", 0, MOST)),
+    help: "ends what is asked after so many seconds in all, over all control connections; 0, and without it: never",
+};
+
+/// Who logs in, for all programs of a client that ask at a place.
+pub const USER: Word<'static> = Word {
+    name: "user",
+    form: Form::Given(Value::Text("U")),
+    help: "who logs in; else whom a URL or .netrc names, and else anonymous",
+};
+
+/// Where its password is, for the same.
+pub const PASSWORD_FILE: Word<'static> = Word {
+    name: "password-file",
+    form: Form::Given(Value::Text("F")),
+    help: "a file of mode 600 with the password",
+};
+
+/// Who opens the data connection, and by which commands, for the same.
+pub const ACTIVE: Word<'static> = Word {
+    name: "active",
+    form: Form::Flag,
+    help: "the server opens the data connection",
+};
+
+pub const EXTENDED: Word<'static> = Word {
+    name: "extended",
+    form: Form::Flag,
+    help: "data connections by EPSV and EPRT alone; else by PASV and PORT where the server does not know them",
+};
+
+pub const NO_EXTENDED: Word<'static> = Word {
+    name: "no-extended",
+    form: Form::Flag,
+    help: "data connections over IPv4 by PASV and PORT alone",
+};
+
+/// What of standard error is told, for all programs of a client that ask at a place.
+pub const QUIET: Word<'static> = Word {
+    name: "quiet",
+    form: Form::Letter('q'),
+    help: "tells errors alone: no progress, no notes, no summary",
+};
+
+/// The most octets of a file.
+pub const LIMIT: Word<'static> = Word {
+    name: "limit",
+    form: Form::Given(Value::Number("OCTETS", 0, MOST_OCTETS)),
+    help: "the most octets of a file; of one that is held in memory 1 GiB where none are said",
+};
+
+/// How fast a transfer may be.
+pub const LIMIT_RATE: Word<'static> = Word {
+    name: "limit-rate",
+    form: Form::Given(Value::Name("OCTETS[K|M|G|T]")),
+    help: "the most octets a second over a data connection, K, M, G and T are powers of 1,024; 0, and without it: no limit",
+};
+
+pub const PARALLEL: Word<'static> = Word {
+    name: "parallel",
+    form: Form::Else(Value::Number("N", 1, 8), "1"),
+    help: "how many control connections there are at once, 1 to 8",
+};
+
+/// The most octets that a file may be said to have.
+const MOST_OCTETS: u64 = 999_999_999_999_999_999;
+
+/// The name of a value, and what it has to be.
+#[derive(Clone, Copy)]
+pub enum Value<'a> {
+    /// Any text.
+    Text(&'a str),
+    /// Any text but the empty one.
+    Name(&'a str),
+    /// A number from the first to the second.
+    Number(&'a str, u64, u64),
+    /// One of these words.
+    One(&'a str, &'a [&'a str]),
+}
+
+impl<'a> Value<'a> {
+    fn name(self) -> &'a str {
+        match self {
+            Value::Text(name) | Value::Name(name) => name,
+            Value::Number(name, _, _) => name,
+            Value::One(name, _) => name,
+        }
+    }
+
+    fn parser(self) -> ValueParser<'a> {
+        match self {
+            Value::Text(_) => ValueParser::String,
+            Value::Name(_) => ValueParser::NonEmptyString,
+            Value::Number(_, first, last) => ValueParser::Unsigned(first, last),
+            Value::One(_, words) => ValueParser::Names(words),
+        }
+    }
+}
+
+/// What a word of a command line is.
+#[derive(Clone, Copy)]
+pub enum Form<'a> {
+    /// An option without a value.
+    Flag,
+    /// The same, which one letter says too.
+    Letter(char),
+    /// An option with a value.
+    Given(Value<'a>),
+    /// An option with a value, which may be there several times.
+    Many(Value<'a>),
+    /// An option that has to be there, with a value.
+    Needed(Value<'a>),
+    /// An option with a value, and the value where it is not there.
+    Else(Value<'a>, &'a str),
+    /// A word that is no option and has to be there.
+    NeededPlace(Value<'a>),
+    /// Words that are no options, of which one has to be there; options may stand between them. Nothing comes after them: `clap` would take the last one
+    /// before an option for what comes.
+    NeededPlaces(Value<'a>),
+}
+
+impl<'a> Form<'a> {
+    /// What becomes of a value.
+    fn action(self) -> ArgAction {
+        match self {
+            Form::Many(_) | Form::NeededPlaces(_) => ArgAction::Append,
+            _ => ArgAction::Set,
+        }
+    }
+
+    fn is_needed(self) -> bool {
+        match self {
+            Form::Needed(_) | Form::NeededPlace(_) | Form::NeededPlaces(_) => true,
+            _ => false,
+        }
+    }
+}
+
+/// A word of a command line.
+#[derive(Clone, Copy)]
+pub struct Word<'a> {
+    pub name: &'a str,
+    pub form: Form<'a>,
+    pub help: &'a str,
+}
+
+/// A subcommand.
+#[derive(Clone, Copy)]
+pub struct Subcommand<'a> {
+    pub name: &'a str,
+    pub about: &'a str,
+    /// How it is written, where that is not what `clap` makes of its words.
+    pub usage: Option<&'a str>,
+    pub help: &'a str,
+    /// The words that it alone has.
+    pub words: &'a [Word<'a>],
+}
+
+/// A subcommand with its words, and behind them options that others have too.
+pub fn subcommand_of<'a>(
+    alloc: Global,
+    subcommand: Subcommand<'a>,
+    options: &'a [Word<'a>],
+) -> Result<Command<'a>, AllocError> {
+    let mut args = Vec::new(alloc);
+    put_args(alloc, &mut args, subcommand.words)?;
+    put_args(alloc, &mut args, options)?;
+    let command = Command::new(alloc, subcommand.name)
+        .about(subcommand.about)
+        .after_help(subcommand.help);
+    match subcommand.usage {
+        Some(usage) => command.override_usage(usage).args(args),
+        None => command.args(args),
+    }
+}
+
+/// Puts what `clap` makes of words behind those before.
+fn put_args<'a>(
+    alloc: Global,
+    args: &mut Vec<Arg<'a>>,
+    words: &'a [Word<'a>],
+) -> Result<(), AllocError> {
+    for word in words {
+        args.push(arg_of(alloc, *word))?;
+    }
+    Ok(())
+}
+
+fn arg_of<'a>(alloc: Global, word: Word<'a>) -> Arg<'a> {
+    match word.form {
+        Form::Flag => flag(alloc, word),
+        Form::Letter(letter) => flag(alloc, word).short(letter),
+        Form::Given(value) | Form::Many(value) | Form::Needed(value) => option(alloc, word, value),
+        Form::Else(value, other) => option(alloc, word, value).default_value(other),
+        Form::NeededPlace(value) => place(alloc, word, value),
+        Form::NeededPlaces(value) => {
+            place(alloc, word, value).num_args(ValueRange::from(1usize..))
+        }
+    }
+}
+
+fn flag<'a>(alloc: Global, word: Word<'a>) -> Arg<'a> {
+    Arg::new(alloc, word.name)
+        .help(word.help)
+        .long(word.name)
+        .action(ArgAction::SetTrue)
+}
+
+fn option<'a>(alloc: Global, word: Word<'a>, value: Value<'a>) -> Arg<'a> {
+    place(alloc, word, value).long(word.name)
+}
+
+fn place<'a>(alloc: Global, word: Word<'a>, value: Value<'a>) -> Arg<'a> {
+    Arg::new(alloc, word.name)
+        .help(word.help)
+        .value_name(value.name())
+        .value_parser(value.parser())
+        .action(word.form.action())
+        .required(word.form.is_needed())
+}
+
+/// The first where an option without a value is there, and else the second.
+pub fn chosen<T: Copy>(matches: &ArgMatches<'_>, option: &str, given: T, other: T) -> T {
+    if matches.get_flag(option) {
+        given
+    } else {
+        other
+    }
+}
+
+/// What of standard error is told by the subcommand of a command line: all, where it has no `--quiet`.
+pub fn told_of(matches: &ArgMatches<'_>) -> Told {
+    match matches.subcommand() {
+        Some((_, words)) => chosen(words, "quiet", Told::Errors, Told::All),
+        None => Told::All,
+    }
+}
+
+/// The text that an option has; empty where it is not there.
+pub fn text_in<'a>(matches: &'a ArgMatches<'_>, option: &str) -> &'a str {
+    match matches.get_str(option) {
+        Some(text) => text,
+        None => "",
+    }
+}
+
+/// The number that an option has.
+pub fn number_in(matches: &ArgMatches<'_>, option: &str) -> Option<u32> {
+    number_of(text_in(matches, option))
+}
+
+/// The seconds of `--timeout`; refused where they are no number.
+pub fn timeout_in<'a>(matches: &'a ArgMatches<'_>) -> Result<u32, Refusal<'a>> {
+    let timeout = text_in(matches, "timeout");
+    match number_of(timeout) {
+        Some(seconds) => Ok(seconds),
+        None => Err(Refusal::of(
+            "--timeout <SECONDS>",
+            timeout,
+            "decimal digits alone are wanted",
+        )),
+    }
+}
+
+/// Until when all is to be done, as `--max-time` says from now on, in milliseconds of the monotonic clock; none where it says none.
+pub fn until_in<'a>(matches: &'a ArgMatches<'_>) -> Result<Option<u64>, Refusal<'a>> {
+    let text = text_in(matches, "max-time");
+    if text.is_empty() {
+        return Ok(None);
+    }
+    match number_of(text) {
+        Some(0) => Ok(None),
+        Some(seconds) => {
+            let millis = u64::from(seconds) * 1_000;
+            Ok(Some(monotonic_millis().saturating_add(millis)))
+        }
+        None => Err(Refusal::of(
+            "--max-time <SECONDS>",
+            text,
+            "decimal digits alone are wanted",
+        )),
+    }
+}
+
+/// How many control connections there are at once, as `--parallel` says, and one where it is none of the options.
+pub fn at_once_in<'a>(matches: &'a ArgMatches<'_>) -> Result<u32, Refusal<'a>> {
+    if text_in(matches, "parallel").is_empty() {
+        return Ok(1);
+    }
+    match number_in(matches, "parallel") {
+        Some(count) => Ok(count),
+        None => Err(Refusal::Number),
+    }
+}
+
+/// How a transfer of this representation goes; by which commands its data connection is asked for is said by `openings_of`.
+pub fn how_of(matches: &ArgMatches<'_>, representation: Representation) -> How {
+    How {
+        representation,
+        marks: false,
+        active: matches.get_flag("active"),
+        extended: false,
+    }
+}
+
+/// By which commands data connections are asked for.
+pub fn openings_of(matches: &ArgMatches<'_>) -> Openings {
+    let other = chosen(
+        matches,
+        "no-extended",
+        Opening::Plain,
+        Opening::ExtendedFirst,
+    );
+    Openings::new(chosen(matches, "extended", Opening::Extended, other))
+}
+
+/// The most octets that a file may have, as `--limit` says, and any number where it is not there; refused where they are no number.
+pub fn limit_in<'a>(matches: &'a ArgMatches<'_>) -> Result<u64, Refusal<'a>> {
+    let limit = text_in(matches, "limit");
+    if limit.is_empty() {
+        return Ok(u64::MAX);
+    }
+    match octets_of(limit) {
+        Some(octets) => Ok(octets),
+        None => Err(Refusal::of("--limit <OCTETS>", limit, "decimal digits alone are wanted")),
+    }
+}
+
+/// The most octets a second, as `--limit-rate` says, and 0 where it is not there; refused where they are no number.
+pub fn rate_in<'a>(matches: &'a ArgMatches<'_>) -> Result<u64, Refusal<'a>> {
+    let text = text_in(matches, "limit-rate");
+    if text.is_empty() {
+        return Ok(0);
+    }
+    match amount_of(text) {
+        Some(rate) => Ok(rate),
+        None => Err(Refusal::of(
+            "--limit-rate <OCTETS[K|M|G|T]>",
+            text,
+            "decimal digits are wanted, and K, M, G or T after them or nothing, less than 2^64 in all",
+        )),
+    }
+}
+
+/// Type, structure and mode, each by its letter.
+pub fn representation_in(matches: &ArgMatches<'_>) -> Option<Representation> {
+    representation_of(
+        text_in(matches, "type"),
+        text_in(matches, "stru"),
+        text_in(matches, "mode"),
+    )
+}

@@ -1,0 +1,150 @@
+// What is asked anew where its control connection ends.
+ghost use Rattle.std.specs.Prelude.{◌≡◌};
+ghost use Rattle.tool_connect.specs.Again.{fits, gives_up, loss_by, silence_left};
+
+use crate::conversing::{Converses, Logins, converse_as};
+use crate::server::left_until;
+use ftp_operation::Answer;
+use std::alloc::Global;
+use std::io::Eprint;
+use tool_session::{LastReply, Phase, ServerAddress, SessionFault, SessionTask};
+use tool_sockets::pause;
+use tool_words::User;
+
+/// How long is waited before each further control connection, in seconds.
+const WAITS: [u16; 4] = [1, 2, 4, 8];
+
+const SECOND_MILLIS: u16 = 1000;
+
+/// Why there is no answer of the server.
+#[derive(Clone, Copy)]
+pub(crate) enum Loss {
+    /// The control connection ended.
+    Ended,
+    /// There was none.
+    Unconnected,
+}
+
+/// Plays over a control connection of its own, for a user. Where one was made and ended before the answer, it is played anew, from the beginning,
+/// over at most four more; of a server that never said a line over one, and then all of it takes no longer than the server may be silent. No further one is
+/// opened where the time for all would be over by then.
+pub fn ask<R, P>(
+    rt: &R,
+    server: ServerAddress<'_>,
+    user: User<'_>,
+    noticed: &mut LastReply,
+    play: &mut P,
+) -> Result<Answer<Global>, SessionFault>
+where
+    R: Converses + Logins + Eprint,
+    P: SessionTask<Result<Answer<Global>, SessionFault>>,
+{
+    let answered = converse_as(rt, server, user, noticed, play);
+    match loss_of(&answered) {
+        Some(Loss::Ended) => {
+            drop(answered);
+            ask_again(rt, server, user, noticed, play)
+        }
+        _ => answered,
+    }
+}
+
+/// Plays anew, each time after a longer wait, while that may help.
+fn ask_again<R, P>(
+    rt: &R,
+    server: ServerAddress<'_>,
+    user: User<'_>,
+    noticed: &mut LastReply,
+    play: &mut P,
+) -> Result<Answer<Global>, SessionFault>
+where
+    R: Converses + Logins + Eprint,
+    P: SessionTask<Result<Answer<Global>, SessionFault>>,
+{
+    let mut loss = Loss::Ended;
+    for seconds in WAITS {
+        let Some(timeout) = silence_left(server.timeout, noticed.spent(), noticed.is_heard()) else {
+            break;
+        };
+        if !fits(left_until(server.until), seconds) {
+            break;
+        }
+        let server = ServerAddress { timeout, ..server };
+        tell_wait(rt, loss, seconds, noticed);
+        pause(seconds.saturating_mul(SECOND_MILLIS));
+        let answered = converse_as(rt, server, user, noticed, play);
+        match loss_of(&answered) {
+            Some(found) => {
+                drop(answered);
+                if gives_up(found, noticed.is_heard()) {
+                    break;
+                }
+                loss = found;
+            }
+            None => return answered,
+        }
+    }
+    Ok(Answer::Lost)
+}
+
+/// Why there is no answer, where a further control connection may bring one.
+fn loss_of(answered: &Result<Answer<Global>, SessionFault>) -> Option<Loss>
+    ensures { result ≡ loss_by answered.now }
+{
+    match answered {
+        Ok(Answer::Lost) => Some(Loss::Ended),
+        Ok(_) => None,
+        Err(stop) => match stop.stage() {
+            Phase::Talking => Some(Loss::Ended),
+            Phase::Connection => Some(Loss::Unconnected),
+            _ => None,
+        },
+    }
+}
+
+/// For how many seconds a server may be silent over a further control connection, of which so many went by over those before; none where nothing more is
+/// tried. 0: without a limit.
+fn silence_left(seconds: u32, spent: u32, is_heard: bool) -> Option<u32>
+    ensures { result ≡ silence_left seconds spent is_heard }
+{
+    if is_heard {
+        Some(seconds)
+    } else if seconds == 0 {
+        Some(0)
+    } else if spent < seconds {
+        Some(seconds - spent)
+    } else {
+        None
+    }
+}
+
+/// Whether a wait of so many seconds ends before the time for all does, of which so many milliseconds are left.
+fn fits(left: Option<u64>, seconds: u16) -> bool
+    ensures { result ≡ fits left seconds }
+{
+    match left {
+        Some(left) => u64::from(seconds) * 1_000 < left,
+        None => true,
+    }
+}
+
+/// Whether nothing more is tried behind a further control connection: it ended too, and the server never said a line.
+fn gives_up(found: Loss, is_heard: bool) -> bool
+    ensures { result ≡ gives_up found is_heard }
+{
+    match found {
+        Loss::Ended => !is_heard,
+        Loss::Unconnected => false,
+    }
+}
+
+/// Tells that it is asked anew after so many seconds; where that can't be told, it is asked all the same.
+fn tell_wait<R: Eprint>(rt: &R, loss: Loss, seconds: u16, noticed: &LastReply) {
+    let _told = match loss {
+        Loss::Ended => eprintln!(rt;
+            "note: the control connection ended{}; trying again in {seconds} s",
+            noticed.farewell()
+        ),
+        Loss::Unconnected => eprintln!(rt; "note: no connection; trying again in {seconds} s"),
+    };
+}

@@ -1,0 +1,96 @@
+// Who can ask servers, as whoever asks sees it: what stands on traits without types of their own is proved for less than on those of the system's
+// sockets, files and environment.
+use crate::health::Health;
+use crate::talking;
+use ftp_operation::Login;
+use std::alloc::Global;
+use std::env::Env;
+use std::fs::Files;
+use std::io;
+use std::io::Eprint;
+use std::net::{Net, TcpListener, TcpStream};
+use std::time::Clock;
+use tool_session::{LastReply, Phase, ServerAddress, SessionFault, SessionTask, at};
+use tool_words::{User, login_of};
+
+/// Who can open control connections.
+pub trait Converses {
+    /// Opens a control connection, plays over it by a client, says goodbye and closes it. Notices whether it failed; of several that is not known.
+    fn converse_noticing<T, P>(
+        &self,
+        server: ServerAddress<'_>,
+        login: Login<Global>,
+        noticed: &mut LastReply,
+        health: &Health,
+        play: &mut P,
+    ) -> Result<T, SessionFault>
+    where
+        T: Drop,
+        P: SessionTask<Result<T, SessionFault>>;
+
+    /// The same, where nobody asks whether it failed.
+    fn converse<T, P>(
+        &self,
+        server: ServerAddress<'_>,
+        login: Login<Global>,
+        noticed: &mut LastReply,
+        play: &mut P,
+    ) -> Result<T, SessionFault>
+    where
+        T: Drop,
+        P: SessionTask<Result<T, SessionFault>>,
+    {
+        self.converse_noticing(server, login, noticed, &Health::new(), play)
+    }
+}
+
+/// Who knows the logins of users.
+pub trait Logins {
+    /// The login of a user at a host: `login_of` of `tool_words`.
+    fn login(&self, host: &str, user: User<'_>) -> io::Result<Login<Global>>;
+}
+
+impl<R> Converses for R
+where
+    R: Net<Listener = TcpListener, Stream = TcpStream> + Eprint + Clock + AllocGlobal,
+{
+    fn converse_noticing<T, P>(
+        &self,
+        server: ServerAddress<'_>,
+        login: Login<Global>,
+        noticed: &mut LastReply,
+        health: &Health,
+        play: &mut P,
+    ) -> Result<T, SessionFault>
+    where
+        T: Drop,
+        P: SessionTask<Result<T, SessionFault>>,
+    {
+        talking::converse(self, server, login, (noticed, health), play)
+    }
+}
+
+impl<R: Files + Env + AllocGlobal> Logins for R {
+    fn login(&self, host: &str, user: User<'_>) -> io::Result<Login<Global>> {
+        login_of(self, host, user)
+    }
+}
+
+/// Opens a control connection for a user whose password is still to be had, plays over it, and closes it.
+pub fn converse_as<R, T, P>(
+    rt: &R,
+    server: ServerAddress<'_>,
+    user: User<'_>,
+    noticed: &mut LastReply,
+    play: &mut P,
+) -> Result<T, SessionFault>
+where
+    R: Converses + Logins,
+    T: Drop,
+    P: SessionTask<Result<T, SessionFault>>,
+{
+    match at(Phase::Login, rt.login(server.host, user)) {
+        Ok(login) => rt.converse(server, login, noticed, play),
+        Err(stop) => Err(stop),
+    }
+}

@@ -1,0 +1,266 @@
+// Several control connections from their beginning to their end, with a client at each.
+ghost use Rattle.std.specs.Prelude.{◌≡◌};
+ghost use Rattle.tool_connect.specs.Several.{channels_of, part_of};
+
+use crate::server::{connected, connected_to, left_until, seconds_left};
+use ftp_client::Client;
+use ftp_client_driver::Control;
+use ftp_client_model::Near;
+use ftp_client_steps::ClientTransfer;
+use ftp_client_transfer::OperationTransfer;
+use ftp_facts::Text;
+use ftp_operation::Login;
+use std::alloc::Global;
+use std::cell::Cell;
+use std::io;
+use std::io::{Eprint, Error, ErrorKind};
+use std::net::{Net, TcpListener, TcpStream};
+use std::rc::Rc;
+use tool_parallel::{Channel, ChannelPorts, Channels, MOST_CHANNELS, Slot, Stand, TakesTurns};
+use tool_polling::{Limits, Line, LinePorts, LineReader, LineWriter, PassivePorts};
+use tool_session::{Course, LastReply, Phase, ServerAddress, SessionFault, SessionTask, at, say};
+use tool_sockets::{Sockets, host_of};
+
+/// Opens control connections, plays over them by a client at each, says goodbye and closes them. Of those behind the first as many are used as the server
+/// gives.
+pub(crate) fn converse_by_several<R, T, P>(
+    rt: &R,
+    server: ServerAddress<'_>,
+    login: &Login<Global>,
+    noticed: &mut LastReply,
+    play: &mut P,
+) -> Result<T, SessionFault>
+where
+    R: Net<Listener = TcpListener, Stream = TcpStream> + Eprint + AllocGlobal,
+    T: Drop,
+    P: SessionTask<Result<T, SessionFault>>,
+{
+    let streams = at(Phase::Connection, streams_of(rt, rt.alloc(), server))?;
+    let courses = at(Phase::Talking, courses_of(rt.alloc()))?;
+    let passive = PassivePorts::new(rt.alloc(), 0, 0);
+    let house = House {
+        rt,
+        alloc: rt.alloc(),
+        login,
+        passive: &passive,
+        server,
+    };
+    play_over::<OperationTransfer<Global>, R, T, P>(
+        &house,
+        streams,
+        courses.as_slice(),
+        noticed,
+        play,
+    )
+}
+
+/// What the channels have in common.
+#[derive(Drop)]
+struct House<'a, R> {
+    rt: &'a R,
+    alloc: Global,
+    login: &'a Login<Global>,
+    passive: &'a PassivePorts,
+    server: ServerAddress<'a>,
+}
+
+/// One control connection, and further ones as far as the server takes them.
+fn streams_of<R>(
+    rt: &R,
+    alloc: Global,
+    server: ServerAddress<'_>,
+) -> io::Result<Vec<TcpStream, Global>>
+where
+    R: Net<Listener = TcpListener, Stream = TcpStream> + Eprint,
+{
+    let first = connected(rt, server)?;
+    let address = first.peer_addr()?;
+    let mut streams = Vec::new(alloc);
+    streams.push(first)?;
+    for _ in 1..channels_of(server.at_once) {
+        match connected_to(rt, address, server) {
+            Ok(stream) => streams.push(stream)?,
+            Err(error) => {
+                let _told = say(rt, "note: no further control connection: ", &error, "");
+                break;
+            }
+        }
+    }
+    Ok(streams)
+}
+
+/// How many control connections are wanted.
+fn channels_of(at_once: u32) -> u32
+    ensures { result ≡ channels_of at_once }
+{
+    at_once.min(MOST_CHANNELS as u32)
+}
+
+/// What each channel asks.
+fn courses_of(alloc: Global) -> io::Result<Vec<Course, Global>> {
+    let mut courses = Vec::new(alloc);
+    for _ in 0..MOST_CHANNELS {
+        courses.push(Course::around(Cell::new(None)))?;
+    }
+    Ok(courses)
+}
+
+/// Plays over these control connections; what is transferred by is a parameter, since a named one costs the proof more.
+fn play_over<'a, F, R, T, P>(
+    house: &House<'a, R>,
+    streams: Vec<TcpStream, Global>,
+    courses: &'a [Course],
+    noticed: &mut LastReply,
+    play: &mut P,
+) -> Result<T, SessionFault>
+where
+    F: ClientTransfer<Global>,
+    R: Sockets + Eprint,
+    T: Drop,
+    P: SessionTask<Result<T, SessionFault>>,
+{
+    let clients = at(
+        Phase::Talking,
+        clients_of::<F, R>(house, streams.as_slice()),
+    )?;
+    play_between(house, streams, clients, courses, noticed, play)
+}
+
+/// A client for each control connection.
+fn clients_of<F, R>(
+    house: &House<'_, R>,
+    streams: &[TcpStream],
+) -> io::Result<Vec<Client<Global, F>, Global>>
+where
+    F: ClientTransfer<Global>,
+    R: Sockets,
+{
+    let mut clients = Vec::new(house.alloc);
+    for stream in streams {
+        clients.push(client_of::<F, R>(house, stream)?)?;
+    }
+    Ok(clients)
+}
+
+/// A client between the hosts of a control connection.
+fn client_of<F, R>(house: &House<'_, R>, stream: &TcpStream) -> io::Result<Client<Global, F>>
+where
+    F: ClientTransfer<Global>,
+    R: Sockets,
+{
+    let here = host_of(stream.local_addr()?);
+    let peer = host_of(stream.peer_addr()?);
+    let login = login_copy(house.alloc, house.login)?;
+    match Client::new(house.alloc, login, here, peer) {
+        Ok(client) => Ok(client),
+        Err(_) => Err(Error::from(ErrorKind::OutOfMemory)),
+    }
+}
+
+/// Plays by these clients, each at its control connection.
+fn play_between<'a, N, R, T, P>(
+    house: &House<'a, R>,
+    streams: Vec<TcpStream, Global>,
+    clients: Vec<N, Global>,
+    courses: &'a [Course],
+    noticed: &mut LastReply,
+    play: &mut P,
+) -> Result<T, SessionFault>
+where
+    N: Near<Global>,
+    R: Sockets + Eprint,
+    T: Drop,
+    P: SessionTask<Result<T, SessionFault>>,
+{
+    let mut channels = Vec::new(house.alloc);
+    let ends = streams.into_iter().zip(clients.into_iter());
+    for ((stream, client), course) in ends.zip(courses.iter()) {
+        let channel = at(Phase::Talking, channel_of(house, stream, client, course))?;
+        if channels.push(channel).is_err() {
+            return Err(SessionFault::of_memory());
+        }
+    }
+    play_by_channels(house, channels, noticed, play)
+}
+
+/// Plays over these channels, says goodbye over each, and closes them.
+fn play_by_channels<L, R, T, P>(
+    house: &House<'_, R>,
+    channels: Vec<L, Global>,
+    noticed: &mut LastReply,
+    play: &mut P,
+) -> Result<T, SessionFault>
+where
+    L: TakesTurns + Drop,
+    R: Sockets + Eprint,
+    T: Drop,
+    P: SessionTask<Result<T, SessionFault>>,
+{
+    let mut slots = Vec::new(house.alloc);
+    let mut stand = Stand::Tried;
+    for channel in channels {
+        if slots.push(Slot::new(channel, stand)).is_err() {
+            return Err(SessionFault::of_memory());
+        }
+        stand = Stand::Untried;
+    }
+    let timeouts = (house.server.timeout, house.server.until);
+    let mut channels = Channels::new(house.rt, house.alloc, slots, noticed, timeouts);
+    let done = play.play(&mut channels);
+    channels.leave();
+    done
+}
+
+/// A client at a control connection.
+fn channel_of<'a, N, R>(
+    house: &House<'a, R>,
+    stream: TcpStream,
+    client: N,
+    course: &'a Course,
+) -> io::Result<Channel<'a, R, N>>
+where
+    N: Near<Global>,
+    R: Sockets,
+{
+    let line = Rc::new(house.alloc, Line::new(stream, limits_of(house.server))?)?;
+    let ports = LinePorts::new(house.rt, line.clone()?, house.passive)?;
+    let control = Control::new(
+        LineReader::new(line.clone()?),
+        LineWriter::new(line.clone()?),
+    );
+    let rate = part_of(house.server.rate, channels_of(house.server.at_once));
+    let ports = ChannelPorts::new(ports, course, rate);
+    Ok(Channel::new(client, line, control, ports, course))
+}
+
+/// How long the server is waited for: nobody is told to log in here, so that what is left of the time for all is a limit that nothing puts off.
+fn limits_of(server: ServerAddress<'_>) -> Limits {
+    Limits {
+        login: seconds_left(0, left_until(server.until)),
+        idle: server.timeout,
+        idle_while_waited: 0,
+        session_while_waited: 0,
+        login_while_waited: 0,
+    }
+}
+
+/// The part that each of so many has of the octets that may go in a second; 0: without a limit.
+fn part_of(rate: u64, channels: u32) -> u64
+    ensures { result ≡ part_of rate channels }
+{
+    if rate == 0 {
+        0
+    } else {
+        (rate / u64::from(channels.max(1))).max(1)
+    }
+}
+
+/// The same login once more.
+fn login_copy(alloc: Global, login: &Login<Global>) -> io::Result<Login<Global>> {
+    let user = Text::copy_of(alloc, login.user())?;
+    let pass = Text::copy_of(alloc, login.pass())?;
+    match Login::new(user, pass) {
+        Some(login) => Ok(login),
+        None => Err(Error::from(ErrorKind::OutOfMemory)),
+    }
+}

@@ -1,0 +1,259 @@
+// A control connection from its beginning to its end, and the one client at it.
+use crate::health::{Health, Noticed};
+use crate::hearing::Hearing;
+use crate::live::{LiveSession, Opens};
+use crate::progress::MeteredPorts;
+use crate::server::{connected, leave};
+use crate::several::converse_by_several;
+use ftp_client::Client;
+use ftp_client_driver::{Control, Data};
+use ftp_client_model::Near;
+use ftp_client_steps::ClientTransfer;
+use ftp_client_transfer::OperationTransfer;
+use ftp_endpoint::Host;
+use ftp_operation::Login;
+use std::alloc::Global;
+use std::io;
+use std::io::{Eprint, Read, Write};
+use std::net::{Net, TcpListener, TcpStream};
+use std::time::{Clock, Instant};
+use tool_session::{Course, LastReply, Phase, ServerAddress, SessionFault, SessionTask, at};
+use tool_sockets::{ControlReader, ControlWriter, Timeouts, host_of};
+
+/// Opens a control connection, plays over it by a client, says goodbye and closes it; notices how long that took, and of one alone whether it failed.
+pub(crate) fn converse<R, T, P>(
+    rt: &R,
+    server: ServerAddress<'_>,
+    login: Login<Global>,
+    (noticed, health): (&mut LastReply, &Health),
+    play: &mut P,
+) -> Result<T, SessionFault>
+where
+    R: Net<Listener = TcpListener, Stream = TcpStream> + Eprint + Clock + AllocGlobal,
+    T: Drop,
+    P: SessionTask<Result<T, SessionFault>>,
+{
+    let begun = Instant::now(rt).ok();
+    let done = if server.at_once > 1 {
+        converse_by_several(rt, server, &login, noticed, play)
+    } else {
+        let mut login = Some(login);
+        converse_anew(rt, server, &mut login, (noticed, health), play)
+    };
+    noticed.add_spent(seconds_since(rt, begun));
+    done
+}
+
+/// How many whole seconds went by, where the system tells the time.
+fn seconds_since<R: Clock>(rt: &R, begun: Option<Instant>) -> u32 {
+    match (begun, Instant::now(rt)) {
+        (Some(begun), Ok(now)) => {
+            u32::try_from(now.duration_since(begun).as_secs()).unwrap_or(u32::MAX)
+        }
+        _ => 0,
+    }
+}
+
+/// Opens a control connection, plays over it, says goodbye and closes it.
+fn converse_anew<R, T, P>(
+    rt: &R,
+    server: ServerAddress<'_>,
+    login: &mut Option<Login<Global>>,
+    (noticed, health): (&mut LastReply, &Health),
+    play: &mut P,
+) -> Result<T, SessionFault>
+where
+    R: Net<Listener = TcpListener, Stream = TcpStream> + Eprint + Clock + AllocGlobal,
+    T: Drop,
+    P: SessionTask<Result<T, SessionFault>>,
+{
+    let stream = at(Phase::Connection, connected(rt, server))?;
+    let done = talk(rt, server, login, &stream, (noticed, health), play);
+    let _gone = leave(&stream);
+    done
+}
+
+/// Plays over a control connection that is open, while timeouts lasts.
+fn talk<R, T, P>(
+    rt: &R,
+    server: ServerAddress<'_>,
+    login: &mut Option<Login<Global>>,
+    stream: &TcpStream,
+    (noticed, health): (&mut LastReply, &Health),
+    play: &mut P,
+) -> Result<T, SessionFault>
+where
+    R: Net<Listener = TcpListener, Stream = TcpStream> + Eprint + Clock + AllocGlobal,
+    T: Drop,
+    P: SessionTask<Result<T, SessionFault>>,
+{
+    let timeouts = Timeouts::new(server.timeout, server.until);
+    let course = Course::new();
+    let ports = MeteredPorts::hearing(rt, stream, &timeouts, &course, server);
+    let mut ports = at(Phase::Talking, ports)?;
+    let link = ControlLink {
+        stream,
+        timeouts: &timeouts,
+        course: &course,
+        health,
+    };
+    let done = talk_over(rt.alloc(), link, &mut ports, login, noticed, play);
+    if timeouts.is_over() {
+        health.fail();
+    }
+    if timeouts.is_past() {
+        noticed.ran_out();
+    } else if timeouts.is_over() {
+        noticed.fell_silent(server.timeout);
+    }
+    done
+}
+
+/// A control connection that is open, and what is known of it.
+#[derive(Clone, Copy)]
+struct ControlLink<'a> {
+    stream: &'a TcpStream,
+    timeouts: &'a Timeouts,
+    course: &'a Course,
+    health: &'a Health,
+}
+
+/// Plays over a control connection beside these data connections.
+fn talk_over<O, T, P>(
+    alloc: Global,
+    link: ControlLink<'_>,
+    ports: &mut O,
+    login: &mut Option<Login<Global>>,
+    noticed: &mut LastReply,
+    play: &mut P,
+) -> Result<T, SessionFault>
+where
+    O: Opens,
+    T: Drop,
+    P: SessionTask<Result<T, SessionFault>>,
+{
+    let hosts = at(Phase::Talking, hosts_of(link.stream))?;
+    let mut control = Control::new(
+        Noticed::new(ControlReader::new(link.stream, link.timeouts), link.health),
+        Noticed::new(ControlWriter::new(link.stream, link.timeouts), link.health),
+    );
+    let done = match login.take() {
+        Some(login) => play_by_one::<OperationTransfer<Global>, _, _, _, _, _>(
+            (alloc, login, hosts),
+            (&mut control, noticed),
+            ports,
+            link.course,
+            play,
+        ),
+        None => Err(SessionFault::of_memory()),
+    };
+    drop(control);
+    ports.finish();
+    noticed.add_opened(ports.opened());
+    done
+}
+
+/// The hosts at this end of a control connection and at the other.
+fn hosts_of(stream: &TcpStream) -> io::Result<(Host, Host)> {
+    let here = host_of(stream.local_addr()?);
+    let peer = host_of(stream.peer_addr()?);
+    Ok((here, peer))
+}
+
+/// Plays by a client between two hosts, which takes the login; what it transfers by is a parameter, since a named one costs the proof more.
+fn play_by_one<F, C, W, O, T, P>(
+    (alloc, login, hosts): (Global, Login<Global>, (Host, Host)),
+    (control, noticed): (&mut Control<C, W>, &mut LastReply),
+    ports: &mut O,
+    course: &Course,
+    play: &mut P,
+) -> Result<T, SessionFault>
+where
+    F: ClientTransfer<Global>,
+    C: Read + Drop,
+    W: Write + Drop,
+    O: Opens,
+    T: Drop,
+    P: SessionTask<Result<T, SessionFault>>,
+{
+    match client_of::<F>(alloc, login, hosts) {
+        Some(client) => play_heard(client, (control, noticed), ports, course, play),
+        None => Err(SessionFault::of_memory()),
+    }
+}
+
+/// Plays by a client whose replies are noticed.
+fn play_heard<N, C, W, O, T, P>(
+    client: N,
+    (control, noticed): (&mut Control<C, W>, &mut LastReply),
+    ports: &mut O,
+    course: &Course,
+    play: &mut P,
+) -> Result<T, SessionFault>
+where
+    N: Near<Global>,
+    C: Read + Drop,
+    W: Write + Drop,
+    O: Opens,
+    T: Drop,
+    P: SessionTask<Result<T, SessionFault>>,
+{
+    play_by(Hearing::new(client, noticed), control, ports, course, play)
+}
+
+/// A client between two hosts; none where memory is refused.
+fn client_of<F: ClientTransfer<Global>>(
+    alloc: Global,
+    login: Login<Global>,
+    (here, peer): (Host, Host),
+) -> Option<Client<Global, F>> {
+    Client::new(alloc, login, here, peer).ok()
+}
+
+/// Plays by a client.
+fn play_by<N, C, W, O, T, P>(
+    client: N,
+    control: &mut Control<C, W>,
+    ports: &mut O,
+    course: &Course,
+    play: &mut P,
+) -> Result<T, SessionFault>
+where
+    N: Near<Global>,
+    C: Read + Drop,
+    W: Write + Drop,
+    O: Opens,
+    T: Drop,
+    P: SessionTask<Result<T, SessionFault>>,
+{
+    let mut data = Data::new();
+    let done = play_in_slot(client, control, (ports, &mut data), course, play);
+    data.finish(ports);
+    done
+}
+
+/// Plays by a client that has room for its data connections.
+fn play_in_slot<N, C, W, O, T, P>(
+    client: N,
+    control: &mut Control<C, W>,
+    (ports, data): (&mut O, &mut Data<O::Stream>),
+    course: &Course,
+    play: &mut P,
+) -> Result<T, SessionFault>
+where
+    N: Near<Global>,
+    C: Read + Drop,
+    W: Write + Drop,
+    O: Opens,
+    T: Drop,
+    P: SessionTask<Result<T, SessionFault>>,
+{
+    let mut slot = LiveSession {
+        client,
+        control,
+        ports,
+        data,
+        course,
+    };
+    play.play(&mut slot)
+}

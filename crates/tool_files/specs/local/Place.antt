@@ -1,0 +1,16 @@
+-- Where the octets of a file go (own choice).
+use Rattle.std.specs.Prelude.{Bool, true, false, Some, None}
+use Rattle.tool_files.specs.declared.local.place.Standing.{Standing}
+use Rattle.tool_files.specs.declared.local.place.Standing.TheVariants as Stands
+use Rattle.tool_files.specs.declared.local.place.Way.{Way}
+use Rattle.tool_files.specs.declared.local.place.Way.TheVariants as Ways
+
+-- what stands at the name, and whether links lead to what a process has open: a file is replaced, whose permissions the next one has; what is none is
+-- written as it stands; a directory takes no octets
+abbrev pub way_of : Standing → Bool → Way
+way_of Stands.Directory is_open = Ways.Nowhere
+way_of Stands.Other is_open = Ways.Into
+way_of (Stands.File mode) true = Ways.Into
+way_of (Stands.File mode) false = Ways.Over (Some mode)
+way_of Stands.Nothing true = Ways.Into
+way_of Stands.Nothing false = Ways.Over None

@@ -1,0 +1,7 @@
+// What stands below a folder of this machine, reached through directories that are open: no link below the folder is followed, also none that comes
+// meanwhile (own choice).
+
+mod folder;
+mod places;
+
+pub use places::{Finding, OpenBelow, OpenDir, Places, Sightings};

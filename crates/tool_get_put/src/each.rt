@@ -1,0 +1,256 @@
+// Several files of one server, over several control connections at once.
+use std::alloc::Global;
+use std::env::Env;
+use std::fs::{File, Files};
+use std::io;
+use std::io::{Eprint, Print};
+use std::net::{Net, TcpListener, TcpStream};
+use std::time::Clock;
+use tool_connect::{Converses, Logins};
+use tool_files::LocalFiles;
+use tool_job::{
+    Fetched, Getting, JobQueue, Often, Parts, Putting, Removed, Sent, Target, Targets, Waiting,
+    done_all,
+};
+use tool_session::{LastReply, Phase, SessionFault, at};
+use tool_status::Status;
+
+/// A file of a server, and one of this end.
+pub struct Pair {
+    pub path: String<Global>,
+    pub file: String<Global>,
+}
+
+/// By hand: a derived drop is proved again, part by part, wherever one is let go.
+impl Drop for Pair {
+    fn drop(self) {
+        let Self { path: _, file: _ } = self;
+    }
+}
+
+/// What is done with each of several files.
+#[derive(Clone, Copy)]
+pub enum Each<'a> {
+    /// It is downloaded; `moment`: its last change is to be at the server's moment of the file; `targets`: where the files of the same command line go.
+    Get {
+        parts: Parts,
+        moment: bool,
+        targets: Option<&'a Targets>,
+    },
+    /// It is uploaded.
+    Put,
+    /// It is removed from the server.
+    Remove,
+}
+
+/// Does the same with each of several files of a server, over as many control connections as are asked for, and gives the worst exit status. One that fails
+/// does not stop the others; it is told in its turn.
+pub fn fetch_each<R>(
+    rt: &R,
+    asked: &Target<'_>,
+    each: Each<'_>,
+    pairs: &[Pair],
+) -> io::Result<Status>
+where
+    R: Net<Listener = TcpListener, Stream = TcpStream>
+        + Files<File = File>
+        + Env
+        + Input
+        + Print
+        + Eprint
+        + Clock
+        + AllocGlobal,
+{
+    fetched_each(rt, rt.alloc(), asked, each, pairs)
+}
+
+/// The same, of whoever can ask a server and has files.
+fn fetched_each<R>(
+    rt: &R,
+    alloc: Global,
+    asked: &Target<'_>,
+    each: Each<'_>,
+    pairs: &[Pair],
+) -> io::Result<Status>
+where
+    R: Converses + Logins + LocalFiles + Input + Print + Eprint,
+{
+    let mut noticed = LastReply::new();
+    let done = match each {
+        Each::Get {
+            parts,
+            moment,
+            targets,
+        } => get_each(
+            rt,
+            Getting {
+                alloc,
+                asked: *asked,
+                parts,
+                moment,
+                targets,
+            },
+            pairs,
+            &mut noticed,
+        ),
+        Each::Put => put_each(
+            rt,
+            Putting {
+                alloc,
+                asked: *asked,
+            },
+            pairs,
+            &mut noticed,
+        ),
+        Each::Remove => remove_each(rt, alloc, *asked, pairs, &mut noticed),
+    };
+    match done {
+        Ok(status) => Ok(status),
+        Err(stop) => stop.tell(rt, asked.subject("-")),
+    }
+}
+
+/// Files that are fetched.
+struct Gets<'a, R> {
+    rt: &'a R,
+    getting: Getting<'a>,
+    pairs: &'a [Pair],
+}
+
+/// By hand, as above.
+impl<'a, R> Drop for Gets<'a, R> {
+    fn drop(self) {
+        let Self {
+            rt: _,
+            getting: _,
+            pairs: _,
+        } = self;
+    }
+}
+
+impl<'a, R: LocalFiles + Print + Eprint> Waiting<Fetched<'a, R>> for Gets<'a, R> {
+    fn next(&mut self) -> io::Result<Option<Fetched<'a, R>>> {
+        let Some((first, rest)) = self.pairs.split_first() else {
+            return Ok(None);
+        };
+        self.pairs = rest;
+        let alloc = self.getting.alloc;
+        let path = String::from_str(alloc, first.path.as_str())?;
+        let file = String::from_str(alloc, first.file.as_str())?;
+        Ok(Some(Fetched::new(self.rt, self.getting, path, file, None)?))
+    }
+}
+
+fn get_each<'a, R>(
+    rt: &'a R,
+    getting: Getting<'a>,
+    pairs: &'a [Pair],
+    noticed: &mut LastReply,
+) -> Result<Status, SessionFault>
+where
+    R: Converses + Logins + LocalFiles + Print + Eprint,
+{
+    let asked = getting.asked;
+    let waiting = Gets { rt, getting, pairs };
+    let mut job_queue = JobQueue::new(rt, getting.alloc, waiting, "copied", Often::On);
+    done_all(rt, &asked, &mut job_queue, noticed)
+}
+
+/// Files that are sent.
+struct Puts<'a, R> {
+    rt: &'a R,
+    putting: Putting<'a>,
+    pairs: &'a [Pair],
+}
+
+/// By hand, as above.
+impl<'a, R> Drop for Puts<'a, R> {
+    fn drop(self) {
+        let Self {
+            rt: _,
+            putting: _,
+            pairs: _,
+        } = self;
+    }
+}
+
+impl<'a, R: LocalFiles + Input + Eprint> Waiting<Sent<'a, R>> for Puts<'a, R> {
+    fn next(&mut self) -> io::Result<Option<Sent<'a, R>>> {
+        let Some((first, rest)) = self.pairs.split_first() else {
+            return Ok(None);
+        };
+        self.pairs = rest;
+        Ok(Some(Sent::new(
+            self.rt,
+            self.putting,
+            first.file.as_str(),
+            first.path.as_str(),
+        )))
+    }
+}
+
+fn put_each<'a, R>(
+    rt: &'a R,
+    putting: Putting<'a>,
+    pairs: &'a [Pair],
+    noticed: &mut LastReply,
+) -> Result<Status, SessionFault>
+where
+    R: Converses + Logins + LocalFiles + Input + Eprint,
+{
+    let Putting { alloc, asked } = putting;
+    let waiting = Puts { rt, putting, pairs };
+    let mut job_queue = JobQueue::new(rt, alloc, waiting, "copied", Often::On);
+    done_all(rt, &asked, &mut job_queue, noticed)
+}
+
+/// Files that are removed.
+struct Removals<'a, R> {
+    rt: &'a R,
+    alloc: Global,
+    asked: Target<'a>,
+    pairs: &'a [Pair],
+}
+
+/// By hand, as above.
+impl<'a, R> Drop for Removals<'a, R> {
+    fn drop(self) {
+        let Self {
+            rt: _,
+            alloc: _,
+            asked: _,
+            pairs: _,
+        } = self;
+    }
+}
+
+impl<'a, R: Print + Eprint> Waiting<Removed<'a, R>> for Removals<'a, R> {
+    fn next(&mut self) -> io::Result<Option<Removed<'a, R>>> {
+        let Some((first, rest)) = self.pairs.split_first() else {
+            return Ok(None);
+        };
+        self.pairs = rest;
+        let asked = self.asked.at(first.path.as_str());
+        Ok(Some(Removed::new(self.rt, self.alloc, asked)))
+    }
+}
+
+fn remove_each<'a, R>(
+    rt: &'a R,
+    alloc: Global,
+    asked: Target<'a>,
+    pairs: &'a [Pair],
+    noticed: &mut LastReply,
+) -> Result<Status, SessionFault>
+where
+    R: Converses + Logins + Print + Eprint,
+{
+    let waiting = Removals {
+        rt,
+        alloc,
+        asked,
+        pairs,
+    };
+    let mut job_queue = JobQueue::new(rt, alloc, waiting, "done", Often::Once);
+    done_all(rt, &asked, &mut job_queue, noticed)
+}

@@ -1,0 +1,122 @@
+// A listing, as it goes to standard output.
+use ftp_facts::{Entry, Text};
+use ftp_operation::{Answer, ListVerb};
+use std::alloc::{AllocError, Global};
+use tool_listing::{
+    put_entries, put_json_entries, put_json_lines, put_json_names, put_lines, put_long, put_names,
+    read_entries, read_lines, strange_entries, strange_names,
+};
+
+/// What the lines of entries are.
+#[derive(Clone, Copy)]
+pub enum Lines {
+    /// Those of a machine listing.
+    Facts,
+    /// Kind, size, moment and name, in columns.
+    Long,
+    /// An object of JSON each, also of a name.
+    Json,
+}
+
+/// The lines of a listing.
+#[derive(Drop)]
+pub(crate) struct Listing {
+    pub(crate) lines: Vec<u8, Global>,
+    /// How many of its names are left out.
+    pub(crate) left_out: usize,
+    /// How many of its lines are no entries, and are shown as they came.
+    pub(crate) odd: usize,
+}
+
+/// The listing of the directory at a path that an answer has, if it has one; a text is of this command.
+pub(crate) fn listing_of(
+    alloc: Global,
+    path: &str,
+    shape: Lines,
+    verb: ListVerb,
+    answer: &Answer<Global>,
+) -> Result<Option<Listing>, AllocError> {
+    match answer {
+        Answer::Octets(text) => Ok(Some(text_listing(alloc, shape, verb, text.as_slice())?)),
+        Answer::Entries(entries) => Ok(Some(entries_listing(alloc, shape, entries.as_slice())?)),
+        Answer::Names(names) => Ok(Some(names_listing(alloc, path, shape, names.as_slice())?)),
+        _ => Ok(None),
+    }
+}
+
+/// The listing of a text: of MLSD its entries, and then the lines that are none; of LIST its lines as they came.
+fn text_listing(
+    alloc: Global,
+    shape: Lines,
+    verb: ListVerb,
+    text: &[u8],
+) -> Result<Listing, AllocError> {
+    match verb {
+        ListVerb::Mlsd => {
+            let read = read_entries(alloc, text)?;
+            let mut listing = entries_listing(alloc, shape, read.entries.as_slice())?;
+            put_as_came(alloc, shape, read.odd.as_slice(), &mut listing.lines)?;
+            listing.odd = read.odd.len();
+            Ok(listing)
+        }
+        ListVerb::List | ListVerb::Nlst => {
+            let came = read_lines(alloc, text)?;
+            let mut lines = Vec::new(alloc);
+            put_as_came(alloc, shape, came.as_slice(), &mut lines)?;
+            Ok(Listing {
+                lines,
+                left_out: 0,
+                odd: 0,
+            })
+        }
+    }
+}
+
+/// Appends lines as they came, as a terminal is to show them.
+fn put_as_came(
+    alloc: Global,
+    shape: Lines,
+    came: &[Text<Global>],
+    lines: &mut Vec<u8, Global>,
+) -> Result<(), AllocError> {
+    match shape {
+        Lines::Json => put_json_lines(alloc, came, lines),
+        Lines::Facts | Lines::Long => put_lines(came, lines),
+    }
+}
+
+fn entries_listing(
+    alloc: Global,
+    shape: Lines,
+    entries: &[Entry<Global>],
+) -> Result<Listing, AllocError> {
+    let mut lines = Vec::new(alloc);
+    match shape {
+        Lines::Facts => put_entries(alloc, entries, &mut lines)?,
+        Lines::Long => put_long(entries, &mut lines)?,
+        Lines::Json => put_json_entries(entries, &mut lines)?,
+    }
+    Ok(Listing {
+        lines,
+        left_out: strange_entries(entries),
+        odd: 0,
+    })
+}
+
+fn names_listing(
+    alloc: Global,
+    path: &str,
+    shape: Lines,
+    names: &[Text<Global>],
+) -> Result<Listing, AllocError> {
+    let mut lines = Vec::new(alloc);
+    match shape {
+        Lines::Json => put_json_names(path.as_bytes(), names, &mut lines)?,
+        Lines::Facts | Lines::Long => put_names(path.as_bytes(), names, &mut lines)?,
+    }
+    Ok(Listing {
+        lines,
+        left_out: strange_names(path.as_bytes(), names),
+        odd: 0,
+    })
+}

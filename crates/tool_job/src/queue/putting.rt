@@ -1,0 +1,202 @@
+// A file that is one of several which are sent.
+use crate::queue::job_queue::QueuedJob;
+use crate::single::{Loaded, Target, TooLarge, load};
+use ftp_operation::Answer;
+use std::alloc::Global;
+use std::io;
+use std::io::Eprint;
+use tool_files::LocalFiles;
+use tool_resume::{Sending, Uploading, tell_too_large};
+use tool_session::{ClientSession, LastReply, Phase, SessionFault, SessionTask, Ticket, at};
+use tool_status::Status;
+
+/// How files are sent.
+#[derive(Clone, Copy)]
+pub struct Putting<'a> {
+    pub alloc: Global,
+    /// What is asked, but for the path of a file.
+    pub asked: Target<'a>,
+}
+
+/// What is at hand of a file that is sent.
+enum Hand<'a, R> {
+    /// It was not opened yet.
+    Nothing,
+    Upload(Uploading<'a, R>),
+    /// It has more octets than may be.
+    TooLarge(TooLarge),
+    /// It can't be read.
+    Unread(SessionFault),
+}
+
+/// By hand: a derived drop is proved again, part by part, wherever one is let go.
+impl<'a, R> Drop for Hand<'a, R> {
+    fn drop(self) {
+        match self {
+            Hand::Nothing | Hand::TooLarge(_) | Hand::Unread(_) => {}
+            Hand::Upload(_) => {}
+        }
+    }
+}
+
+/// A file that is one of several which are sent.
+pub struct Sent<'a, R> {
+    rt: &'a R,
+    putting: Putting<'a>,
+    file: &'a str,
+    path: &'a str,
+    hand: Hand<'a, R>,
+    /// The file as it was opened, where it is asked ahead.
+    sending: Option<Sending<'a>>,
+    /// By which its upload is answered, where it was asked ahead.
+    ahead: Option<Ticket>,
+}
+
+/// By hand, as above.
+impl<'a, R> Drop for Sent<'a, R> {
+    fn drop(self) {
+        let Self {
+            rt: _,
+            putting: _,
+            file: _,
+            path: _,
+            hand: _,
+            sending: _,
+            ahead: _,
+        } = self;
+    }
+}
+
+impl<'a, R: LocalFiles + Input + Eprint> Sent<'a, R> {
+    /// The file of this end, which goes to a path of the server; nothing was asked of it yet.
+    pub fn new(rt: &'a R, putting: Putting<'a>, file: &'a str, path: &'a str) -> Sent<'a, R> {
+        Sent {
+            rt,
+            putting,
+            file,
+            path,
+            hand: Hand::Nothing,
+            sending: None,
+            ahead: None,
+        }
+    }
+
+    /// Opens a file of which nothing was asked yet.
+    fn take_up(&mut self) {
+        if !matches!(&self.hand, Hand::Nothing) {
+            return;
+        }
+        let Putting { alloc, asked } = self.putting;
+        self.hand = match at(Phase::Reading, load(self.rt, alloc, self.file, asked.limit)) {
+            Ok(Ok(loaded)) => self.uploading(loaded),
+            Ok(Err(large)) => Hand::TooLarge(large),
+            Err(stop) => Hand::Unread(stop),
+        };
+    }
+
+    /// The upload of a file that is at hand.
+    fn uploading(&mut self, loaded: Loaded<'a>) -> Hand<'a, R> {
+        let Putting { alloc, asked } = self.putting;
+        let mut loaded = loaded;
+        self.sending = match loaded.seen {
+            Some((total, changed)) => Some(Sending {
+                file: self.file,
+                total,
+                changed,
+                path: self.path,
+                how: asked.how,
+                openings: asked.openings,
+            }),
+            None => None,
+        };
+        match loaded.take_source() {
+            Some(source) => Hand::Upload(Uploading::new(
+                self.rt,
+                alloc,
+                source,
+                self.path,
+                asked.how,
+                asked.openings,
+            )),
+            None => Hand::Nothing,
+        }
+    }
+
+    fn asked(&self) -> Target<'a> {
+        self.putting.asked
+    }
+}
+
+impl<'a, R: LocalFiles + Input + Eprint> QueuedJob for Sent<'a, R> {
+    fn foresee<S: ClientSession>(&mut self, slot: &mut S) {
+        if self.is_ahead() {
+            return;
+        }
+        self.take_up();
+        if let Some(sending) = self.sending {
+            let foreseen = sending.foresee(self.rt, self.putting.alloc, slot);
+            self.ahead = foreseen.unwrap_or(None);
+        }
+    }
+
+    fn is_ahead(&self) -> bool {
+        self.ahead.is_some()
+    }
+
+    fn forget(&mut self) {
+        self.ahead = None;
+    }
+
+    fn ask<S: ClientSession>(&mut self, slot: &mut S) -> Result<Answer<Global>, SessionFault> {
+        self.take_up();
+        let ahead = self.ahead.take();
+        self.sending = None;
+        match &mut self.hand {
+            Hand::Upload(uploading) => {
+                uploading.go_by(ahead);
+                uploading.play(slot)
+            }
+            Hand::Unread(stop) => Err(*stop),
+            Hand::Nothing | Hand::TooLarge(_) => Ok(Answer::Done),
+        }
+    }
+
+    fn reach(&self) -> u64 {
+        0
+    }
+
+    fn goes_on(&self) -> bool {
+        matches!(&self.hand, Hand::Upload(_))
+    }
+
+    fn leave(&mut self, answer: &Answer<Global>, noticed: &LastReply) -> io::Result<Status> {
+        self.take_up();
+        let (rt, file) = (self.rt, self.file);
+        let asked = self.asked();
+        let subject = asked.subject(file);
+        match &self.hand {
+            Hand::Upload(uploading) => uploading.finish(answer, noticed),
+            Hand::TooLarge(large) => tell_too_large(rt, file, large.size, large.limit),
+            Hand::Unread(stop) => stop.tell(rt, subject),
+            Hand::Nothing => Ok(Status::Failed),
+        }
+    }
+
+    fn stop(&mut self, stop: SessionFault) -> io::Result<Status> {
+        self.take_up();
+        let (rt, file) = (self.rt, self.file);
+        let asked = self.asked();
+        let subject = asked.subject(file);
+        match &self.hand {
+            Hand::TooLarge(large) => tell_too_large(rt, file, large.size, large.limit),
+            Hand::Unread(stop) => stop.tell(rt, subject),
+            Hand::Nothing | Hand::Upload(_) => stop.tell(rt, subject),
+        }
+    }
+
+    fn abandon(&mut self) {}
+
+    fn name(&self) -> &str {
+        self.file
+    }
+}

@@ -1,0 +1,97 @@
+// A file that is one of several which are removed.
+use crate::queue::job_queue::QueuedJob;
+use crate::single::{Target, report};
+use ftp_facts::Text;
+use ftp_operation::{Answer, Op};
+use std::alloc::{AllocError, Global};
+use std::io;
+use std::io::{Eprint, Print};
+use tool_session::{ClientSession, LastReply, Request, SessionFault};
+use tool_status::Status;
+
+/// A file that is one of several which are removed: it is asked once.
+pub struct Removed<'a, R> {
+    rt: &'a R,
+    alloc: Global,
+    /// What is asked, with the path of the file.
+    asked: Target<'a>,
+    is_ahead: bool,
+}
+
+/// By hand: a derived drop is proved again, part by part, wherever one is let go.
+impl<'a, R> Drop for Removed<'a, R> {
+    fn drop(self) {
+        let Self {
+            rt: _,
+            alloc: _,
+            asked: _,
+            is_ahead: _,
+        } = self;
+    }
+}
+
+impl<'a, R: Print + Eprint> Removed<'a, R> {
+    /// The file at a path, of which nothing was asked yet.
+    pub fn new(rt: &'a R, alloc: Global, asked: Target<'a>) -> Removed<'a, R> {
+        Removed {
+            rt,
+            alloc,
+            asked,
+            is_ahead: false,
+        }
+    }
+
+    fn request(&self) -> Result<Request, AllocError> {
+        let path = Text::copy_of(self.alloc, self.asked.place.path.as_bytes())?;
+        Ok(Request::One(Some(Op::Delete(path))))
+    }
+}
+
+impl<'a, R: Print + Eprint> QueuedJob for Removed<'a, R> {
+    fn foresee<S: ClientSession>(&mut self, slot: &mut S) {
+        if self.is_ahead {
+            return;
+        }
+        if let Ok(request) = self.request() {
+            self.is_ahead = slot.takes(&request);
+            slot.foresee(request);
+        }
+    }
+
+    fn is_ahead(&self) -> bool {
+        self.is_ahead
+    }
+
+    fn forget(&mut self) {
+        self.is_ahead = false;
+    }
+
+    fn ask<S: ClientSession>(&mut self, slot: &mut S) -> Result<Answer<Global>, SessionFault> {
+        match self.request() {
+            Ok(request) => Ok(slot.answer(request)),
+            Err(AllocError) => Ok(Answer::Memory),
+        }
+    }
+
+    fn reach(&self) -> u64 {
+        0
+    }
+
+    fn goes_on(&self) -> bool {
+        false
+    }
+
+    fn leave(&mut self, answer: &Answer<Global>, noticed: &LastReply) -> io::Result<Status> {
+        report(self.rt, &self.asked, answer, noticed)
+    }
+
+    fn stop(&mut self, stop: SessionFault) -> io::Result<Status> {
+        stop.tell(self.rt, self.asked.subject("-"))
+    }
+
+    fn abandon(&mut self) {}
+
+    fn name(&self) -> &str {
+        self.asked.place.path
+    }
+}

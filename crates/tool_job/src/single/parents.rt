@@ -1,0 +1,101 @@
+// A directory of a server, and those above it that are missing.
+ghost use Rattle.std.specs.Prelude.{◌≡◌};
+ghost use Rattle.tool_job.specs.single.Parents.{is_passed};
+
+use crate::single::simple::report;
+use crate::single::target::Target;
+use ftp_facts::Text;
+use ftp_operation::{Answer, Op};
+use std::alloc::Global;
+use std::io::{Eprint, Print};
+use tool_connect::{Converses, Logins, converse_as};
+use tool_session::{ClientSession, LastReply, Phase, Request, SessionFault, SessionTask, at};
+use tool_status::Status;
+
+/// Makes the directory at a path and those above it, over one control connection, and gives the exit status. One that stands is as well; whether the
+/// last does is asked first, and why it can't be made is told.
+pub fn make_all<R>(
+    rt: &R,
+    alloc: Global,
+    asked: &Target<'_>,
+    noticed: &mut LastReply,
+) -> Result<Status, SessionFault>
+where
+    R: Converses + Logins + Print + Eprint,
+{
+    let mut making = Making {
+        alloc,
+        path: asked.place.path,
+    };
+    let answer = converse_as(rt, asked.server(), asked.user, noticed, &mut making)?;
+    at(Phase::Report, report(rt, asked, &answer, noticed))
+}
+
+/// A directory that is to stand at a path.
+#[derive(Drop)]
+struct Making<'a> {
+    alloc: Global,
+    path: &'a str,
+}
+
+impl<'a> SessionTask<Result<Answer<Global>, SessionFault>> for Making<'a> {
+    fn play<S: ClientSession>(&mut self, slot: &mut S) -> Result<Answer<Global>, SessionFault> {
+        let entered = enter(slot, self.alloc, self.path.as_bytes());
+        if !is_refused(&entered) {
+            return Ok(entered);
+        }
+        drop(entered);
+        let whole = self.path.trim_end_matches('/').as_bytes();
+        match make_above(slot, self.alloc, whole) {
+            Some(answer) => Ok(answer),
+            None => Ok(make(slot, self.alloc, whole)),
+        }
+    }
+}
+
+/// Makes the directories above a path. Those that are refused may stand; any other answer than that ends it, and is given.
+fn make_above<S: ClientSession>(
+    slot: &mut S,
+    alloc: Global,
+    path: &[u8],
+) -> Option<Answer<Global>> {
+    for end in 1..path.len() {
+        let (front, rest) = path.split_at(end);
+        if is_passed(front, rest) {
+            let answer = make(slot, alloc, front);
+            if !is_refused(&answer) && !is_made(&answer) {
+                return Some(answer);
+            }
+        }
+    }
+    None
+}
+
+/// Whether a path that is cut so has a directory as its first part.
+fn is_passed(front: &[u8], rest: &[u8]) -> bool
+    ensures { result ≡ is_passed front.now rest.now }
+{
+    !front.is_empty() && !front.ends_with(b"/") && (rest.is_empty() || rest.starts_with(b"/"))
+}
+
+fn is_refused(answer: &Answer<Global>) -> bool {
+    matches!(answer, Answer::Refused(_))
+}
+
+fn is_made(answer: &Answer<Global>) -> bool {
+    matches!(answer, Answer::Done | Answer::Path(_))
+}
+
+fn enter<S: ClientSession>(slot: &mut S, alloc: Global, path: &[u8]) -> Answer<Global> {
+    match Text::copy_of(alloc, path) {
+        Ok(path) => slot.answer(Request::One(Some(Op::ChangeDir(path)))),
+        Err(_) => Answer::Memory,
+    }
+}
+
+fn make<S: ClientSession>(slot: &mut S, alloc: Global, path: &[u8]) -> Answer<Global> {
+    match Text::copy_of(alloc, path) {
+        Ok(path) => slot.answer(Request::One(Some(Op::MakeDir(path)))),
+        Err(_) => Answer::Memory,
+    }
+}

@@ -1,0 +1,216 @@
+// One operation over a control connection of its own.
+use crate::single::looking::{listing_of_file, may_be_file, settles};
+use crate::single::simple::{Simple, op_of};
+use crate::single::target::Target;
+use ftp_facts::Text;
+use ftp_operation::{Answer, How, ListVerb, Op};
+use ftp_reply::code::UNAVAILABLE;
+use std::alloc::{AllocError, Global};
+use std::io::{Eprint, Error, ErrorKind};
+use tool_connect::{Converses, Logins, ask, converse_as};
+use tool_listing::lists_nothing;
+use tool_session::{
+    ClientSession, Ending, LastReply, Openings, Phase, Request, SessionFault, SessionTask, at,
+};
+use tool_words::{last_part, says_directory};
+
+/// What is wished for at a place.
+#[derive(Clone, Copy)]
+pub enum Wish<'a> {
+    /// The entries, as text: by MLSD with their facts, or by LIST where the server does not know that.
+    Entries,
+    Names,
+    Simple(Simple<'a>),
+}
+
+impl<'a> Wish<'a> {
+    /// Whether it needs no data connection.
+    fn is_simple(self) -> bool {
+        matches!(self, Wish::Simple(_))
+    }
+}
+
+/// Asks for one thing over one control connection alone: what changes something is not asked twice.
+pub(crate) fn ask_once<R>(
+    rt: &R,
+    alloc: Global,
+    asked: &Target<'_>,
+    simple: Simple<'_>,
+    noticed: &mut LastReply,
+) -> Result<Answer<Global>, SessionFault>
+where
+    R: Converses + Logins,
+{
+    let mut single = Single {
+        alloc,
+        path: asked.place.path,
+        how: asked.how,
+        openings: asked.openings,
+        wish: Wish::Simple(simple),
+    };
+    converse_as(rt, asked.server(), asked.user, noticed, &mut single)
+}
+
+/// Asks for one thing. Where its control connection ends, it is asked anew over another one.
+pub fn ask_for<R>(
+    rt: &R,
+    alloc: Global,
+    asked: &Target<'_>,
+    wish: Wish<'_>,
+    noticed: &mut LastReply,
+) -> Result<Answer<Global>, SessionFault>
+where
+    R: Converses + Logins + Eprint,
+{
+    let mut single = Single {
+        alloc,
+        path: asked.place.path,
+        how: asked.how,
+        openings: asked.openings,
+        wish,
+    };
+    ask_at(rt, asked, noticed, &mut single)
+}
+
+/// Does a task that asks at a place, by its user. Where its control connection ends, it is done anew over another one.
+pub(crate) fn ask_at<R, P>(
+    rt: &R,
+    asked: &Target<'_>,
+    noticed: &mut LastReply,
+    task: &mut P,
+) -> Result<Answer<Global>, SessionFault>
+where
+    R: Converses + Logins + Eprint,
+    P: SessionTask<Result<Answer<Global>, SessionFault>>,
+{
+    ask(rt, asked.server(), asked.user, noticed, task)
+}
+
+/// A wish at a path, whose request is made anew for each control connection.
+#[derive(Drop)]
+pub struct Single<'a> {
+    pub alloc: Global,
+    pub path: &'a str,
+    pub how: How,
+    pub openings: &'a Openings,
+    pub wish: Wish<'a>,
+}
+
+impl<'a> Single<'a> {
+    /// What the server answers. Where entries are asked for and a file may stand there, it is asked for the facts of that (MLST, RFC 3659, section 7): they
+    /// are the listing of a file. Where they say nothing of why a listing is refused, it is asked for once more, so that its refusal is what the server says
+    /// last.
+    fn looked<S: ClientSession>(&self, slot: &mut S) -> Result<Answer<Global>, AllocError> {
+        let listed = self.asked(slot)?;
+        if !self.looks_on() || !self.may_be_file(&listed)? {
+            return self.stands(slot, listed);
+        }
+        let is_refused = matches!(&listed, Answer::Refused(_));
+        let path = Text::copy_of(self.alloc, self.path.as_bytes())?;
+        let facts = slot.answer(Request::One(Some(Op::Facts(path))));
+        if settles(is_refused, &facts) {
+            let file = listing_of_file(self.alloc, last_part(self.path), &facts)?;
+            return Ok(file.unwrap_or(facts));
+        }
+        if is_refused {
+            self.asked(slot)
+        } else {
+            self.stands(slot, listed)
+        }
+    }
+
+    /// A listing. LIST may list nothing of a directory that does not stand: then it is gone into (CWD, RFC 959, section 4.1.1), and who says 550 to that has none.
+    fn stands<S: ClientSession>(
+        &self,
+        slot: &mut S,
+        listed: Answer<Global>,
+    ) -> Result<Answer<Global>, AllocError> {
+        if !self.is_doubtful(&listed)? {
+            return Ok(listed);
+        }
+        let path = Text::copy_of(self.alloc, self.path.as_bytes())?;
+        let gone = slot.answer(Request::One(Some(Op::ChangeDir(path))));
+        if matches!(&gone, Answer::Refused(UNAVAILABLE) | Answer::Lost) {
+            return Ok(gone);
+        }
+        Ok(listed)
+    }
+
+    /// Whether a directory that is named was listed so by LIST that it may not stand.
+    fn is_doubtful(&self, listed: &Answer<Global>) -> Result<bool, AllocError> {
+        let is_list = matches!(self.openings.list_verb(), ListVerb::List);
+        if self.path.is_empty() || !self.is_listing() || !is_list {
+            return Ok(false);
+        }
+        match listed {
+            Answer::Octets(text) => lists_nothing(self.alloc, text.as_slice()),
+            _ => Ok(false),
+        }
+    }
+
+    /// Whether a file may stand there, of which the entries were asked for, and this was answered.
+    fn may_be_file(&self, listed: &Answer<Global>) -> Result<bool, AllocError> {
+        match listed {
+            Answer::Octets(text) => lists_nothing(self.alloc, text.as_slice()),
+            _ => Ok(may_be_file(listed)),
+        }
+    }
+
+    /// Whether entries are asked for at a path that may be a file's.
+    fn looks_on(&self) -> bool {
+        matches!(self.wish, Wish::Entries) && !says_directory(self.path)
+    }
+
+    /// What the server answers; where it does not know the command of a listing, to the same asked for by another one.
+    pub fn asked<S: ClientSession>(&self, slot: &mut S) -> Result<Answer<Global>, AllocError> {
+        let answer = self.opened(slot)?;
+        if !self.is_listing() || !self.openings.hear_listing(&answer) {
+            return Ok(answer);
+        }
+        drop(answer);
+        self.opened(slot)
+    }
+
+    fn is_listing(&self) -> bool {
+        matches!(self.wish, Wish::Entries)
+    }
+
+    /// What the server answers; where it does not know how the data connection of a listing is asked for, to the same asked for otherwise.
+    fn opened<S: ClientSession>(&self, slot: &mut S) -> Result<Answer<Global>, AllocError> {
+        let opened = slot.opened();
+        let answer = slot.answer(self.request()?);
+        if self.wish.is_simple() || !self.openings.hear(&answer, slot.opened() > opened) {
+            return Ok(answer);
+        }
+        drop(answer);
+        Ok(slot.answer(self.request()?))
+    }
+
+    /// The request of a wish.
+    fn request(&self) -> Result<Request, AllocError> {
+        let path = Text::copy_of(self.alloc, self.path.as_bytes())?;
+        let how = self.openings.how(self.how);
+        let op = match self.wish {
+            Wish::Entries => Op::Text(self.openings.list_verb(), path, how),
+            Wish::Names => Op::Names(path, how),
+            Wish::Simple(simple) => op_of(self.alloc, simple, path, how)?,
+        };
+        Ok(Request::One(Some(op)))
+    }
+}
+
+impl<'a> SessionTask<Result<Answer<Global>, SessionFault>> for Single<'a> {
+    fn play<S: ClientSession>(&mut self, slot: &mut S) -> Result<Answer<Global>, SessionFault> {
+        let Ok(answer) = self.looked(slot) else {
+            return Ok(Answer::Memory);
+        };
+        if slot.ending() != Ending::PastLimit {
+            return Ok(answer);
+        }
+        drop(answer);
+        at(
+            Phase::Listing,
+            Err(Error::new(ErrorKind::InvalidData, "it has more than 1,000,000 entries")),
+        )
+    }
+}

@@ -1,0 +1,133 @@
+// An upload: what goes, and what is told of it.
+use crate::single::single::ask_at;
+use crate::single::target::Target;
+use std::alloc::Global;
+use std::io;
+use std::io::Eprint;
+use std::time::SystemTime;
+use tool_connect::{Converses, Logins};
+use tool_files::{LocalFiles, Reading, read_most};
+use tool_resume::{Source, Uploading, limit_held, tell_too_large};
+use tool_session::{LastReply, Phase, SessionFault, at};
+use tool_status::Status;
+
+/// The file that stands for standard input.
+const INPUT: &str = "-";
+
+/// Uploads a file, or standard input, and gives the exit status.
+pub fn put<R>(
+    rt: &R,
+    alloc: Global,
+    asked: &Target<'_>,
+    file: &str,
+    noticed: &mut LastReply,
+) -> Result<Status, SessionFault>
+where
+    R: Converses + Logins + LocalFiles + Input + Eprint,
+{
+    let mut loaded = match at(Phase::Reading, load(rt, alloc, file, asked.limit))? {
+        Ok(loaded) => loaded,
+        Err(TooLarge { size, limit }) => return at(
+            Phase::Report,
+            tell_too_large(rt, file, size, limit),
+        ),
+    };
+    let Some(source) = loaded.take_source() else {
+        return Ok(Status::Failed);
+    };
+    let path = asked.place.path;
+    let mut uploading = Uploading::new(rt, alloc, source, path, asked.how, asked.openings);
+    put_by(rt, asked, &mut uploading, noticed)
+}
+
+/// What is not uploaded: it has more octets than may be.
+#[derive(Clone, Copy)]
+pub struct TooLarge {
+    pub size: u64,
+    pub limit: u64,
+}
+
+/// What is uploaded.
+pub struct Loaded<'a> {
+    source: Option<Source<'a>>,
+    /// How many octets a file has, and when it was changed last, where that is known; nothing of what is held in memory.
+    pub seen: Option<(u64, Option<SystemTime>)>,
+}
+
+/// By hand: a derived drop is proved again, part by part, wherever octets are let go.
+impl<'a> Drop for Loaded<'a> {
+    fn drop(self) {
+        let Self { source: _, seen: _ } = self;
+    }
+}
+
+impl<'a> Loaded<'a> {
+    /// Its octets, once.
+    pub fn take_source(&mut self) -> Option<Source<'a>> {
+        self.source.take()
+    }
+}
+
+/// What is to be uploaded: a file is read as it goes; what comes of standard input, or is no file of a known size, is held in memory.
+pub fn load<'a, R: LocalFiles + Input>(
+    rt: &R,
+    alloc: Global,
+    file: &'a str,
+    limit: u64,
+) -> io::Result<Result<Loaded<'a>, TooLarge>> {
+    if file != INPUT {
+        if let Some(opened) = rt.open_source(file, 0)? {
+            let size = opened.total;
+            return Ok(if size > limit {
+                Err(TooLarge { size, limit })
+            } else {
+                Ok(Loaded {
+                    seen: Some((size, opened.changed)),
+                    source: Some(Source::file(file, opened)),
+                })
+            });
+        }
+    }
+    let limit = limit_held(limit);
+    match read(rt, alloc, file, limit)? {
+        Reading::Content(content) => Ok(Ok(Loaded {
+            source: Some(Source::Kept(content.octets)),
+            seen: None,
+        })),
+        Reading::TooLarge(size) => Ok(Err(TooLarge { size, limit })),
+    }
+}
+
+/// Reads what is held in memory.
+fn read<R: LocalFiles + Input>(
+    rt: &R,
+    alloc: Global,
+    file: &str,
+    limit: u64,
+) -> io::Result<Reading> {
+    if file == INPUT {
+        read_most(alloc, &mut rt.reader(), limit)
+    } else {
+        rt.read_from(file, 0, limit)
+    }
+}
+
+/// Does an upload that has its octets, and gives the exit status.
+fn put_by<R>(
+    rt: &R,
+    asked: &Target<'_>,
+    uploading: &mut Uploading<'_, R>,
+    noticed: &mut LastReply,
+) -> Result<Status, SessionFault>
+where
+    R: Converses + Logins + LocalFiles + Eprint,
+{
+    match ask_at(rt, asked, noticed, uploading) {
+        Ok(answer) => {
+            let finished = uploading.finish(&answer, noticed);
+            drop(answer);
+            at(Phase::Report, finished)
+        }
+        Err(stop) => Err(stop),
+    }
+}

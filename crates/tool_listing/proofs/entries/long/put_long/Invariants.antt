@@ -1,0 +1,6 @@
+use Rattle.std.proofs.Common.{◌≡◌, ◌++◌, take, flat_map}
+use Rattle.tool_listing.specs.entries.Long.{long_text}
+use Rattle.tool_listing.proofs.entries.long.put_long.Given as goal
+
+abbrev pub invariant-loop-entry : goal.invariant-loop-entry
+invariant-loop-entry l = l.out.items ≡ l.fn.out.items ++ flat_map long_text (take l.entry-index l.entries)

@@ -1,0 +1,131 @@
+// What stands in a directory, by a listing of it as text.
+ghost use Rattle.std.specs.Prelude.{◌≡◌};
+ghost use Rattle.tool_listing.specs.entries.Text.{odd_name};
+
+use crate::entries::item::{Facts, Item, Kind};
+use crate::entries::text::{cut_line, entry_in, is_shown};
+use crate::entries::unix_line::{UnixKind, UnixLine, cut_one, read_unix_line};
+use ftp_facts::{Entry, EntryKind, Text};
+use ftp_path::is_path_text;
+use std::alloc::{AllocError, Global};
+
+/// What a directory has by the text of MLSD: each entry, and for each line that is none an odd one, by the name behind its first space (RFC 3659, section
+/// 7.2).
+pub fn items_of_facts(alloc: Global, text: &[u8]) -> Result<Vec<Item<Global>, Global>, AllocError> {
+    let mut items = Vec::new(alloc);
+    let mut rest = text;
+    while !rest.is_empty() {
+        let (line, behind) = cut_line(rest);
+        put_fact_line(alloc, line, &mut items)?;
+        rest = behind;
+    }
+    Ok(items)
+}
+
+fn put_fact_line(
+    alloc: Global,
+    line: &[u8],
+    items: &mut Vec<Item<Global>, Global>,
+) -> Result<(), AllocError> {
+    let Some(entry) = entry_in(alloc, line)? else {
+        return put(alloc, odd_name(line), Kind::Odd, items);
+    };
+    if !is_shown(&entry) {
+        return Ok(());
+    }
+    put(alloc, entry.name.as_slice(), kind_of(&entry), items)
+}
+
+/// What stands behind the first space; nothing where there is none.
+fn odd_name(line: &[u8]) -> &[u8]
+    ensures { result.now ≡ odd_name line.now }
+{
+    let (_, name) = cut_one(line);
+    name
+}
+
+fn kind_of(entry: &Entry<Global>) -> Kind {
+    match &entry.kind {
+        Some(EntryKind::File) => Kind::File(Facts {
+            size: entry.size,
+            moment: match entry.modify {
+                Some(moment) => Some(moment.seconds),
+                None => None,
+            },
+        }),
+        Some(EntryKind::Dir) => Kind::Dir,
+        _ => Kind::Other,
+    }
+}
+
+/// What a directory has by the text of LIST in the columns of `ls -l`: each line, but a count of blocks, the directory itself and its parent; one of
+/// another form is odd, and has no name.
+pub fn items_of_columns(
+    alloc: Global,
+    text: &[u8],
+) -> Result<Vec<Item<Global>, Global>, AllocError> {
+    let mut items = Vec::new(alloc);
+    let mut rest = text;
+    while !rest.is_empty() {
+        let (line, behind) = cut_line(rest);
+        put_columns_line(alloc, line, &mut items)?;
+        rest = behind;
+    }
+    Ok(items)
+}
+
+fn put_columns_line(
+    alloc: Global,
+    line: &[u8],
+    items: &mut Vec<Item<Global>, Global>,
+) -> Result<(), AllocError> {
+    match read_unix_line(line) {
+        Some(told) => put_told(alloc, told, items),
+        None => {
+            if line.starts_with(b"total ") {
+                return Ok(());
+            }
+            put(alloc, &[], Kind::Odd, items)
+        }
+    }
+}
+
+fn put_told(
+    alloc: Global,
+    told: UnixLine<'_>,
+    items: &mut Vec<Item<Global>, Global>,
+) -> Result<(), AllocError> {
+    let name = told.name;
+    if name == b".".as_slice() || name == b"..".as_slice() {
+        return Ok(());
+    }
+    if !is_path_text(name) {
+        return put(alloc, name, Kind::Odd, items);
+    }
+    put(alloc, name, kind_by(told), items)
+}
+
+fn kind_by(told: UnixLine<'_>) -> Kind {
+    match told.kind {
+        UnixKind::File => Kind::File(Facts {
+            size: Some(told.size),
+            moment: match told.day {
+                Some(day) => Some(day.seconds),
+                None => None,
+            },
+        }),
+        UnixKind::Dir => Kind::Dir,
+        UnixKind::Link | UnixKind::Other => Kind::Other,
+    }
+}
+
+fn put(
+    alloc: Global,
+    name: &[u8],
+    kind: Kind,
+    items: &mut Vec<Item<Global>, Global>,
+) -> Result<(), AllocError> {
+    let name = Text::copy_of(alloc, name)?;
+    items.push(Item { name, kind })?;
+    Ok(())
+}

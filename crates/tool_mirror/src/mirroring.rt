@@ -1,0 +1,121 @@
+// A mirror from its first connection to its last line.
+use crate::machine::Machine;
+use crate::walk::Walk;
+use ftp_operation::Answer;
+use std::alloc::Global;
+use std::env::Env;
+use std::fs::{File, Files};
+use std::io;
+use std::io::{Eprint, Print};
+use std::net::{Net, TcpListener, TcpStream};
+use std::time::Clock;
+use tool_connect::{Converses, Logins, ask};
+use tool_files::LocalFiles;
+use tool_mirror_copy::Mirror;
+use tool_session::{LastReply, SessionFault, Subject, say, told};
+use tool_status::Status;
+
+/// How often a mirror goes on that got further over the control connections before.
+const ROUNDS: u32 = 1_000_000;
+
+/// What is told before the reply of a server that knows neither MLSD nor LIST.
+const NO_LISTING: &str = "error: the server lists nothing, by which a mirror goes: ";
+
+/// What is told before what the server said last.
+const ENDED: &str = "error: the control connection ended";
+
+/// Mirrors a tree, and gives the exit status: 0; 1 where something was refused or failed; 2 for a bad login; 3 where the control connection or a
+/// device failed, or memory was refused. All that is not done is told on standard error, and at the end how much was.
+pub fn mirror<R>(rt: &R, asked: Mirror<'_>) -> io::Result<Status>
+where
+    R: Net<Listener = TcpListener, Stream = TcpStream>
+        + Files<File = File>
+        + Env
+        + Print
+        + Eprint
+        + Clock
+        + AllocGlobal
+        + Clone
+        + Drop,
+{
+    let asked = Mirror {
+        begun: rt.present(),
+        ..asked
+    };
+    mirrored(rt, rt.alloc(), &asked)
+}
+
+/// The same, of whoever can ask a server and has a folder.
+fn mirrored<R>(rt: &R, alloc: Global, asked: &Mirror<'_>) -> io::Result<Status>
+where
+    R: Converses + Logins + Machine,
+{
+    let mut noticed = LastReply::new();
+    let mut walk = Walk::new(rt, alloc, asked)?;
+    let answered = walked(rt, asked, &mut walk, &mut noticed);
+    walk.give_up();
+    let told = tell_end(rt, asked, &answered, walk.tally.failed, &noticed);
+    say(rt, "", &walk.tally, "")?;
+    told
+}
+
+/// Goes on as long as each round of control connections gets further.
+fn walked<R>(
+    rt: &R,
+    asked: &Mirror<'_>,
+    walk: &mut Walk<'_, R>,
+    noticed: &mut LastReply,
+) -> Result<Answer<Global>, SessionFault>
+where
+    R: Converses + Logins + Machine,
+{
+    for _ in 0..ROUNDS {
+        let before = walk.reach();
+        let answered = ask(rt, asked.server, asked.user, noticed, walk);
+        let is_lost = matches!(&answered, Ok(Answer::Lost));
+        if !is_lost || walk.reach() == before {
+            return answered;
+        }
+        drop(answered);
+    }
+    Ok(Answer::Lost)
+}
+
+/// What a fault may be of.
+fn subject_of<'a>(asked: &Mirror<'a>) -> Subject<'a> {
+    Subject {
+        server: asked.server,
+        password_file: asked.user.password_file,
+        file: asked.folder,
+    }
+}
+
+/// Tells why a mirror came to no end, and gives the exit status; so many things failed.
+fn tell_end<R: Eprint>(
+    rt: &R,
+    asked: &Mirror<'_>,
+    answered: &Result<Answer<Global>, SessionFault>,
+    failed: u64,
+    noticed: &LastReply,
+) -> io::Result<Status> {
+    match answered {
+        Ok(Answer::Done) if failed == 0 => Ok(Status::Done),
+        Ok(Answer::Done) => Ok(Status::Refused),
+        Ok(Answer::Refused(code)) => told(
+            rt,
+            NO_LISTING,
+            &noticed.refusal(*code),
+            "",
+            Status::Refused,
+        ),
+        Ok(Answer::Lost) => told(
+            rt,
+            ENDED,
+            &noticed.farewell(),
+            "; another run goes on",
+            Status::Failed,
+        ),
+        Ok(_) => told(rt, "error: ", &"out of memory", "", Status::Failed),
+        Err(stop) => stop.tell(rt, subject_of(asked)),
+    }
+}

@@ -1,0 +1,90 @@
+// What is removed from the target: it is counted first, asked of the source once more, and a directory is emptied before it goes.
+use crate::machine::Machine;
+use crate::walk::Walk;
+use std::alloc::Global;
+use std::io::ErrorKind;
+use tool_listing::Listing;
+use tool_mirror_copy::{Trouble, stands_there};
+use tool_mirror_plan::{Action, Extra, Rules, Way};
+use tool_mirror_queue::QueuedAction;
+use tool_session::ClientSession;
+
+impl<'a, R: Machine> Walk<'a, R> {
+    /// Counts what stands in a directory of the target that is to be removed; where it can't be listed, it stays.
+    pub(crate) fn count<S: ClientSession>(
+        &mut self,
+        slot: &mut S,
+        number: usize,
+        below: &str,
+    ) -> Result<(), Trouble> {
+        let target = self.target(slot, below);
+        match &target {
+            Ok(Listing::Whole(items)) => self
+                .action_queue
+                .put_counts(number, below, items.as_slice()),
+            Ok(Listing::CutOff) => {
+                self.action_queue.keep(number);
+                Ok(())
+            }
+            Err(trouble) => {
+                if !matches!(trouble, Trouble::Lost | Trouble::Memory) {
+                    self.action_queue.keep(number);
+                }
+                Err(*trouble)
+            }
+        }
+    }
+
+    /// Whether the source has something of a path, as it says of that alone.
+    fn stands_at_source<S: ClientSession>(
+        &self,
+        slot: &mut S,
+        below: &str,
+        is_dir: bool,
+    ) -> Result<bool, Trouble> {
+        match self.mirror.rules.way {
+            Way::Down => stands_there(self.alloc, slot, self.mirror, below, is_dir),
+            Way::Up => self.stands_here(below),
+        }
+    }
+
+    /// Whether something stands in the folder of this machine; where its directory does not, or is none, nothing does.
+    fn stands_here(&self, below: &str) -> Result<bool, Trouble> {
+        match self.rt.found(self.mirror.folder, below) {
+            Ok(found) => Ok(found.is_some()),
+            Err(error) if error.kind() == ErrorKind::NotFound => Ok(false),
+            Err(error) if error.kind() == ErrorKind::NotADirectory => Ok(false),
+            Err(error) => Err(Trouble::Here(error)),
+        }
+    }
+
+    /// Removes something, unless the source says that it has it.
+    pub(crate) fn remove_lacking<S: ClientSession>(
+        &mut self,
+        slot: &mut S,
+        action: Action,
+        below: &str,
+    ) -> Result<(), Trouble> {
+        let is_dir = matches!(action, Action::RemoveDir);
+        if self.stands_at_source(slot, below, is_dir)? {
+            return Err(Trouble::Stands);
+        }
+        self.do_action(slot, action, below)
+    }
+
+    /// Removes all that stands in a directory of the target, and the directory behind that.
+    pub(crate) fn empty_dir<S: ClientSession>(
+        &mut self,
+        slot: &mut S,
+        below: &str,
+    ) -> Result<(), Trouble> {
+        let target = self.target(slot, below)?;
+        self.action_queue.put(QueuedAction::RemoveEmptied, below)?;
+        let nothing = Listing::Whole(Vec::new(self.alloc));
+        let rules = Rules {
+            extra: Extra::Any,
+            ..self.mirror.rules
+        };
+        self.action_queue.plan(rules, below, &nothing, &target)
+    }
+}

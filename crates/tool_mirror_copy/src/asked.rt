@@ -1,0 +1,63 @@
+// What is mirrored, and how.
+use ftp_facts::Text;
+use ftp_operation::How;
+use std::alloc::{AllocError, Global};
+use tool_files::Flush;
+use tool_mirror_plan::Rules;
+use tool_session::{Openings, ServerAddress};
+use tool_words::{User, joined};
+
+/// What is done of what is planned.
+#[derive(Clone, Copy)]
+pub enum Doing {
+    /// All of it.
+    All,
+    /// Nothing: it is told.
+    Nothing,
+}
+
+/// What of the actions goes to standard output.
+#[derive(Clone, Copy)]
+pub enum Actions {
+    /// Where nothing is done, what would be, in words.
+    Words,
+    /// An object of JSON for each that is done, or would be.
+    Json,
+}
+
+/// What is mirrored, and how.
+#[derive(Clone, Copy)]
+pub struct Mirror<'a> {
+    pub server: ServerAddress<'a>,
+    pub user: User<'a>,
+    /// The directory of the server.
+    pub path: &'a str,
+    /// The folder of this machine.
+    pub folder: &'a str,
+    pub how: How,
+    /// By which commands its data connections are asked for.
+    pub openings: &'a Openings,
+    pub rules: Rules,
+    /// Patterns of what is left alone.
+    pub excluded: &'a [&'a str],
+    /// When a file of this machine is on the disk.
+    pub flush: Flush,
+    /// The most octets of a file, which is held in memory.
+    pub limit: u64,
+    pub doing: Doing,
+    pub actions: Actions,
+    /// When it began, in seconds from the beginning of 1970, by this machine's clock: nothing was listed before.
+    pub begun: u64,
+}
+
+impl<'a> Mirror<'a> {
+    /// The path at the server of what is called `below` in the tree.
+    pub fn there(&self, alloc: Global, below: &str) -> Result<String<Global>, AllocError> {
+        joined(alloc, self.path, below)
+    }
+
+    /// The same, as it goes into an operation.
+    pub fn path(&self, alloc: Global, below: &str) -> Result<Text<Global>, AllocError> {
+        Text::copy_of(alloc, self.there(alloc, below)?.as_bytes())
+    }
+}

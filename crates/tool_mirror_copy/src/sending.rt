@@ -1,0 +1,252 @@
+// One file that is copied to the server.
+ghost use Rattle.std.specs.Prelude.{◌≡◌};
+ghost use Rattle.tool_mirror_copy.specs.Copying.{is_drawn};
+
+use crate::asked::Mirror;
+use crate::telling::shown;
+use crate::trouble::Trouble;
+use ftp_facts::Text;
+use ftp_operation::{Answer, Op};
+use std::alloc::{AllocError, Global};
+use std::io;
+use std::io::Eprint;
+use tool_files::{Content, LocalFiles, OpenBelow, Places, Reading};
+use tool_resume::{Sending, Source, Uploading, Wrong, limit_held};
+use tool_session::{ClientSession, Request, Ticket};
+
+/// The most octets of a file that is held in memory although it could be read as it goes: no more than are held of such a one anyway.
+const SMALL: u64 = 65_536;
+
+/// The most octets of a file that is asked ahead where it is held in memory until its turn, or where an upload that breaks begins anew.
+pub const AHEAD: u64 = 67_108_864;
+
+/// A file below the folder, and where it goes below the directory of the server.
+#[derive(Clone, Copy)]
+pub struct Upward<'a> {
+    pub below: &'a str,
+    pub to: &'a str,
+    /// How many octets it was listed with.
+    pub size: Option<u64>,
+    /// By which its upload is answered, where it was asked ahead (`foresee_drawn`).
+    pub ahead: Option<Ticket>,
+}
+
+/// Uploads a file, over breaks; the server has to have its size then. Gives how many octets it has. A file that is not small is read as it goes. `is_blind` as of
+/// an upload before, and of this one then. Over several control connections the size of what stands there is not asked for before: it may be of the upload that
+/// was asked ahead.
+pub fn copy_up<R, S>(
+    rt: &R,
+    alloc: Global,
+    slot: &mut S,
+    mirror: &Mirror<'_>,
+    file: Upward<'_>,
+    is_blind: &mut bool,
+) -> Result<u64, Trouble>
+where
+    R: Places + LocalFiles + Eprint,
+    S: ClientSession,
+{
+    if is_drawn(file.size) {
+        if let Some(opened) = rt.open_below(mirror.folder, file.below)? {
+            return copy_drawn(rt, alloc, slot, mirror, (opened, file), is_blind);
+        }
+    }
+    let count = uploaded(rt, alloc, slot, mirror, file.below, file.to)?;
+    check_size(slot, size_request(alloc, mirror, file.to)?, count)?;
+    Ok(count)
+}
+
+/// Whether a file that was listed with so many octets is read as it goes: one that is not small.
+pub fn is_drawn(size: Option<u64>) -> bool
+    ensures { result ≡ is_drawn size }
+{
+    match size {
+        Some(octets) => octets > SMALL,
+        None => true,
+    }
+}
+
+/// Uploads a file that is read as it goes.
+fn copy_drawn<R, S>(
+    rt: &R,
+    alloc: Global,
+    slot: &mut S,
+    mirror: &Mirror<'_>,
+    (opened, file): (OpenBelow, Upward<'_>),
+    is_blind: &mut bool,
+) -> Result<u64, Trouble>
+where
+    R: Places + LocalFiles + Eprint,
+    S: ClientSession,
+{
+    let OpenBelow { source, path, dir } = opened;
+    let total = source.total;
+    if total > mirror.limit {
+        return Err(Trouble::TooLarge(total, mirror.limit));
+    }
+    let there = mirror.there(alloc, file.to)?;
+    let head = note_head(alloc, file.to)?;
+    let source = Source::file(path.as_str(), source);
+    let mut uploading = Uploading::new(
+        rt,
+        alloc,
+        source,
+        there.as_str(),
+        mirror.how,
+        mirror.openings,
+    );
+    uploading.begin_notes(head.as_str());
+    uploading.go_by(file.ahead);
+    let may_be_ahead = slot.ahead() > 0 && total <= AHEAD;
+    if *is_blind || may_be_ahead {
+        uploading.blind();
+    }
+    let answered = uploading.answer(slot);
+    if !may_be_ahead {
+        *is_blind = uploading.is_blind();
+    }
+    let sent = sent(answered, uploading.wrong(), total);
+    drop(uploading);
+    drop(dir);
+    sent
+}
+
+/// Asks ahead that a file goes, which is read as it goes, and then how many octets of it the server has. Gives by which ticket that is answered, where it was
+/// asked.
+pub fn foresee_drawn<R, S>(
+    rt: &R,
+    alloc: Global,
+    slot: &mut S,
+    mirror: &Mirror<'_>,
+    below: &str,
+) -> Result<Option<Ticket>, Trouble>
+where
+    R: Places + LocalFiles,
+    S: ClientSession,
+{
+    let Some(opened) = rt.open_below(mirror.folder, below)? else {
+        return Ok(None);
+    };
+    if opened.source.total > mirror.limit {
+        return Ok(None);
+    }
+    let there = mirror.there(alloc, below)?;
+    let sending = Sending {
+        file: opened.path.as_str(),
+        total: opened.source.total,
+        changed: opened.source.changed,
+        path: there.as_str(),
+        how: mirror.how,
+        openings: mirror.openings,
+    };
+    Ok(sending.foresee(rt, alloc, slot)?)
+}
+
+/// What a note of an upload begins with.
+fn note_head(alloc: Global, below: &str) -> Result<String<Global>, AllocError> {
+    let mut head = String::from_str(alloc, "note: ")?;
+    head.push_str(shown(alloc, below)?.as_str())?;
+    head.push_str(": ")?;
+    Ok(head)
+}
+
+/// So many octets, where an upload that was answered so is done, and the server has that file.
+fn sent(
+    answered: io::Result<Answer<Global>>,
+    wrong: Option<Wrong>,
+    total: u64,
+) -> Result<u64, Trouble> {
+    let answer = answered?;
+    match (&answer, wrong) {
+        (Answer::Done, Some(Wrong::Octets(count))) => Err(Trouble::Size(total, count)),
+        (Answer::Done, Some(Wrong::Nothing)) => Err(Trouble::Vanished),
+        _ => done(&answer, total),
+    }
+}
+
+/// The octets of a file here.
+pub fn octets_of<R: Places>(
+    rt: &R,
+    mirror: &Mirror<'_>,
+    below: &str,
+) -> Result<Text<Global>, Trouble> {
+    let limit = limit_held(mirror.limit);
+    match rt.read_below(mirror.folder, below, limit)? {
+        Reading::Content(Content { octets, changed: _ }) => Ok(Text::from_vec(octets)),
+        Reading::TooLarge(size) => Err(Trouble::TooLarge(size, limit)),
+    }
+}
+
+/// Uploads a file, and gives how many octets it has. Where the server does not know how the data connection is asked for, the file is read once more, and the
+/// same is asked for otherwise.
+fn uploaded<R, S>(
+    rt: &R,
+    alloc: Global,
+    slot: &mut S,
+    mirror: &Mirror<'_>,
+    below: &str,
+    to: &str,
+) -> Result<u64, Trouble>
+where
+    R: Places,
+    S: ClientSession,
+{
+    let opened = slot.opened();
+    let (answer, count) = upload(rt, alloc, slot, mirror, below, to)?;
+    if !mirror.openings.hear(&answer, slot.opened() > opened) {
+        return done(&answer, count);
+    }
+    drop(answer);
+    let (answer, count) = upload(rt, alloc, slot, mirror, below, to)?;
+    done(&answer, count)
+}
+
+/// What the server answers to an upload of a file, and how many octets that has.
+fn upload<R, S>(
+    rt: &R,
+    alloc: Global,
+    slot: &mut S,
+    mirror: &Mirror<'_>,
+    below: &str,
+    to: &str,
+) -> Result<(Answer<Global>, u64), Trouble>
+where
+    R: Places,
+    S: ClientSession,
+{
+    let octets = octets_of(rt, mirror, below)?;
+    let count = octets.as_slice().len() as u64;
+    let path = mirror.path(alloc, to)?;
+    let how = mirror.openings.how(mirror.how);
+    Ok((
+        slot.answer(Request::Upload(Some((path, octets)), how)),
+        count,
+    ))
+}
+
+/// So many octets, where the answer is that they are done.
+fn done(answer: &Answer<Global>, count: u64) -> Result<u64, Trouble> {
+    match answer {
+        Answer::Done => Ok(count),
+        _ => Err(Trouble::of(answer)),
+    }
+}
+
+/// A question for the size of a file of the server (RFC 3659, section 4).
+pub fn size_request(
+    alloc: Global,
+    mirror: &Mirror<'_>,
+    below: &str,
+) -> Result<Request, AllocError> {
+    let path = mirror.path(alloc, below)?;
+    Ok(Request::One(Some(Op::Size(path, mirror.how))))
+}
+
+/// Fails where the server tells another size of a file than so many octets.
+fn check_size<S: ClientSession>(slot: &mut S, asked: Request, count: u64) -> Result<(), Trouble> {
+    match &slot.answer(asked) {
+        Answer::Number(total) if *total != count => Err(Trouble::Size(count, *total)),
+        Answer::Lost => Err(Trouble::Lost),
+        _ => Ok(()),
+    }
+}

@@ -1,0 +1,6 @@
+use Rattle.std.proofs.Common.{◌≡◌, ◌++◌, take, flat_map}
+use Rattle.tool_mirror_plan.specs.Plan.{clearing}
+use Rattle.tool_mirror_plan.proofs.planning.put_clearing.Given as goal
+
+abbrev pub invariant-loop-item : goal.invariant-loop-item
+invariant-loop-item l = l.planned.items ≡ l.fn.planned.items ++ flat_map (clearing l.rules l.source) (take l.item-index l.target)

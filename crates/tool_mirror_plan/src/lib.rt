@@ -1,0 +1,12 @@
+//! What a mirror does of a directory: a list of steps, by the listing of its source and that of its target, as far as both are told (own choice). No IO.
+#![tactic(auto)]
+
+mod actions;
+mod index;
+mod planning;
+pub mod rows;
+
+pub use actions::{
+    Action, Actions, Check, Extra, Reason, Rules, Way, actions_for, may_remove, removal_for,
+};
+pub use planning::{Step, plan};

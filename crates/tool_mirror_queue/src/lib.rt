@@ -1,0 +1,10 @@
+//! What of a mirror is still to be done, one thing after another, what is removed last and only where it is not too much; and how much was done.
+#![tactic(auto)]
+
+mod action_queue;
+mod removals;
+mod tally;
+
+pub use action_queue::{ActionQueue, QueuedAction, Work};
+pub use removals::{Counts, Settled, tell_too_many};
+pub use tally::{Progress, Tally};

@@ -1,0 +1,223 @@
+// What is asked ahead of its turn, and how it is known again.
+ghost use Rattle.std.specs.Prelude.{◌≡◌, IfSome, IsTrue, Some};
+ghost use Rattle.std.specs.Option.{option_map};
+ghost use Rattle.tool_parallel.specs.pool.Ahead.{asked_ahead, is_done, is_fact, is_for, is_given, is_removed, is_told, leaves_all, says_none, wants_login};
+
+use ftp_facts::Text;
+use ftp_operation::{Answer, Op};
+use ftp_reply::code::{NOT_IMPLEMENTED, UNAVAILABLE, UNKNOWN};
+use std::alloc::Global;
+use tool_session::{Cargo, Ending, Request, Ticket};
+
+/// What can be asked ahead of a path.
+#[derive(Clone, Copy)]
+pub(crate) enum What {
+    Download,
+    Upload,
+    Listing,
+    Removal,
+    Size,
+    Moment,
+}
+
+/// What is asked, and of which path.
+pub(crate) struct Key {
+    what: What,
+    path: Text<Global>,
+}
+
+/// By hand: a derived drop is proved again, part by part, wherever a key is let go.
+impl Drop for Key {
+    fn drop(self) {
+        let Self { what: _, path: _ } = self;
+    }
+}
+
+/// What was answered ahead, how its data connection ended, how many were opened, and what went over it.
+pub(crate) struct Done {
+    pub(crate) answer: Answer<Global>,
+    pub(crate) ending: Ending,
+    pub(crate) opened: u32,
+    pub(crate) cargo: Cargo,
+}
+
+/// By hand, as above.
+impl Drop for Done {
+    fn drop(self) {
+        let Self {
+            answer: _,
+            ending: _,
+            opened: _,
+            cargo: _,
+        } = self;
+    }
+}
+
+impl Key {
+    /// That of a request; none where it is not asked ahead, or memory is refused.
+    pub(crate) fn of(alloc: Global, request: &Request) -> Option<Key>
+        ensures { IfSome result (λ key. asked_ahead request.now ≡ Some (key.what, key.path)) }
+    {
+        let Some((what, path)) = parts_of(request) else {
+            return None;
+        };
+        match Text::copy_of(alloc, path) {
+            Ok(path) => Some(Key { what, path }),
+            Err(_) => None,
+        }
+    }
+
+    /// What is asked.
+    pub(crate) fn what(&self) -> What
+        ensures { result ≡ self.now.what }
+    {
+        self.what
+    }
+
+    /// Whether this asks something of the same path.
+    pub(crate) fn is_at(&self, request: &Request) -> bool {
+        match parts_of(request) {
+            Some((_, path)) => path == self.path.as_slice(),
+            None => false,
+        }
+    }
+
+    /// Whether this asks for the same.
+    pub(crate) fn is_of(&self, request: &Request) -> bool
+        ensures { IsTrue result → asked_ahead request.now ≡ Some (self.now.what, self.now.path) }
+    {
+        match parts_of(request) {
+            Some((what, path)) if is_same(what, self.what) => path == self.path.as_slice(),
+            _ => false,
+        }
+    }
+}
+
+fn is_same(one: What, other: What) -> bool
+    ensures { IsTrue result → one ≡ other }
+{
+    match (one, other) {
+        (What::Download, What::Download) | (What::Upload, What::Upload) => true,
+        (What::Listing, What::Listing) | (What::Removal, What::Removal) => true,
+        (What::Size, What::Size) | (What::Moment, What::Moment) => true,
+        _ => false,
+    }
+}
+
+/// What a request asks of which path: of a download all of the file.
+fn parts_of(request: &Request) -> Option<(What, &[u8])>
+    ensures { option_map (λ parts. (parts.0, parts.1.now)) result ≡ asked_ahead request.now }
+{
+    match request {
+        Request::One(Some(Op::List(path, _))) => Some((What::Listing, path.as_slice())),
+        Request::One(Some(Op::Text(_, path, _))) => Some((What::Listing, path.as_slice())),
+        Request::One(Some(Op::Delete(path))) => Some((What::Removal, path.as_slice())),
+        Request::One(Some(Op::Size(path, _))) => Some((What::Size, path.as_slice())),
+        Request::One(Some(Op::Modified(path))) => Some((What::Moment, path.as_slice())),
+        Request::Download(Some(Op::Get(path, _)), _) => Some((What::Download, path.as_slice())),
+        Request::Upload(Some((path, _)), _) => Some((What::Upload, path.as_slice())),
+        Request::Drawn(Some(Op::Put(path, _, _)), _) => Some((What::Upload, path.as_slice())),
+        _ => None,
+    }
+}
+
+/// Whether what was asked ahead by this ticket, or by none, is the answer to what is asked by one or none: what went over its data connection is of whoever
+/// has its ticket, and of nobody else.
+pub(crate) fn is_for(held: Option<Ticket>, asked: Option<Ticket>) -> bool
+    ensures { result ≡ is_for held asked }
+{
+    match (held, asked) {
+        (Some(held), Some(asked)) => held.number == asked.number,
+        (None, None) => true,
+        _ => false,
+    }
+}
+
+/// Whether this is a fact of a file, which a reply alone tells.
+pub(crate) fn is_fact(what: What) -> bool
+    ensures { result ≡ is_fact what }
+{
+    matches!(what, What::Size | What::Moment)
+}
+
+/// Whether octets of a file go over its data connection.
+pub(crate) fn is_transfer(what: What) -> bool {
+    matches!(what, What::Download | What::Upload)
+}
+
+/// Whether a request that is asked in its turn leaves the files of the server as they are; of what is not asked ahead that is not known.
+pub(crate) fn changes_none(request: &Request) -> bool {
+    match parts_of(request) {
+        Some((what, _)) => leaves_all(what),
+        None => matches!(request, Request::Download(_, _)),
+    }
+}
+
+/// Whether this leaves the files of the server as they are.
+fn leaves_all(what: What) -> bool
+    ensures { result ≡ leaves_all what }
+{
+    !matches!(what, What::Upload | What::Removal)
+}
+
+/// Whether a request is asked ahead only over a control connection whose login was accepted.
+pub(crate) fn wants_login_of(request: &Request) -> bool {
+    match parts_of(request) {
+        Some((what, _)) => wants_login(what),
+        None => false,
+    }
+}
+
+/// The same of what is asked.
+fn wants_login(what: What) -> bool
+    ensures { result ≡ wants_login what }
+{
+    matches!(what, What::Removal)
+}
+
+/// Whether an answer that came ahead is given: another one is asked for once more in its turn, so that what is told of it is of that.
+pub(crate) fn is_given(what: What, answer: &Answer<Global>) -> bool
+    ensures { result ≡ is_given what answer.now }
+{
+    match what {
+        What::Size | What::Moment => is_told(answer),
+        What::Removal => is_removed(answer),
+        What::Download | What::Upload | What::Listing => is_done(answer),
+    }
+}
+
+/// Whether the answer to a removal is given: it is done, or its control connection ended, and then it may be done.
+fn is_removed(answer: &Answer<Global>) -> bool
+    ensures { result ≡ is_removed answer.now }
+{
+    matches!(answer, Answer::Done | Answer::Lost)
+}
+
+/// Whether the answer to the question for a fact is given: the fact, or that there is none.
+fn is_told(answer: &Answer<Global>) -> bool
+    ensures { result ≡ is_told answer.now }
+{
+    match answer {
+        Answer::Number(_) | Answer::Stamp(_) => true,
+        Answer::Refused(code) => says_none(*code),
+        _ => false,
+    }
+}
+
+/// Whether a server says by this code that it tells no such fact, or has no such file.
+fn says_none(code: u16) -> bool
+    ensures { result ≡ says_none code }
+{
+    code == UNKNOWN || code == NOT_IMPLEMENTED || code == UNAVAILABLE
+}
+
+/// Whether the answer to anything else is given: it is done, or its data connection broke.
+fn is_done(answer: &Answer<Global>) -> bool
+    ensures { result ≡ is_done answer.now }
+{
+    match answer {
+        Answer::Done | Answer::Octets(_) | Answer::Entries(_) => true,
+        Answer::Broken { got: _, mark: _ } => true,
+        _ => false,
+    }
+}

@@ -1,0 +1,37 @@
+// The end of a control connection while an upload is under way: a client may hang up right behind its last octet (own choice; RFC 959, section 4.1.3).
+ghost use Rattle.std.specs.Prelude.{◌≡◌};
+ghost use Rattle.tool_polling.specs.Looking.{told_beside};
+
+use ftp_ports::Spoken;
+
+/// How long the end of a control connection waits for octets of an upload, in milliseconds.
+pub(crate) const HELD_MILLIS: u64 = 10_000;
+
+/// What the end of a control connection does while octets come over a data connection.
+#[derive(Clone, Copy)]
+pub(crate) enum Hangup {
+    /// It is told at once.
+    AtOnce,
+    /// It is told once the data connection ended or broke, or gave nothing for ten seconds.
+    AfterUpload,
+}
+
+/// What a data connection gives over which octets come.
+#[derive(Clone, Copy)]
+pub(crate) enum Gift {
+    /// Octets, its end, or its break.
+    Something,
+    /// Nothing for so many milliseconds, since the control connection ended or since the last octet.
+    NothingFor(u64),
+}
+
+/// What is told of a control connection that has this, beside an upload whose data connection gives that.
+pub(crate) fn told_beside(control: Spoken, gift: Gift) -> Spoken
+    ensures { result ≡ told_beside control gift }
+{
+    match (control, gift) {
+        (Spoken::Ended, Gift::Something) => Spoken::Nothing,
+        (Spoken::Ended, Gift::NothingFor(millis)) if millis < HELD_MILLIS => Spoken::Nothing,
+        (control, _) => control,
+    }
+}

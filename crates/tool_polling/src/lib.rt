@@ -1,0 +1,24 @@
+//! Real connections of a server that serves several clients in one thread: each is looked at, and none is waited for. What a client is waited for, the
+//! round of all polls (RFC 959, section 2.3).
+#![tactic(auto)]
+
+mod awaits;
+mod control;
+mod hangup;
+pub mod laws;
+mod leaving;
+mod line;
+mod link;
+mod opening;
+mod passive;
+mod ports;
+mod timeouts;
+
+pub use awaits::Awaits;
+pub use control::{LineReader, LineWriter};
+pub use leaving::Leaving;
+pub use line::Line;
+pub use link::LineLink;
+pub use passive::PassivePorts;
+pub use ports::LinePorts;
+pub use timeouts::{Limits, Over, Timeouts};

@@ -1,0 +1,146 @@
+// What an answer that is none of those wished for tells, in a sentence and an exit status.
+use ftp_operation::Answer;
+use std::alloc::Global;
+use std::fmt::{Display, Formatter};
+use std::io::Eprint;
+use std::{fmt, io};
+use tool_session::{LastReply, Refusal, Stranger, told};
+use tool_status::Status;
+use tool_terminal::Shown;
+
+/// Tells on standard error why an operation at a path was not done, and gives the exit status; `stranger` is how another host may have come to be at the
+/// other end of its data connection.
+pub fn tell<R: Eprint>(
+    rt: &R,
+    path: &str,
+    stranger: Stranger,
+    answer: &Answer<Global>,
+    noticed: &LastReply,
+) -> io::Result<Status> {
+    let status = status(answer);
+    match answer {
+        Answer::Refused(code) => {
+            let why = Refused {
+                path: Shown(path.as_bytes()),
+                refusal: noticed.refusal(*code),
+            };
+            told(rt, "error: ", &why, "", status)
+        }
+        Answer::Lost => told(
+            rt,
+            "error: the control connection ended",
+            &noticed.farewell(),
+            extent_of(noticed.is_mute()),
+            status,
+        ),
+        Answer::Foreign => told(rt, "error: ", &stranger.sentence(), "", status),
+        Answer::Strange => told(
+            rt,
+            "error: the server says what has no place",
+            &noticed.said(),
+            "",
+            status,
+        ),
+        other => told(rt, "error: ", &sentence(other), "", status),
+    }
+}
+
+/// What a server refuses, and how it says so.
+#[derive(Clone, Copy)]
+struct Refused<'a> {
+    path: Shown<'a>,
+    refusal: Refusal<'a>,
+}
+
+impl<'a> Display for Refused<'a> {
+    fn fmt<W: fmt::Write>(&self, formatter: &mut Formatter<W>) -> fmt::Result {
+        let Refused { path, refusal } = self;
+        write!(formatter, "{path}: the server refuses it: {refusal}")
+    }
+}
+
+/// How much may be done where a control connection ended, by whether the server said nothing at all.
+fn extent_of(is_mute: bool) -> &'static str {
+    if is_mute {
+        "; nothing is done"
+    } else {
+        "; it may be done in part"
+    }
+}
+
+fn sentence(answer: &Answer<Global>) -> &'static str {
+    match answer {
+        Answer::BadOperation => "the path is no path that can be sent",
+        Answer::Unopened => "no data connection was opened, and nothing is done",
+        Answer::Broken { got: _, mark: _ } => "the data connection broke; it may be done in part",
+        Answer::Memory => "out of memory",
+        _ => "the server answers what was not asked",
+    }
+}
+
+fn status(answer: &Answer<Global>) -> Status {
+    match answer {
+        Answer::BadOperation => Status::BadWords,
+        Answer::Refused(_) | Answer::Broken { got: _, mark: _ } => Status::Refused,
+        Answer::Unopened | Answer::Foreign | Answer::Strange => Status::Refused,
+        _ => Status::Failed,
+    }
+}
+
+/// Tells that a file has too many octets to be held in memory, and gives the exit status.
+pub fn tell_too_large<R: Eprint>(rt: &R, name: &str, size: u64, limit: u64) -> io::Result<Status> {
+    let part = TooLarge {
+        name: Shown(name.as_bytes()),
+        part: Part {
+            count: size,
+            between: " octets are past the limit of ",
+            total: limit,
+        },
+    };
+    told(
+        rt,
+        "error: ",
+        &part,
+        ", which --limit sets",
+        Status::Refused,
+    )
+}
+
+/// A file that has too many octets.
+#[derive(Clone, Copy)]
+struct TooLarge<'a> {
+    name: Shown<'a>,
+    part: Part<'a>,
+}
+
+impl<'a> Display for TooLarge<'a> {
+    fn fmt<W: fmt::Write>(&self, formatter: &mut Formatter<W>) -> fmt::Result {
+        write!(formatter, "{}: {}", self.name, self.part)
+    }
+}
+
+/// How much of a file there is, as it is told: both numbers, and a text between them.
+#[derive(Clone, Copy)]
+pub struct Part<'a> {
+    pub count: u64,
+    pub between: &'a str,
+    pub total: u64,
+}
+
+impl<'a> Display for Part<'a> {
+    fn fmt<W: fmt::Write>(&self, formatter: &mut Formatter<W>) -> fmt::Result {
+        write!(formatter, "{}{}{}", self.count, self.between, self.total)
+    }
+}
+
+/// How much of a file a server has, as it is told.
+#[derive(Clone, Copy)]
+pub(crate) struct Had<'a> {
+    pub(crate) part: Part<'a>,
+}
+
+impl<'a> Display for Had<'a> {
+    fn fmt<W: fmt::Write>(&self, formatter: &mut Formatter<W>) -> fmt::Result {
+        write!(formatter, "the server has {}", self.part)
+    }
+}

@@ -1,0 +1,75 @@
+// What uploads and downloads that go on have in common.
+ghost use Rattle.std.specs.Prelude.{◌≡◌};
+ghost use Rattle.ftp_operation.specs.declared.answer.Answer.{Answer};
+ghost use Rattle.tool_status.specs.declared.step.Front.{Front};
+ghost use Rattle.tool_resume.specs.Trying.{ended_by, there_by};
+
+use ftp_facts::Text;
+use ftp_operation::{Answer, How, Op};
+use ftp_reply::code::{GIVEN_UP, UNAVAILABLE};
+use ftp_settings::{Kind, Structure};
+use std::alloc::{AllocError, Global};
+use tool_session::Request;
+use tool_status::{Ended, Front, There};
+
+/// Whether SIZE counts the octets of the transfer: in type I and file structure.
+pub fn is_counted(how: How) -> bool {
+    let form = how.representation;
+    form.kind == Kind::Image && form.structure == Structure::File
+}
+
+/// A question for the size of a file (RFC 3659, section 4).
+pub(crate) fn size_request(alloc: Global, path: &str, how: How) -> Result<Request, AllocError> {
+    let path = Text::copy_of(alloc, path.as_bytes())?;
+    Ok(Request::One(Some(Op::Size(path, how))))
+}
+
+/// A question for the moment of a file's last change (RFC 3659, section 3).
+pub(crate) fn moment_request(alloc: Global, path: &str) -> Result<Request, AllocError> {
+    let path = Text::copy_of(alloc, path.as_bytes())?;
+    Ok(Request::One(Some(Op::Modified(path))))
+}
+
+/// How a try ended that was answered so, with a data connection or without, which ended, or did not although all is done; none where its answer is
+/// told, whatever is there.
+pub(crate) fn ended_of(answer: &Answer<Global>, is_opened: bool, is_unended: bool) -> Option<Ended>
+    ensures { result ≡ ended_by answer.now is_opened is_unended }
+{
+    match answer {
+        Answer::Done => Some(Ended::Done),
+        Answer::Broken { got: _, mark: _ } if is_unended => Some(Ended::Unended),
+        Answer::Broken { got: _, mark: _ } => Some(Ended::Broken),
+        Answer::Refused(GIVEN_UP) if is_opened => Some(Ended::Failed),
+        Answer::Unopened => Some(Ended::Unopened),
+        _ => None,
+    }
+}
+
+/// What the answer to SIZE tells.
+pub(crate) fn there_of(answer: &Answer<Global>) -> There
+    ensures { result ≡ there_by answer.now }
+{
+    match answer {
+        Answer::Number(count) => There::Octets(*count),
+        Answer::Refused(UNAVAILABLE) => There::Nothing,
+        Answer::Lost | Answer::Strange => There::Lost,
+        _ => There::Untold,
+    }
+}
+
+/// What was read back of the end of a front, beside the source's own octets at that place.
+pub(crate) fn front_of(answer: &Answer<Global>, own: &[u8]) -> Front
+    ensures { result ≡ Front.Own → answer.now ≡ Answer.Octets own.now }
+{
+    match answer {
+        Answer::Octets(octets) => {
+            if octets.as_slice() == own {
+                Front::Own
+            } else {
+                Front::Other
+            }
+        }
+        Answer::Lost | Answer::Strange => Front::Lost,
+        _ => Front::Other,
+    }
+}

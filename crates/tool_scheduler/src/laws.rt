@@ -1,0 +1,18 @@
+//! What holds of turns in order: functions that do nothing, whose contracts are laws.
+ghost use Rattle.tool_scheduler.specs.Fair.{FairFromTheStart, NobodyIsPassedTwice, PlacesStay};
+ghost use Rattle.tool_scheduler.specs.Waits.{EachAddressHasATurn, NobodyHasTwoTurns, NobodyWaitsForLong};
+
+/// Who waits and is ready is passed over by each of the others once at most, so by fewer turns than there are places; and the places stay the same.
+pub fn turns_are_fair()
+    ensures passed { NobodyIsPassedTwice }
+    ensures stay { PlacesStay }
+    ensures start { FairFromTheStart }
+{}
+
+/// In each round one session of each address that is ready has a turn, and none has two; and whoever is ready has its turn before as many more rounds begin as
+/// there are places.
+pub fn rounds_are_fair()
+    ensures address { EachAddressHasATurn }
+    ensures once { NobodyHasTwoTurns }
+    ensures soon { NobodyWaitsForLong }
+{}

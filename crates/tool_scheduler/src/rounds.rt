@@ -1,0 +1,441 @@
+// The rounds: one poll, and then those who leave, a turn of each session that is ready, and the clients that came.
+ghost use Rattle.std.specs.Global.{Global};
+ghost use Rattle.std.specs.Prelude.{◌≡◌, ◌≢◌, ◌∷◌, [], ℕ, min, None, false, true};
+ghost use Rattle.ftp_ports.specs.Asking.{Adds};
+ghost use Rattle.tool_scheduler.specs.Order.{first_ready};
+ghost use Rattle.tool_scheduler.specs.Rounds.{AreRounds, AreTaken, Comes, Gave, Goes, IsDone, LeavesAddress, LeavesPlace, Spares, Standing};
+ghost use Rattle.tool_scheduler.specs.Rounds.{is_taken, place_of, standing, told_if};
+
+use crate::door::{Caller, Door};
+use crate::house::{Full, House};
+use crate::input::Heeded;
+use crate::order::Order;
+use crate::rows::Rows;
+use crate::slot::{Course, Slot, Slots, Turn};
+use crate::table::{Table, Taken, awaits_at, crowded_in, spare_in};
+use crate::waiting::{MOST_SLOTS, Waiting, leave_one};
+use ftp_ports::TURNS;
+use std::alloc::{AllocError, Global};
+use std::net::{SocketAddr, TcpListener, TcpStream};
+use tool_polling::{Awaits, Leaving, Over};
+use tool_sockets::monotonic_millis;
+
+/// The most connections that are kept a moment behind their last reply; others are dropped at once.
+const MOST_LEAVING: usize = 64;
+
+/// How long a round is, in milliseconds, in which a second session of an address has its turn.
+const ROUND_MILLIS: u64 = 20;
+
+/// The most clients that are taken in one round.
+const MOST_CALLERS: u32 = 16;
+
+/// Where the door and standard input stand among those who wait, and the first slot.
+const DOOR: usize = 0;
+
+const INPUT: usize = 1;
+
+const FIRST_SLOT: usize = 2;
+
+/// Serves clients at a port, as many at once as the house has slots, over one tree, until the house has had its sessions or stops. Gives whether all of
+/// them went well.
+#[tactic(auto, using(crate::proofs::RoundLemmas::goes_rounds, crate::proofs::RoundLemmas::no_rounds, crate::proofs::RoundLemmas::rounds_begin))]
+pub fn serve_rounds<M: Slots>(
+    alloc: Global,
+    house: House,
+    listener: &TcpListener,
+    slots: &M,
+    tree: &mut M::Tree,
+) -> Result<bool, AllocError>
+    ensures { AreRounds (min house.at_once 64) (M.Slot.history tree.old) (M.Slot.history tree.new) }
+{
+    let count = house.at_once.min(MOST_SLOTS);
+    let mut order = Order::new(alloc, count)?;
+    let mut rounds = Rounds::new(alloc, house, count, listener, slots)?;
+    for _ in 0..TURNS {
+        if rounds.is_over() {
+            break;
+        }
+        rounds.round(&mut order, tree);
+    }
+    Ok(rounds.went_well)
+}
+
+/// All that is served, and who waits to be.
+struct Rounds<'a, M: Slots> {
+    house: House,
+    slots: &'a M,
+    door: Door<'a>,
+    input: Heeded,
+    table: Table<M::Slot>,
+    leaving: Vec<Leaving, Global>,
+    rows: Rows,
+    went_well: bool,
+}
+
+impl<'a, M: Slots> Drop for Rounds<'a, M> {
+    fn drop(self) {
+        let Self {
+            house: _,
+            slots: _,
+            door: _,
+            input: _,
+            table: _,
+            leaving: _,
+            rows: _,
+            went_well: _,
+        } = self;
+    }
+}
+
+impl<'a, M: Slots> Rounds<'a, M> {
+    /// Nobody is served yet, of so many slots.
+    fn new(
+        alloc: Global,
+        house: House,
+        count: usize,
+        listener: &'a TcpListener,
+        slots: &'a M,
+    ) -> Result<Rounds<'a, M>, AllocError> {
+        let table = Table::new(alloc, count)?;
+        let leaving = Vec::with_capacity(alloc, MOST_LEAVING)?;
+        let rows = Rows::new(alloc, FIRST_SLOT + MOST_SLOTS + MOST_LEAVING)?;
+        Ok(Rounds {
+            house,
+            slots,
+            door: Door::new(listener),
+            input: Heeded::new(house.input),
+            table,
+            leaving,
+            rows,
+            went_well: true,
+        })
+    }
+
+    /// Whether nobody is served, and nobody will be.
+    fn is_over(&self) -> bool {
+        self.takes_nobody() && self.table.taken() == 0 && self.leaving.is_empty()
+    }
+
+    /// Whether no client is taken any more.
+    fn takes_nobody(&self) -> bool {
+        self.input.stops().is_some() || self.house.sessions == Some(0)
+    }
+
+    /// One round.
+    fn round(&mut self, order: &mut Order<Global>, tree: &mut M::Tree)
+        ensures { (old : Standing) → IsDone old → old.order ≡ order.old → Goes (M.Slot.history tree.old) (M.Slot.history tree.new) old order.new }
+    {
+        self.stop_some();
+        self.await_all();
+        self.rows.poll();
+        if self.rows.is_told(INPUT) {
+            self.input = self.input.read(self.rows.now());
+        }
+        self.let_go();
+        self.turns(order, tree);
+        self.welcome_all(tree);
+    }
+
+    /// Where the server stops, ends each session that does nothing, and all of them once transfers may go on no longer.
+    fn stop_some(&mut self) {
+        let Some(until) = self.input.stops() else {
+            return;
+        };
+        let is_late = until <= self.rows.now();
+        for place in 0..self.table.count() {
+            if let Some(taken) = self.table.at(place) {
+                if is_late || !taken.session.is_busy() {
+                    taken.session.timeouts().end(Over::Stopped);
+                }
+            }
+        }
+    }
+
+    /// Puts together what all wait for.
+    fn await_all(&mut self) {
+        let at_door = self.door_awaits();
+        self.rows.clear();
+        self.rows.add(at_door);
+        let at_input = self.input.awaits(self.rows.now());
+        self.rows.add(at_input);
+        for place in 0..self.table.count() {
+            let awaits = awaits_at(&self.table, place);
+            self.rows.add(awaits);
+        }
+        for leaving in self.leaving.iter() {
+            self.rows.add(leaving.awaits());
+        }
+    }
+
+    /// What is waited for at the door: clients that may be taken; of one who serves one at a time, beside a session, that another client waits.
+    fn door_awaits(&self) -> Awaits {
+        let is_looked_at = match self.only_one() {
+            Some(taken) => !taken.session.timeouts().is_waited(),
+            None => !self.takes_nobody(),
+        };
+        if is_looked_at {
+            self.door.awaits(self.rows.now())
+        } else {
+            Awaits::nothing()
+        }
+    }
+
+    /// The session beside which others wait at the door, of one who serves one at a time.
+    fn only_one(&self) -> Option<&Taken<M::Slot>> {
+        if self.house.at_once == 1 {
+            self.table.at(0)
+        } else {
+            None
+        }
+    }
+
+    /// Lets go what is over of those who leave.
+    fn let_go(&mut self) {
+        self.leaving.retain_mut(|leaving| leaving.stays());
+    }
+
+    /// A turn of one session of each address, of those that are ready; and then, while the round is short, of the others. Of those whose next turn may hash a
+    /// password only one is ready.
+    #[tactic(auto, using(crate::proofs::RoundLemmas::taken_one))]
+    fn turns(&mut self, order: &mut Order<Global>, tree: &mut M::Tree)
+        ensures { (old : Standing) → IsDone old → old.order ≡ order.old → Goes (M.Slot.history tree.old) (M.Slot.history tree.new) old order.new }
+    {
+        let mut ready = self.ready();
+        let hashing = self.hashing();
+        leave_one(order, &hashing, &mut ready);
+        let hosts = self.hosts();
+        self.slots.begin_round(&ready, &hosts, tree);
+        let mut waiting = Waiting {
+            first: ready,
+            ready,
+            hosts,
+        };
+        self.first_turns(order, &mut waiting, tree);
+        self.other_turns(order, &mut waiting, tree);
+    }
+
+    /// A turn of one session of each address.
+    #[tactic(auto, using(crate::proofs::RoundLemmas::comes_nothing))]
+    fn first_turns(&mut self, order: &mut Order<Global>, waiting: &mut Waiting, tree: &mut M::Tree)
+        requires first { AreTaken waiting.old.first self.old.table.slots.items }
+        requires ready { AreTaken waiting.old.ready self.old.table.slots.items }
+        ensures told { Comes (M.Slot.history tree.old) (M.Slot.history tree.new)
+            (standing waiting.old order.old false) (standing waiting.new order.new false) }
+        ensures done { first_ready waiting.new.first order.new ≡ None }
+        ensures taken { AreTaken waiting.new.ready self.new.table.slots.items }
+    {
+        while let Some(place) = order.take(&waiting.first) {
+            self.give(place, waiting, tree);
+        }
+    }
+
+    /// Turns of the others, until the round is long. Who is ready after that has a turn in the next one.
+    #[tactic(auto, using(crate::proofs::RoundLemmas::others_begin, crate::proofs::RoundLemmas::others_go))]
+    fn other_turns(&mut self, order: &mut Order<Global>, waiting: &mut Waiting, tree: &mut M::Tree)
+        requires done { first_ready waiting.old.first order.old ≡ None }
+        requires ready { AreTaken waiting.old.ready self.old.table.slots.items }
+        ensures { Goes (M.Slot.history tree.old) (M.Slot.history tree.new) (standing waiting.old order.old false) order.new }
+    {
+        let until = self.rows.now().saturating_add(ROUND_MILLIS);
+        for _ in 0..MOST_SLOTS {
+            if until <= monotonic_millis() {
+                return;
+            }
+            let Some(place) = order.take(&waiting.ready) else {
+                return;
+            };
+            self.give(place, waiting, tree);
+        }
+    }
+
+    /// A turn of one that is ready, in order.
+    #[tactic(auto, using(crate::proofs::RoundLemmas::taken_place, crate::proofs::RoundLemmas::taken_address, crate::proofs::RoundLemmas::told_taken))]
+    fn give(&mut self, place: usize, waiting: &mut Waiting, tree: &mut M::Tree)
+        requires { is_taken self.old.table.slots.items place ≡ true }
+        ensures told { Adds (M.Slot.history tree.old) (M.Slot.history tree.new) (Gave place ∷ []) }
+        ensures first { LeavesAddress waiting.old.hosts place waiting.old.first waiting.new.first }
+        ensures ready { LeavesPlace place waiting.old.ready waiting.new.ready }
+        ensures hosts { waiting.new.hosts ≡ waiting.old.hosts }
+        ensures taken { AreTaken waiting.old.ready self.old.table.slots.items → AreTaken waiting.new.ready self.new.table.slots.items }
+        ensures taken_first { AreTaken waiting.old.first self.old.table.slots.items → AreTaken waiting.new.first self.new.table.slots.items }
+    {
+        waiting.had_turn(place);
+        self.turn(Turn::Next(place), tree);
+    }
+
+    /// Who is ready.
+    fn ready(&self) -> [bool; MOST_SLOTS]
+        ensures { AreTaken result self.now.table.slots.items }
+    {
+        let mut ready = [false; MOST_SLOTS];
+        for place in 0..MOST_SLOTS {
+            ready[place] = self.is_ready(place);
+        }
+        ready
+    }
+
+    /// Whose next turn may hash a password.
+    fn hashing(&self) -> [bool; MOST_SLOTS] {
+        let mut hashing = [false; MOST_SLOTS];
+        for (place, hashes) in hashing.iter_mut().enumerate() {
+            if let Some(taken) = self.table.at(place) {
+                *hashes = taken.session.may_hash();
+            }
+        }
+        hashing
+    }
+
+    /// As whom the client in each slot counts.
+    fn hosts(&self) -> [u128; MOST_SLOTS] {
+        let mut hosts = [0; MOST_SLOTS];
+        for (place, host) in hosts.iter_mut().enumerate() {
+            if let Some(taken) = self.table.at(place) {
+                *host = taken.host;
+            }
+        }
+        hosts
+    }
+
+    /// Whether a session goes on.
+    fn is_ready(&self, place: usize) -> bool
+        ensures { result ≡ true → is_taken self.now.table.slots.items place ≡ true }
+    {
+        let Some(taken) = self.table.at(place) else {
+            return false;
+        };
+        if let Course::More = taken.course {
+            return true;
+        }
+        taken.session.awaits().until <= self.rows.now()
+            || self.rows.is_told(FIRST_SLOT.saturating_add(place))
+            || taken.session.timeouts().left() == Some(0)
+    }
+
+    /// A turn of the session in a slot; that is free where it is over.
+    fn turn(&mut self, turn: Turn, tree: &mut M::Tree)
+        ensures told { Adds (M.Slot.history tree.old) (M.Slot.history tree.new)
+            (told_if (is_taken self.old.table.slots.items (place_of turn)) turn) }
+        ensures others { (other : ℕ) → other ≢ place_of turn
+            → is_taken self.new.table.slots.items other ≡ is_taken self.old.table.slots.items other }
+    {
+        let place = turn.place();
+        let told = self.rows.take(FIRST_SLOT.saturating_add(place));
+        let Some(mut taken) = self.table.free(place) else {
+            return;
+        };
+        taken.course = taken.session.turn(turn, told, tree);
+        match taken.course {
+            Course::Over => self.leave(taken),
+            Course::Later | Course::More => self.table.put(place, taken),
+        }
+    }
+
+    /// A session is over. A session is large, and a function pays at each call for the room of all that it may hold: so this one, which drops one, and
+    /// `slot`, which makes one, are no part of a turn and of a round.
+    #[inline(never)]
+    fn leave(&mut self, taken: Taken<M::Slot>)
+        ensures { self.new.table ≡ self.old.table }
+    {
+        let mut taken = taken;
+        let (leaving, went_well) = taken.session.leave();
+        self.went_well &= went_well;
+        self.keep(leaving);
+    }
+
+    /// Keeps connections a moment behind their last reply, where any stays.
+    fn keep(&mut self, leaving: Leaving)
+        ensures { self.new.table ≡ self.old.table }
+    {
+        let mut leaving = leaving;
+        if self.leaving.len() < MOST_LEAVING && leaving.stays() {
+            let _kept = self.leaving.push(leaving);
+        }
+    }
+
+    /// Takes the clients that came.
+    #[tactic(auto, using(crate::proofs::RoundLemmas::spares_nothing, crate::proofs::RoundLemmas::spares_then, crate::proofs::RoundLemmas::spares_one))]
+    fn welcome_all(&mut self, tree: &mut M::Tree)
+        ensures { Spares (M.Slot.history tree.old) (M.Slot.history tree.new) }
+    {
+        if !self.rows.is_told(DOOR) {
+            return;
+        }
+        if let Some(taken) = self.only_one() {
+            taken.session.timeouts().others_wait();
+        }
+        for _ in 0..MOST_CALLERS {
+            if self.takes_nobody() || self.only_one().is_some() {
+                return;
+            }
+            match self.door.next() {
+                Caller::Nobody => return,
+                Caller::Failed(error) => self.slots.none_came(error),
+                Caller::Client(stream, peer) => self.welcome(stream, peer, tree),
+            }
+        }
+    }
+
+    /// A client came. Where there is no slot for it, another session is ended, if one may be.
+    #[tactic(auto, using(crate::proofs::RoundLemmas::spares_nothing, crate::proofs::RoundLemmas::spares_then, crate::proofs::RoundLemmas::spares_one))]
+    fn welcome(&mut self, stream: TcpStream, peer: SocketAddr, tree: &mut M::Tree)
+        ensures { Spares (M.Slot.history tree.old) (M.Slot.history tree.new) }
+    {
+        let host = self.slots.host(peer);
+        if let Some(why) = self.full(host) {
+            self.spare(why, host, tree);
+        }
+        match self.full(host) {
+            None => self.slot(stream, peer, tree),
+            Some(why) => self.turn_away(stream, peer, why),
+        }
+    }
+
+    /// Why there is no slot for a client that counts as this one.
+    fn full(&self, host: u128) -> Option<Full> {
+        let taken = self.table.taken();
+        self.house.full(taken, self.table.of_host(host))
+    }
+
+    /// The session that might be ended for another client for the longest time, and why: of those from its address, where that has too many. Where there is
+    /// none, and its address has no slot, one of the address that has the most.
+    fn spared(&self, why: Full, host: u128) -> Option<(usize, Over)> {
+        if let Full::Host = why {
+            return spare_in(&self.table, Some(host));
+        }
+        match spare_in(&self.table, None) {
+            Some(spare) => Some(spare),
+            None if self.table.of_host(host) == 0 => crowded_in(&self.table),
+            None => None,
+        }
+    }
+
+    /// Ends the session that might be ended for another client, if there is one.
+    #[tactic(auto, using(crate::proofs::RoundLemmas::spares_nothing, crate::proofs::RoundLemmas::spares_then, crate::proofs::RoundLemmas::spares_one))]
+    fn spare(&mut self, why: Full, host: u128, tree: &mut M::Tree)
+        ensures { Spares (M.Slot.history tree.old) (M.Slot.history tree.new) }
+    {
+        if let Some((place, over)) = self.spared(why, host) {
+            if let Some(taken) = self.table.at(place) {
+                taken.session.timeouts().end(over);
+            }
+            self.turn(Turn::Last(place), tree);
+        }
+    }
+
+    /// Slots a client; one that could not be in_slot counts as a session that failed.
+    #[inline(never)]
+    fn slot(&mut self, stream: TcpStream, peer: SocketAddr, tree: &M::Tree) {
+        self.house.sessions = self.house.sessions.map(|count| count.saturating_sub(1));
+        match self.slots.slot(stream, peer, tree) {
+            Some(session) => self.table.take(session, self.slots.host(peer)),
+            None => self.went_well = false,
+        }
+    }
+
+    /// Tells a client that there is no slot.
+    fn turn_away(&mut self, stream: TcpStream, peer: SocketAddr, why: Full) {
+        if let Some(line) = self.slots.turn_away(stream, peer, why) {
+            self.keep(Leaving::new(Some(line), None));
+        }
+    }
+}

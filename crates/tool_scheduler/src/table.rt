@@ -1,0 +1,152 @@
+// The slots of all sessions.
+ghost use Rattle.std.specs.Global.{Global};
+ghost use Rattle.std.specs.Prelude.{◌≡◌, ◌≢◌, ◌↔◌, ℕ, IsTrue, IsSome};
+ghost use Rattle.tool_scheduler.specs.Rounds.{is_taken};
+
+use crate::crowd::{Sitting, crowded_place};
+use crate::slot::{Course, Slot};
+use crate::waiting::MOST_SLOTS;
+use std::alloc::{AllocError, Global};
+use tool_polling::{Awaits, Over};
+use tool_sockets::monotonic_millis;
+
+/// A slot that is taken.
+#[derive(Drop)]
+pub(crate) struct Taken<S: Drop> {
+    pub(crate) session: Box<S, Global>,
+    /// As whom its client counts.
+    pub(crate) host: u128,
+    /// How its last turn ended.
+    pub(crate) course: Course,
+}
+
+/// Slots, each with a session or without.
+#[derive(Drop)]
+pub(crate) struct Table<S: Drop> {
+    pub(crate) slots: Vec<Option<Taken<S>>, Global>,
+}
+
+impl<S: Drop> Table<S> {
+    /// So many free slots.
+    pub(crate) fn new(alloc: Global, count: usize) -> Result<Table<S>, AllocError> {
+        let mut slots = Vec::new(alloc);
+        for _ in 0..count {
+            slots.push(None)?;
+        }
+        Ok(Table { slots })
+    }
+
+    /// How many are taken.
+    pub(crate) fn taken(&self) -> usize {
+        self.slots.iter().filter(|slot| slot.is_some()).count()
+    }
+
+    /// How many are taken by clients that count as this one.
+    pub(crate) fn of_host(&self, host: u128) -> usize {
+        self.slots
+            .iter()
+            .filter(|slot| slot.as_ref().is_some_and(|taken| taken.host == host))
+            .count()
+    }
+
+    /// How many slots there are.
+    pub(crate) fn count(&self) -> usize {
+        self.slots.len()
+    }
+
+    /// The session in a slot.
+    pub(crate) fn at(&self, place: usize) -> Option<&Taken<S>>
+        ensures { IsTrue (is_taken self.now.slots.items place) ↔ IsSome result }
+    {
+        self.slots.get(place)?.as_ref()
+    }
+
+    /// Frees a slot, and gives the session that had it.
+    pub(crate) fn free(&mut self, place: usize) -> Option<Taken<S>>
+        ensures had { IsTrue (is_taken self.old.slots.items place) ↔ IsSome result }
+        ensures others { (other : ℕ) → other ≢ place → is_taken self.new.slots.items other ≡ is_taken self.old.slots.items other }
+    {
+        self.slots.get_mut(place)?.take()
+    }
+
+    /// Puts back a session into its slot.
+    pub(crate) fn put(&mut self, place: usize, taken: Taken<S>)
+        ensures others { (other : ℕ) → other ≢ place → is_taken self.new.slots.items other ≡ is_taken self.old.slots.items other }
+    {
+        if let Some(slot) = self.slots.get_mut(place) {
+            *slot = Some(taken);
+        }
+    }
+
+    /// Takes a free slot; where there is none, the session is let go.
+    pub(crate) fn take(&mut self, session: Box<S, Global>, host: u128) {
+        for slot in self.slots.iter_mut() {
+            if slot.is_none() {
+                *slot = Some(Taken {
+                    session,
+                    host,
+                    course: Course::More,
+                });
+                return;
+            }
+        }
+    }
+}
+
+/// What the session in a slot waits for.
+pub(crate) fn awaits_at<T, S: Slot<T>>(table: &Table<S>, place: usize) -> Awaits {
+    let Some(taken) = table.at(place) else {
+        return Awaits::nothing();
+    };
+    let mut awaits = taken.session.awaits();
+    if let Course::More = taken.course {
+        awaits.until = 0;
+    }
+    if let Some(left) = taken.session.timeouts().left() {
+        awaits.until = awaits.until.min(monotonic_millis().saturating_add(left));
+    }
+    awaits
+}
+
+/// The session that gives its slot to an address that has none, and why, where one does.
+pub(crate) fn crowded_in<T, S: Slot<T>>(table: &Table<S>) -> Option<(usize, Over)> {
+    let mut slots = [None; MOST_SLOTS];
+    for (place, slot) in slots.iter_mut().enumerate() {
+        *slot = sitting_at(table, place);
+    }
+    let place = crowded_place(&slots)?;
+    Some((place, Over::Crowded))
+}
+
+/// The session in a slot, as far as it tells whether it gives that away.
+fn sitting_at<T, S: Slot<T>>(table: &Table<S>, place: usize) -> Option<Sitting> {
+    let taken = table.at(place)?;
+    let timeouts = taken.session.timeouts();
+    Some(Sitting {
+        host: taken.host,
+        moves: timeouts.moves(),
+        quiet: timeouts.quiet(),
+    })
+}
+
+/// The session that might be ended for another client for the longest time, and why: any, or one whose client counts as this one.
+pub(crate) fn spare_in<T, S: Slot<T>>(
+    table: &Table<S>,
+    of_host: Option<u128>,
+) -> Option<(usize, Over)> {
+    let mut longest = None;
+    for place in 0..table.count() {
+        let spare = table
+            .at(place)
+            .filter(|taken| of_host.is_none() || of_host == Some(taken.host))
+            .and_then(|taken| taken.session.timeouts().spare());
+        if let Some((over, since)) = spare {
+            longest = match longest {
+                Some((_, _, most)) if most >= since => longest,
+                _ => Some((place, over, since)),
+            };
+        }
+    }
+    let (place, over, _) = longest?;
+    Some((place, over))
+}

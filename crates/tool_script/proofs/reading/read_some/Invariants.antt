@@ -1,0 +1,7 @@
+use Rattle.std.specs.Io.KnownBytes.{Keeps}
+use Rattle.tool_script.proofs.reading.read_some.Given as goal
+
+abbrev pub invariant-loop : goal.invariant-loop
+invariant-loop g l =
+    let remaining = g.R.Read.remaining in
+    Keeps (remaining l.fn.reader) (remaining l.reader)

@@ -1,0 +1,232 @@
+// One session in its slot: a server beside its connections, and the session_log of both.
+ghost use Rattle.std.specs.Global.{Global};
+
+use crate::connections::{CountedLink, CountedPorts, SaidWriter};
+use crate::goodbye::last_reply;
+use crate::session_log::{Log, SessionLog};
+use crate::tells::Tells;
+use crate::watching::Watching;
+use ftp_disk_tree::Explains;
+use ftp_operation::Accounts;
+use ftp_ports::{Cause, Ports};
+use ftp_server_driver::{Clocked, Control, Data, Turned, lent_turns};
+use ftp_server_model::Standing;
+use ftp_tree::Tree;
+use laws_server::Lends;
+use std::alloc::Global;
+use std::cell::RefCell;
+use std::net::{IpAddr, TcpStream};
+use std::rc::Rc;
+use std::time::Clock;
+use tool_log::Lines;
+use tool_login_limit::LoginLimiter;
+use tool_polling::{Awaits, Leaving, Limits, LineReader, PassivePorts, Timeouts};
+use tool_scheduler::{Course, Slot, Turn};
+use tool_sockets::{Sockets, SystemWatch};
+
+/// The most turns of a drive in one turn of a session: as many octets of a line may be heard.
+const MOST: u64 = 1_024;
+
+/// What a session needs of whoever serves it.
+#[derive(Clone, Copy)]
+pub struct Service<'a> {
+    pub log: Log,
+    pub passive: &'a PassivePorts,
+    /// The address that PASV names in place of that which the client reached, where both are of one family.
+    pub passive_address: Option<IpAddr>,
+    /// Where the log goes.
+    pub lines: &'a Lines,
+    /// The logins that were refused, over all sessions.
+    pub login_limiter: &'a RefCell<LoginLimiter<Global>>,
+}
+
+/// A client that came: who may log in, its control connection, how long it is waited for, and what its session needs.
+#[derive(Drop)]
+pub struct Guest<'a> {
+    pub accounts: Accounts<Global>,
+    pub stream: TcpStream,
+    pub waits: Limits,
+    pub service: Service<'a>,
+}
+
+/// How a session went.
+#[derive(Clone, Copy)]
+enum Went {
+    /// It goes on.
+    On,
+    /// The server was done with it.
+    Whole,
+    /// It broke off.
+    Off,
+}
+
+/// A session: its server with a clock, its control connection, its data connections, and the session_log. Between its turns the server holds a tree that has
+/// nothing.
+pub struct Session<'a, R, T, F>
+where
+    R: Sockets + Tells + Clock,
+    T: Tree<Global> + Explains,
+    F: Lends<Global, T>,
+{
+    clocked: Clocked<F, SystemWatch<'a, R>, Watching<'a, R, T>>,
+    control: Control<LineReader, SaidWriter<'a, R>>,
+    ports: CountedPorts<'a, R>,
+    data: Data<CountedLink<'a, R>>,
+    /// What stood at the path of an upload when the tree was last given back.
+    stood: Option<Standing>,
+    session_log: Rc<SessionLog<'a, R>, Global>,
+    went: Went,
+}
+
+/// Its data connection is closed, if one stands.
+impl<'a, R, T, F> Drop for Session<'a, R, T, F>
+where
+    R: Sockets + Tells + Clock,
+    T: Tree<Global> + Explains,
+    F: Lends<Global, T>,
+{
+    fn drop(self) {
+        let Self {
+            clocked: _,
+            control: _,
+            ports,
+            data,
+            stood: _,
+            session_log: _,
+            went: _,
+        } = self;
+        let mut ports = ports;
+        data.finish(&mut ports);
+    }
+}
+
+/// The connections of a session that begins.
+#[derive(Drop)]
+pub(crate) struct Connected<'a, R: Sockets + Tells> {
+    pub(crate) control: Control<LineReader, SaidWriter<'a, R>>,
+    pub(crate) ports: CountedPorts<'a, R>,
+}
+
+impl<'a, R, T, F> Session<'a, R, T, F>
+where
+    R: Sockets + Tells + Clock,
+    T: Tree<Global> + Explains,
+    F: Lends<Global, T>,
+{
+    /// A session that begins, of a server that has a bare tree; `watching` is its session_log too.
+    pub(crate) fn new(
+        rt: &'a R,
+        server: F,
+        connected: Connected<'a, R>,
+        watching: Watching<'a, R, T>,
+        session_log: Rc<SessionLog<'a, R>, Global>,
+    ) -> Session<'a, R, T, F> {
+        session_log.note("begins");
+        let Connected { control, ports } = connected;
+        Session {
+            clocked: Clocked {
+                server,
+                watch: SystemWatch::new(rt),
+                watcher: watching,
+            },
+            control,
+            ports,
+            data: Data::new(),
+            stood: None,
+            session_log,
+            went: Went::On,
+        }
+    }
+}
+
+impl<'a, R, T, F> Slot<T> for Session<'a, R, T, F>
+where
+    R: Sockets + Tells + Clock,
+    T: Tree<Global> + Explains,
+    F: Lends<Global, T>,
+{
+    fn turn(&mut self, _turn: Turn, told: Awaits, tree: &mut T) -> Course {
+        self.session_log.line().begin_turn(told);
+        self.session_log.begin(&self.clocked.server);
+        let turned = some_turns(
+            &mut self.clocked,
+            &mut self.control,
+            &mut self.ports,
+            &mut self.data,
+            tree,
+            &mut self.stood,
+        );
+        match turned {
+            Ok(Turned::Later) => Course::Later,
+            Ok(Turned::More) => Course::More,
+            Ok(Turned::Over(())) => {
+                self.went = Went::Whole;
+                Course::Over
+            }
+            Err(_) => {
+                self.went = Went::Off;
+                Course::Over
+            }
+        }
+    }
+
+    fn awaits(&self) -> Awaits {
+        self.ports.inner.awaits()
+    }
+
+    fn timeouts(&self) -> &Timeouts {
+        &self.session_log.line().timeouts
+    }
+
+    fn is_busy(&self) -> bool {
+        self.clocked.server.is_transferring() || self.clocked.server.owes()
+    }
+
+    fn may_hash(&self) -> bool {
+        self.session_log.awaits_password()
+    }
+
+    fn leave(&mut self) -> (Leaving, bool) {
+        let is_whole = matches!(self.went, Went::Whole);
+        let last = self.session_log.last_reply();
+        if let Some(last) = last {
+            self.session_log.line().say_last(last);
+        }
+        self.session_log.finish();
+        self.session_log.end(is_whole);
+        let link = self.ports.inner.take_leaving();
+        let went_well = is_whole || self.timeouts().over().is_some();
+        let line = if is_whole || last.is_some() {
+            self.session_log.share_line()
+        } else {
+            None
+        };
+        (Leaving::new(line, link), went_well)
+    }
+}
+
+/// Some turns of a drive, with the tree that is lent.
+fn some_turns<'a, R, T, F>(
+    clocked: &mut Clocked<F, SystemWatch<'a, R>, Watching<'a, R, T>>,
+    control: &mut Control<LineReader, SaidWriter<'a, R>>,
+    ports: &mut CountedPorts<'a, R>,
+    data: &mut Data<CountedLink<'a, R>>,
+    tree: &mut T,
+    stood: &mut Option<Standing>,
+) -> Result<Turned<()>, Cause>
+where
+    R: Sockets + Tells + Clock,
+    T: Tree<Global> + Explains,
+    F: Lends<Global, T>,
+{
+    lent_turns::<
+        Global,
+        T,
+        F,
+        LineReader,
+        SaidWriter<'a, R>,
+        CountedPorts<'a, R>,
+        SystemWatch<'a, R>,
+        Watching<'a, R, T>,
+    >(clocked, control, ports, data, tree, stood, MOST)
+}

@@ -1,0 +1,34 @@
+//! The program `serve`: a folder is served over real connections, several control connections at once (RFC 959).
+#![tactic(auto)]
+
+mod accounts;
+mod alone;
+mod begins;
+mod ceiling;
+mod connections;
+mod goodbye;
+mod holding;
+mod in_slot;
+mod manner;
+mod named;
+mod seating;
+mod serving;
+mod session_log;
+mod starting;
+mod telling;
+mod tells;
+mod text;
+mod watching;
+
+pub use accounts::accounts_of;
+pub use alone::session;
+pub use ftp_disk_tree::{Odd, Others};
+pub use ftp_tree::Limits;
+pub use in_slot::{Guest, Service};
+pub use serving::{Serving, serve};
+pub use session_log::Log;
+pub use tool_log::Lines;
+pub use tool_login_limit::LoginLimiter;
+pub use tool_polling::{Limits as Waits, PassivePorts};
+pub use tool_scheduler::Input;
+pub use tool_words::Sessions;

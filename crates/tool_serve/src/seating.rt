@@ -1,0 +1,197 @@
+// Who slots clients: a session is made of each, between its two ends.
+ghost use Rattle.std.specs.Global.{Global};
+ghost use Rattle.std.specs.Prelude.{◌≡◌};
+ghost use Rattle.tool_serve.specs.Listening.{told_host};
+
+use crate::accounts::accounts_told;
+use crate::begins::Begins;
+use crate::connections::{CountedPorts, SaidWriter};
+use crate::goodbye::{guessed_from, no_slot};
+use crate::in_slot::{Connected, Guest, Service, Session};
+use crate::serving::Serving;
+use crate::session_log::{Log, SessionLog};
+use crate::tells::{NoClient, Note, Tells};
+use crate::watching::Watching;
+use ftp_disk_tree::{Explains, Parks};
+use ftp_endpoint::Host;
+use ftp_server_driver::Control;
+use ftp_tree::Tree;
+use std::alloc::{AllocError, Global};
+use std::fs::Files;
+use std::io;
+use std::marker::PhantomData;
+use std::net::{IpAddr, SocketAddr, TcpStream};
+use std::rc::Rc;
+use std::time::Clock;
+use tool_polling::{Limits, Line, LinePorts, LineReader, LineWriter};
+use tool_scheduler::{Full, Slot, Slots};
+use tool_sockets::{Sockets, host_of};
+use tool_words::Sessions;
+
+/// What all sessions have in common. `M` begins their servers.
+#[derive(Drop)]
+pub(crate) struct Seating<'a, R, T, M> {
+    rt: &'a R,
+    accounts: Option<&'a str>,
+    waits: Limits,
+    sessions: Sessions,
+    service: Service<'a>,
+    begins: M,
+    _over: PhantomData<T>,
+}
+
+impl<'a, R, T, M> Seating<'a, R, T, M> {
+    /// What they are for a job; who may log in is read anew for each client.
+    pub(crate) fn new(
+        rt: &'a R,
+        job: &Serving<'a>,
+        service: Service<'a>,
+        begins: M,
+    ) -> Seating<'a, R, T, M> {
+        Seating {
+            rt,
+            accounts: job.accounts,
+            waits: job.waits,
+            sessions: job.sessions,
+            service,
+            begins,
+            _over: PhantomData,
+        }
+    }
+}
+
+impl<'a, R, T, M> Slots for Seating<'a, R, T, M>
+where
+    R: Sockets + Tells + Clock + Files + AllocGlobal,
+    T: Parks<Global> + Explains,
+    M: Begins<T>,
+{
+    type Tree = T;
+
+    type Slot = Session<'a, R, T, M::Server>;
+
+    fn host(&self, peer: SocketAddr) -> u128 {
+        guessed_from(peer.ip())
+    }
+
+    fn slot(
+        &self,
+        stream: TcpStream,
+        _peer: SocketAddr,
+        tree: &T,
+    ) -> Option<Box<Session<'a, R, T, M::Server>, Global>> {
+        let accounts = accounts_told(self.rt, self.accounts, self.service.lines)?;
+        let guest = Guest {
+            accounts,
+            stream,
+            waits: self.waits,
+            service: self.service,
+        };
+        let session = session_of(self.rt, &self.begins, tree, guest)?;
+        // Who waits for one of so many sessions has its turn once a transfer is done.
+        if let Sessions::Count(_) = self.sessions {
+            session.timeouts().spare_transfers();
+        }
+        Box::new(self.rt.alloc(), session).ok()
+    }
+
+    fn begin_round(&self, _ready: &[bool], _hosts: &[u128], _tree: &mut T) {}
+
+    fn turn_away(
+        &self,
+        stream: TcpStream,
+        peer: SocketAddr,
+        why: Full,
+    ) -> Option<Rc<Line, Global>> {
+        if let Log::Told = self.service.log {
+            let what = match why {
+                Full::House => "is turned away: all seats are taken",
+                Full::Host => "is turned away: its address has as many seats as it may",
+            };
+            self.rt.tell(self.service.lines, &Note { peer, what });
+        }
+        let line = Line::new(stream, self.waits).ok()?;
+        line.say_last(no_slot(why));
+        Rc::new(self.rt.alloc(), line).ok()
+    }
+
+    fn none_came(&self, error: io::Error) {
+        self.rt.tell(self.service.lines, &NoClient(error));
+    }
+}
+
+/// The host that PASV names: the one that was asked for, where it is of the family of the one that the client reached.
+fn told_host(asked: Option<IpAddr>, reached: Host) -> Host
+    ensures { result ≡ told_host asked reached }
+{
+    match (asked, reached) {
+        (Some(IpAddr::V4(ip)), Host::V4(_)) => Host::V4(ip.octets()),
+        (Some(IpAddr::V6(ip)), Host::V6(_)) => Host::V6(ip.octets()),
+        _ => reached,
+    }
+}
+
+/// A session that begins over a control connection, beside a tree that is lent to it later; none where the connection failed, or memory is refused.
+pub(crate) fn session_of<'a, R, T, M>(
+    rt: &'a R,
+    begins: &M,
+    tree: &T,
+    guest: Guest<'a>,
+) -> Option<Session<'a, R, T, M::Server>>
+where
+    R: Sockets + Tells + Clock + AllocGlobal,
+    T: Parks<Global> + Explains,
+    M: Begins<T>,
+{
+    let Guest {
+        accounts,
+        stream,
+        waits,
+        service,
+    } = guest;
+    let Ok(line) = Line::new(stream, waits) else {
+        return None;
+    };
+    let (Ok(here), Ok(peer)) = (line.here(), line.peer()) else {
+        return None;
+    };
+    let here = told_host(service.passive_address, host_of(here));
+    let server = begins.begin(rt.alloc(), tree.bare(), accounts, here, host_of(peer))?;
+    let Ok(line) = Rc::new(rt.alloc(), line) else {
+        return None;
+    };
+    let Ok(journal_line) = line.clone() else {
+        return None;
+    };
+    let session_log = SessionLog::new(rt, journal_line, peer, service);
+    let Ok(session_log) = Rc::new(rt.alloc(), session_log) else {
+        return None;
+    };
+    let Ok(Some(connected)) = connected(rt, &line, &session_log, service) else {
+        return None;
+    };
+    let Ok(watched) = session_log.clone() else {
+        return None;
+    };
+    let watching = Watching::new(rt, watched);
+    Some(Session::new(rt, server, connected, watching, session_log))
+}
+
+/// The connections of a session that begins; none where an address of its control connection is not had.
+fn connected<'a, R: Sockets + Tells>(
+    rt: &'a R,
+    line: &Rc<Line, Global>,
+    session_log: &Rc<SessionLog<'a, R>, Global>,
+    service: Service<'a>,
+) -> Result<Option<Connected<'a, R>>, AllocError> {
+    let Ok(inner) = LinePorts::serving(rt, line.clone()?, service.passive) else {
+        return Ok(None);
+    };
+    let ports = CountedPorts {
+        inner,
+        session_log: session_log.clone()?,
+    };
+    let writer = SaidWriter::new(LineWriter::new(line.clone()?), session_log.clone()?);
+    let control = Control::new(LineReader::new(line.clone()?), writer);
+    Ok(Some(Connected { control, ports }))
+}

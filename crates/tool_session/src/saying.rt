@@ -1,0 +1,30 @@
+// What is told on standard error.
+use std::fmt::Display;
+use std::io;
+use std::io::Eprint;
+use tool_status::Status;
+
+/// Tells on standard error, in a line: a text, what it is about, and the text behind that.
+pub fn say<R, D>(rt: &R, before: &str, what: &D, behind: &str) -> io::Result<()>
+where
+    R: Eprint,
+    D: Display,
+{
+    eprintln!(rt; "{before}{what}{behind}")
+}
+
+/// The same, and gives an exit status.
+pub fn told<R, D>(
+    rt: &R,
+    before: &str,
+    what: &D,
+    behind: &str,
+    status: Status,
+) -> io::Result<Status>
+where
+    R: Eprint,
+    D: Display,
+{
+    say(rt, before, what, behind)?;
+    Ok(status)
+}

@@ -1,0 +1,3 @@
+pub mod Host
+pub mod Timeouts
+pub mod Waiting

@@ -1,0 +1,160 @@
+// How long one who asks waits for its server.
+ghost use Rattle.std.specs.Prelude.{◌≡◌};
+ghost use Rattle.tool_sockets.specs.Timeouts.{sooner};
+
+use crate::wait::{Polled, ask};
+use ftp_ports::TURNS;
+use libc::types::{pollfd, timespec};
+use std::cell::Cell;
+
+/// The longest wait in one piece, in milliseconds.
+const PIECE_MILLIS: i32 = 1_000;
+
+/// How a wait ended.
+#[derive(Clone, Copy)]
+pub(crate) enum Waited {
+    /// What was asked for of a socket is there.
+    Told,
+    /// Timeouts is over.
+    Over,
+    Failed,
+}
+
+/// The timeouts of one who asks, over one control connection: its server may say, take and send nothing for so long, and all may take so long. Time is that of
+/// the system's monotonic clock.
+#[derive(Drop)]
+pub struct Timeouts {
+    /// In milliseconds; none: without a limit.
+    limit: Option<u64>,
+    /// Until when it lasts at most, in milliseconds; none: without a limit.
+    until: Option<u64>,
+    /// When something was done last, in milliseconds.
+    last: Cell<u64>,
+    /// Whether the server said a line since anything else was done.
+    has_heard: Cell<bool>,
+    is_over: Cell<bool>,
+}
+
+impl Timeouts {
+    /// The timeouts of one that begins now, in seconds of silence, 0: without a limit; and until when it lasts at most, in milliseconds of the monotonic clock.
+    pub fn new(seconds: u32, until: Option<u64>) -> Timeouts {
+        let limit = match seconds {
+            0 => None,
+            seconds => Some(u64::from(seconds) * 1_000),
+        };
+        Timeouts {
+            limit,
+            until,
+            last: Cell::new(monotonic_millis()),
+            has_heard: Cell::new(false),
+            is_over: Cell::new(false),
+        }
+    }
+
+    /// Something was done: a command went, or octets of a data connection.
+    pub fn touch(&self) {
+        self.has_heard.set(false);
+        self.last.set(monotonic_millis());
+    }
+
+    /// The server said a line: a sign of life once behind what was done, so that lines without end are none.
+    pub(crate) fn hear(&self) {
+        if !self.has_heard.replace(true) {
+            self.last.set(monotonic_millis());
+        }
+    }
+
+    /// Whether the moment has come until which it lasts at most.
+    pub fn is_past(&self) -> bool {
+        match self.until {
+            Some(until) => until <= monotonic_millis(),
+            None => false,
+        }
+    }
+
+    /// Whether nothing is waited for any more.
+    pub fn is_over(&self) -> bool {
+        self.is_over.get()
+    }
+
+    /// Nothing is waited for any more.
+    pub(crate) fn end(&self) {
+        self.is_over.set(true);
+    }
+
+    /// Polls while timeouts lasts.
+    pub(crate) fn wait(&self, asked: &mut [pollfd]) -> Waited {
+        for _ in 0..TURNS {
+            let millis = match self.left() {
+                Some(0) => return Waited::Over,
+                Some(left) => piece_of(left),
+                None => PIECE_MILLIS,
+            };
+            match ask(asked, millis) {
+                Polled::Told => return Waited::Told,
+                Polled::Failed => return Waited::Failed,
+                Polled::TimeOver => {}
+            }
+        }
+        Waited::Failed
+    }
+
+    /// Whether none of it is left now.
+    pub(crate) fn is_spent(&self) -> bool {
+        self.left() == Some(0)
+    }
+
+    /// How many milliseconds are left; none where there is no limit.
+    fn left(&self) -> Option<u64> {
+        if self.is_over.get() {
+            return Some(0);
+        }
+        let now = monotonic_millis();
+        let until = match self.limit {
+            Some(limit) => Some(self.last.get().saturating_add(limit)),
+            None => None,
+        };
+        match sooner(until, self.until) {
+            Some(until) => Some(until.saturating_sub(now)),
+            None => None,
+        }
+    }
+
+    /// How long octets may wait for the peer to take them, in milliseconds; 0: without a limit.
+    pub(crate) fn untaken_millis(&self) -> i32 {
+        i32::try_from(self.limit.unwrap_or(0)).unwrap_or(i32::MAX)
+    }
+}
+
+/// The sooner of two moments; none where there is none.
+fn sooner(one: Option<u64>, other: Option<u64>) -> Option<u64>
+    ensures { result ≡ sooner one other }
+{
+    match (one, other) {
+        (Some(one), Some(other)) => Some(one.min(other)),
+        (Some(one), None) => Some(one),
+        (None, other) => other,
+    }
+}
+
+/// How long one wait is where so many milliseconds are left.
+pub(crate) fn piece_of(left: u64) -> i32 {
+    match i32::try_from(left) {
+        Ok(left) => left.min(PIECE_MILLIS),
+        Err(_) => PIECE_MILLIS,
+    }
+}
+
+/// The milliseconds of the system's monotonic clock, from some beginning.
+pub fn monotonic_millis() -> u64 {
+    let mut time = timespec {
+        tv_sec: 0,
+        tv_nsec: 0,
+    };
+    let _status = libc::clock_gettime(libc::CLOCK_MONOTONIC, &mut time);
+    let seconds = u64::try_from(time.tv_sec).unwrap_or(0);
+    let nanos = u64::try_from(time.tv_nsec).unwrap_or(0);
+    seconds
+        .saturating_mul(1_000)
+        .saturating_add(nanos / 1_000_000)
+}

@@ -1,0 +1,2 @@
+pub mod escaped
+pub mod verbosity
