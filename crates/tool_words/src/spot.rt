@@ -63,25 +63,25 @@ fn between(spot: Spot, octet: u8) -> (Spot, Action)
     } else if is_blank(octet) {
         (spot, Action::Nothing)
     } else if octet == b'"' {
-        (Spot::Quoted, Deed::Nothing)
+        (Spot::Quoted, Action::Nothing)
     } else {
-        (Spot::Word, Deed::Keep(octet))
+        (Spot::Word, Action::Keep(octet))
     }
 }
 
-fn in_word(octet: u8) -> (Spot, Deed)
+fn in_word(octet: u8) -> (Spot, Action)
     ensures { result ≡ in_word octet }
 {
     if octet == b'\n' {
-        (Spot::LineStart, Deed::End)
+        (Spot::LineStart, Action::End)
     } else if is_blank(octet) {
-        (Spot::Between, Deed::End)
+        (Spot::Between, Action::End)
     } else {
-        (Spot::Word, Deed::Keep(octet))
+        (Spot::Word, Action::Keep(octet))
     }
 }
 
-fn in_quotes(octet: u8) -> (Spot, Deed)
+fn in_quotes(octet: u8) -> (Spot, Action)
     ensures { result ≡ in_quotes octet }
 {
     if octet == b'"' {
