@@ -4,7 +4,7 @@ use std::alloc::Global;
 use std::io;
 use tool_get_put::{Each, Pair};
 use tool_job::Target;
-use tool_status::Status;
+use tool_terminal::Status;
 
 /// Files that are asked of one server by one user, and what is done with each.
 pub(crate) struct Batch<'a> {

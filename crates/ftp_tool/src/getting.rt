@@ -1,9 +1,10 @@
 // What `get` asks for: files of several places, and where they go.
+use crate::asking::tell_undone;
 use crate::at_once::Batch;
+use crate::obeying::number_of;
 use crate::programs::Programs;
 use crate::refusing::refuse;
 use crate::several::{check_places, check_targets, is_any_matched, sources_of};
-use crate::{number_of, tell_undone};
 use clap::ArgMatches;
 use std::alloc::Global;
 use std::io;
@@ -13,9 +14,9 @@ use tool_command::{
 };
 use tool_get_put::Pair;
 use tool_job::{Target, Targets};
+use tool_location::{UrlPlace, place_for, says_directory};
 use tool_session::Openings;
-use tool_status::Status;
-use tool_words::{UrlPlace, place_for, says_directory};
+use tool_terminal::Status;
 
 /// Does what `get` asks for, file by file, each over a control connection of its own; the status is the worst.
 pub(crate) fn get<R>(

@@ -11,13 +11,12 @@ use std::{fs, io};
 use tool_command::Task;
 use tool_get_put::{Each, Pair};
 use tool_job::Target;
+use tool_login::User;
 use tool_mirror_copy::Mirror;
 use tool_pair::PairSettings;
 use tool_serve::Serving;
 use tool_session::ServerAddress;
-use tool_status::Status;
-use tool_terminal::QuietHandle;
-use tool_words::User;
+use tool_terminal::{QuietHandle, Status};
 
 /// What the program can do for a command line. Each call gives the exit status.
 pub(crate) trait Programs {

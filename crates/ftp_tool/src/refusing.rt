@@ -3,8 +3,7 @@ use std::alloc::AllocError;
 use std::io;
 use std::io::Eprint;
 use tool_command::{BadValue, Refusal};
-use tool_status::Status;
-use tool_terminal::Shown;
+use tool_terminal::{Shown, Status};
 
 /// Tells why the words of a command line ask for nothing.
 pub(crate) fn refuse<R: Eprint>(rt: &R, refusal: Refusal<'_>) -> io::Result<u8> {

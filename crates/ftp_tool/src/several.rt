@@ -1,14 +1,14 @@
 // Which of several files go where.
 ghost use Rattle.std.specs.Prelude.{◌≡◌, ◌<◌, ◌++◌, ◌∷◌, [], length, IfOk};
-ghost use Rattle.tool_words.specs.Placing.{says_directory};
+ghost use Rattle.tool_location.specs.Placing.{says_directory};
 
 use clap::ArgMatches;
 use std::alloc::{AllocError, Global};
 use std::io;
 use tool_command::{BadValue, PLACE_OPTION, Refusal, asked_of, is_matched};
 use tool_job::{Target, Targets, source_of};
+use tool_location::{Location, UrlPlace, is_url, last_part, place_for, says_directory};
 use tool_session::Openings;
-use tool_words::{Location, UrlPlace, is_url, last_part, place_for, says_directory};
 
 /// The places that `get` fetches, and where they go: the last of several words says it, if it is no URL. Where none does, each goes into the folder
 /// where the program runs, which the empty text says.

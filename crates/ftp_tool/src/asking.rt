@@ -1,0 +1,160 @@
+// What is asked for at one place, or at each of several.
+use crate::at_once::Batch;
+use crate::obeying::number_of;
+use crate::programs::Programs;
+use crate::refusing::refuse;
+use crate::several::check_places;
+use clap::ArgMatches;
+use std::alloc::Global;
+use std::io;
+use std::io::Eprint;
+use tool_command::{PLACE_OPTION, Refusal, asked_of, fetch_task_of, openings_of, url_in, urls_in};
+use tool_get_put::{Each, Pair, Task};
+use tool_job::{Simple, Target};
+use tool_session::Openings;
+use tool_status::Status;
+use tool_terminal::Shown;
+use tool_words::UrlPlace;
+
+/// Does what a subcommand asks for at one place, where standard error may be a terminal.
+pub(crate) fn ask<R>(
+    rt: &R,
+    alloc: Global,
+    name: &str,
+    words: &ArgMatches<'_>,
+    is_terminal: bool,
+) -> io::Result<u8>
+where
+    R: Programs + Eprint,
+{
+    let place = words.get_str("place").unwrap_or("");
+    let openings = openings_of(words);
+    match url_in(alloc, PLACE_OPTION, place) {
+        Ok(url) => match asked_of(words, place, url.as_ref(), &openings, is_terminal) {
+            Ok(asked) => ask_at(rt, name, words, &asked),
+            Err(refusal) => refuse(rt, refusal),
+        },
+        Err(refusal) => refuse(rt, refusal),
+    }
+}
+
+/// The same at this place.
+fn ask_at<R: Programs + Eprint>(
+    rt: &R,
+    name: &str,
+    words: &ArgMatches<'_>,
+    asked: &Target<'_>,
+) -> io::Result<u8> {
+    match fetch_task_of(name, words) {
+        Some(task) => number_of(rt.fetch(asked, task)),
+        None => refuse(rt, Refusal::Number),
+    }
+}
+
+/// Does what a subcommand asks for at each of several places.
+pub(crate) fn ask_each<R>(
+    rt: &R,
+    alloc: Global,
+    name: &str,
+    words: &ArgMatches<'_>,
+) -> io::Result<u8>
+where
+    R: Programs + Eprint,
+{
+    let openings = openings_of(words);
+    match urls_in(alloc, PLACE_OPTION, places_of(words)) {
+        Ok(urls) => ask_where(rt, alloc, name, words, urls.as_slice(), &openings),
+        Err(refusal) => refuse(rt, refusal),
+    }
+}
+
+/// The places that a command line names.
+fn places_of<'a>(words: &'a ArgMatches<'_>) -> &'a [&'a str] {
+    words.get_strs("places").unwrap_or(&[])
+}
+
+/// The same at places of which these are URLs, where all of them can be asked at.
+fn ask_where<'a, R: Programs + Eprint>(
+    rt: &R,
+    alloc: Global,
+    name: &str,
+    words: &'a ArgMatches<'_>,
+    urls: &'a [Option<UrlPlace>],
+    openings: &'a Openings,
+) -> io::Result<u8> {
+    if let Err(refusal) = check_places(words, places_of(words), urls, openings, false) {
+        return refuse(rt, refusal);
+    }
+    match fetch_task_of(name, words) {
+        Some(Task::Simple(Simple::Remove)) => {
+            number_of(remove_all(rt, alloc, words, urls, openings))
+        }
+        Some(task) => number_of(ask_all(rt, words, urls, openings, task)),
+        None => refuse(rt, Refusal::Number),
+    }
+}
+
+/// Does a task at places one after another, each over a control connection of its own, and gives the worst status.
+fn ask_all<'a, R: Programs + Eprint>(
+    rt: &R,
+    words: &'a ArgMatches<'_>,
+    urls: &'a [Option<UrlPlace>],
+    openings: &'a Openings,
+    task: Task<'_>,
+) -> io::Result<Status> {
+    let mut worst = Status::Done;
+    let mut until = None;
+    let places = places_of(words);
+    for (place, url) in places.iter().zip(urls.iter()) {
+        let Ok(asked) = asked_of(words, *place, url.as_ref(), openings, false) else {
+            return Ok(Status::BadWords);
+        };
+        let asked = asked.within(&mut until);
+        let status = rt.fetch(&asked, task)?;
+        tell_undone(rt, status, places.len(), "done", asked.place.path)?;
+        worst = worst.worse(status);
+    }
+    Ok(worst)
+}
+
+/// Removes files, over several control connections where these are asked for.
+fn remove_all<'a, R: Programs + Eprint>(
+    rt: &R,
+    alloc: Global,
+    words: &'a ArgMatches<'_>,
+    urls: &'a [Option<UrlPlace>],
+    openings: &'a Openings,
+) -> io::Result<Status> {
+    let places = places_of(words);
+    let mut batch = Batch::new(alloc, Each::Remove);
+    let mut worst = Status::Done;
+    for (place, url) in places.iter().zip(urls.iter()) {
+        let Ok(asked) = asked_of(words, *place, url.as_ref(), openings, false) else {
+            return Ok(Status::BadWords);
+        };
+        if asked.at_once < 2 || places.len() < 2 {
+            return ask_all(rt, words, urls, openings, Task::Simple(Simple::Remove));
+        }
+        let pair = Pair {
+            path: String::from_str(alloc, asked.place.path)?,
+            file: String::new(alloc),
+        };
+        worst = worst.worse(batch.put(rt, asked, pair)?);
+    }
+    Ok(worst.worse(batch.done(rt)?))
+}
+
+/// Tells which of several it is with which something was not done, as its sentence does not say.
+pub(crate) fn tell_undone<R: Eprint>(
+    rt: &R,
+    status: Status,
+    count: usize,
+    done: &str,
+    file: &str,
+) -> io::Result<()> {
+    if count > 1 && status != Status::Done {
+        let file = Shown(file.as_bytes());
+        eprintln!(rt; "note: not {done}: {file}")?;
+    }
+    Ok(())
+}
