@@ -47,7 +47,7 @@ module _ {machine : Machine} where
   stirs_lead a b stirs =
       leads_then a stirs.new b (leads_on stirs.action a stirs.old stirs.new stirs.before stirs.done) stirs.after
 
-  -- it got on by a action at least
+  -- it got on by an action at least
   touch_some : (action : Action (side_of machine)) → IsTouch machine action → 1 ≤ step_by action
   touch_some (Heard []) touch = absurd (omega (arith, touch))
   touch_some (Heard (octet ∷ octets)) touch = omega arith

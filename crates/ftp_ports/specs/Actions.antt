@@ -81,7 +81,7 @@ module _ {side : Side} where
   Led [] start now = now ≡ start
   Led (action ∷ before) start now = (mid : Stand side) × Led before start mid × Done action mid now
 
-  -- by a action a drive gets on: octets are heard, said or read, or something of its data connection is done; not that the end is asked what it owes
+  -- by an action a drive gets on: octets are heard, said or read, or something of its data connection is done; not that the end is asked what it owes
   abbrev pub step_by : Action side → ℕ
   step_by (Heard octets) = some_of octets
   step_by (Said octets) = some_of octets
@@ -94,7 +94,7 @@ module _ {side : Side} where
   steps_in [] = 0
   steps_in (action ∷ before) = step_by action + steps_in before
 
-  -- the control octets that were heard in a action, said, and read
+  -- the control octets that were heard in an action, said, and read
   abbrev pub heard_by : Action side → List ℕ
   heard_by (Heard octets) = octets
   heard_by other = []

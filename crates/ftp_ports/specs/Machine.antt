@@ -289,7 +289,7 @@ module _ (machine : Machine) where
   stand_of remaining contents owner control =
       record { owner = owner; left = left_of remaining control; unheard = unheard_of control; written = written_of contents control }
 
-  -- a action by which a drive gets on: octets are heard or read, the end is told of something, its data connection moves, or is waited for as the
+  -- an action by which a drive gets on: octets are heard or read, the end is told of something, its data connection moves, or is waited for as the
   -- end wants it; not that the end is asked what it owes, or whether its drive is over
   abbrev pub IsTouch : Action side_of → Type 0
   IsTouch (Heard octets) = 0 < length octets

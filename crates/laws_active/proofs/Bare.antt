@@ -1,4 +1,4 @@
--- A client's data connection while no link stands in a world: nothing is on its way over it, and what a action leaves of it has nothing either.
+-- A client's data connection while no link stands in a world: nothing is on its way over it, and what an action leaves of it has nothing either.
 use Rattle.std.proofs.Common.{◌≡◌, ℕ, true, false, true≢false, ◌&&◌, List, [], ◌++◌, sym, ap, ap₂, ◌∙◌}
 use Rattle.ftp_ports.specs.Actions.{Stand}
 use Rattle.ftp_ports.specs.Channel.{Channel}
@@ -17,7 +17,7 @@ use Rattle.laws_transfers.specs.Ahead.{Ahead}
 use Rattle.laws_transfers.proofs.Beside.{Together, is_taking}
 use Rattle.laws_transfers.proofs.Known.{Known, is_near_held}
 
--- what a action leaves of it
+-- what an action leaves of it
 pub record StaysBare (old new : Channel) : Type 0 where
   pub taking : is_taking new ≡ true → is_taking old ≡ true
   pub untold : is_taking old ≡ true → new.untold ≡ []

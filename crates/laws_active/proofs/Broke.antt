@@ -13,7 +13,7 @@ use Rattle.laws_transfers.proofs.Broke.{IsBroke, IsShown, with_view}
 use Rattle.laws_transfers.proofs.EitherEnd.{Common, common, is_wishing}
 use Rattle.laws_active.specs.Refusals.{ClientTries}
 
--- a action that the other does, too
+-- an action that the other does, too
 pub record DoneSo (action : Action client_side) (next : Between) (new shown : Stand client_side) : Type 0 where
   pub after : Stand client_side
   pub did : Done action shown after

@@ -1,4 +1,4 @@
--- A action of a client where dials may fail, whether a world's is ahead of it or not.
+-- An action of a client where dials may fail, whether a world's is ahead of it or not.
 use Rattle.std.proofs.Common.{◌≡◌, ℕ, Bool, true, false, true≢false, List, [], ◌∷◌, ◌++◌, length, None, refl, sym, ap, ap₂, subst, ◌∙◌, append-nil, arith}
 use Rattle.ftp_ports.specs.Asking.{Came, Connected, Ended as EndedBy, NotConnected, Reset, Shut}
 use Rattle.ftp_ports.specs.Actions.{Action, Done, Heard as HearsOctets, HearsNext, Other, Read, Said as Says, Stand}

@@ -95,7 +95,7 @@ pub record GainsTo (read : Reading) (more begun : List Order) (between : Between
 
 -- ---- what a server does lies between as ever
 
--- so it is after a action of a server
+-- so it is after an action of a server
 pub record Follows (touch : Touch) (octets more : List ℕ) (old new : Between) : Type 0 where
   pub rest : List ℕ
   pub can : Can TheServer touch (heard_between more old) (heard_between rest new)

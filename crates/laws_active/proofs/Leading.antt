@@ -93,7 +93,7 @@ IsLed (Joined octets) more between c = IsJoined octets more between c
 
 -- ---- what a server does lies between as ever
 
--- so it is after a action of a server, but a dial
+-- so it is after an action of a server, but a dial
 pub record Follows (touch : Touch) (octets more : List ℕ) (old new : Between) : Type 0 where
   pub rest : List ℕ
   pub can : Can TheServer touch (led_between (Joined octets) more old) (led_between (Joined octets) rest new)

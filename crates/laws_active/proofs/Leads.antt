@@ -1,4 +1,4 @@
--- How a world's client is ahead of a drive's, and what is so of the drive's then; what a action does to that.
+-- How a world's client is ahead of a drive's, and what is so of the drive's then; what an action does to that.
 use Rattle.std.proofs.Common.{◌≡◌, inl, inr, ℕ, Bool, true, false, true≢false, List, [], ◌∷◌, ◌++◌, Some, None, refl, sym, ap, ◌∙◌}
 use Rattle.ftp_ports.specs.Actions.{Stand}
 use Rattle.ftp_direct.specs.Direct.{State, answer}
@@ -99,7 +99,7 @@ pub joined_unaborted : (octets more : List ℕ) (between : Between) (c : Stand c
     → is_unaborted (led_client (Joined octets) c).owner.end.view.job ≡ true
 joined_unaborted octets more between c j = (stays_joined (data_closed c.owner.end.view) octets j.stays.0).2
 
--- ---- what a action does to who is called
+-- ---- what an action does to who is called
 
 -- a client that was not dialled is not by what it does
 pub near_uncalled : (touch : Touch) (old new : Between) → Can TheClient touch old new → is_called old.near ≡ false → is_called new.near ≡ false

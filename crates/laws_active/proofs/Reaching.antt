@@ -92,7 +92,7 @@ gained_near gain more between seen told server client shown so is_seen shows the
         subst (λ l. IsNear there (near.data_closed (near.reports (gained_by l client.owner.end.view)))) (sym even)
         (shown_near between client shown shows there (is ∙ ap (λ l. near.data_closed (taken (gained_by l shown.owner.end.view))) even))
 
--- the client that it sees is the same after a action of the server but a dial
+-- the client that it sees is the same after an action of the server but a dial
 serving_keeps : (action : Action server_side) (at : Held Timed) → passive.IsServing action at → (p q : Between) (client shown : Stand client_side)
     → CanTurn (Server action) p q → IsShown p client shown → IsShown q client shown
 serving_keeps action at is p q client shown can shows = shown_still p q client shown (serving_near action at is p q can) shows
@@ -126,7 +126,7 @@ module _ (read : Reading) (reads : IsReading read) (moments : ℕ → ℕ) (time
     pub shows : IsShown between client shown
     pub reached : At begun seen turns server shown reports
 
-  -- ---- a action of the server
+  -- ---- an action of the server
 
   server_sees : (action : Action server_side) (old new : Stand server_side) (actions : List (Action client_side)) (before : List Turn) (p q : Between)
       (client : Stand client_side) (reports : List Said) → AreCarried (begun_at moments actions) → ServerTries action old.owner new.owner
@@ -187,7 +187,7 @@ module _ (read : Reading) (reads : IsReading read) (moments : ℕ → ℕ) (time
             told at.reached;
       }
 
-  -- ---- a action of the client
+  -- ---- an action of the client
 
   -- but that it is told of a break
   client_sees_on : (action : Action client_side) → BreaksNone action → (old new : Stand client_side) (actions : List (Action client_side)) (before : List Turn)

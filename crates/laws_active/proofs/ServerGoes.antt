@@ -1,4 +1,4 @@
--- A action of a server, in a world whose client is ahead of the drive's or not: all is as in laws_transfers, of the client that is ahead.
+-- An action of a server, in a world whose client is ahead of the drive's or not: all is as in laws_transfers, of the client that is ahead.
 use Rattle.std.proofs.Common.{◌≡◌, ℕ, true, List, [], ◌∷◌, take, Option, sym, ap, subst, ◌∙◌}
 use Rattle.ftp_ports.specs.Asking.{Came, Ended as EndedBy, Reset, Shut}
 use Rattle.ftp_ports.specs.Actions.{Action, Done, Heard, Other, Read, Said as Says, Stand}

@@ -1,4 +1,4 @@
--- A action of a server, whether a world's client is ahead of the drive's or not: it dials, or goes on as where none is ahead.
+-- An action of a server, whether a world's client is ahead of the drive's or not: it dials, or goes on as where none is ahead.
 use Rattle.std.proofs.Common.{◌≡◌, inl, inr, ℕ, Bool, true, false, true≢false, List, [], ◌∷◌, ◌++◌, drop, Option, refl, sym, ap, subst, ◌∙◌, append-nil, take-append-drop}
 use Rattle.ftp_ports.specs.Asking.{Came, Connected, Ended as EndedBy, Reset, Shut}
 use Rattle.ftp_ports.specs.Actions.{Calls, Action, Done, Heard, Other, Read, Said as Says, Says as SaysNext, Stand}

@@ -1,4 +1,4 @@
--- A action of a server where dials may fail, whether a world's client is ahead of the drive's or not.
+-- An action of a server where dials may fail, whether a world's client is ahead of the drive's or not.
 use Rattle.std.proofs.Common.{◌≡◌, ℕ, Bool, true, false, true≢false, List, [], ◌∷◌, ◌++◌, Option, refl, sym, ap, subst, ◌∙◌}
 use Rattle.ftp_ports.specs.Asking.{Connected, NotConnected, Reset}
 use Rattle.ftp_ports.specs.Actions.{Action, Done, Other, Stand}

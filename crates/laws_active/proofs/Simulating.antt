@@ -65,7 +65,7 @@ use Rattle.laws_active.proofs.Unsent.{StaysFresh, called_unaborted, far_fresh}
 
 -- ---- what was begun
 
--- a action begins such an operation, or nothing
+-- an action begins such an operation, or nothing
 by_carried : (moment : ℕ) (action : Action client_side) (old new : client_side.End) → ClientTries action old new → AreCarried (begun_by moment action)
 by_carried moment (Other (Aside (Starting op))) old new is = (is.0.0, tt)
 by_carried moment action old new is = tt
@@ -280,7 +280,7 @@ module _ (read : Reading) (reads : IsReading read) (moments : ℕ → ℕ) (time
         by (Heard octets) more so t = listening_never so.0.op so.0.flow so.0.port v (so.0.opens.fronts [] so.0.others so.0.octet (sym so.0.some)).0
             (Want.Connect endpoint) wants refl
 
-  -- ---- a action
+  -- ---- an action
 
   -- where a world goes on with the server
   far_reached : (actions : List (Action client_side)) (p q : Between) (told : ℕ) (before turns : List Turn) (old new : Stand server_side)

@@ -73,7 +73,7 @@ fresh_went count op transfer fresh = (fresh.0, by transfer.flow ∙ fresh.1)
     by (Sending left mark) = refl
     by (Receiving decoder mark) = refl
 
--- ---- a action keeps what is so of its transfer
+-- ---- an action keeps what is so of its transfer
 
 module _ (Kept : Op (List ℕ) → Transfer → Type 0) (keeps : IsKept Kept)
     (went : (count : ℕ) (op : Op (List ℕ)) (transfer : Transfer) → Kept op transfer → Kept op (record transfer { flow = near.went count transfer.flow }))
@@ -141,7 +141,7 @@ pub called_unaborted : (between : Between) (client : Stand client_side) → Stay
     → is_unaborted client.owner.end.view.job ≡ true
 called_unaborted between client fresh called = fresh_unaborted client.owner.end.view (fresh called).keeping
 
--- a action of the server
+-- an action of the server
 module _ (p q : Between) (client : Stand client_side) (fresh : StaysFresh p client) where
   -- what goes to the client is the same, and how the server stands
   goes_same : q.far ≡ p.far → q.data_ways.to_client ≡ p.data_ways.to_client → StaysFresh q client

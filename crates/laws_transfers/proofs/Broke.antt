@@ -32,7 +32,7 @@ pub record IsBroke (between : Between) (c : Stand client_side) (other : Near) : 
 abbrev pub IsShown : (between : Between) (c shown : Stand client_side) → Type 0
 IsShown between c shown = (shown ≡ c) ⊎ ((other : Near) × (shown ≡ with_view other c) × IsBroke between c other)
 
--- a action that the other does, too
+-- an action that the other does, too
 pub record DoneSo (action : Action client_side) (next : Between) (new shown : Stand client_side) : Type 0 where
   pub after : Stand client_side
   pub did : Done action shown after

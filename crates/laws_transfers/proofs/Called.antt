@@ -49,7 +49,7 @@ transferred_plain op is = record { dials = is.1; some = by op is.0 }
     by (Ops.Peek path count how) some = some
     by op carried = tt
 
--- ---- the server does a action
+-- ---- the server does an action
 
 module _ (p q : Between) (client : Stand client_side) (fresh : StaysFresh p client) where
   -- what goes to the client is the same, and how the server stands
@@ -81,7 +81,7 @@ module _ (p q : Between) (client : Stand client_side) (fresh : StaysFresh p clie
 
 -- ---- the client does
 
--- a action but that it is told of a break
+-- an action but that it is told of a break
 abbrev pub BreaksNone : Action client_side → Type 0
 BreaksNone (Other Break) = ⊥
 BreaksNone action = Unit {0}

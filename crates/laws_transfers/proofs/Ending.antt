@@ -54,7 +54,7 @@ answers_go (asked ∷ before) start now put none =
 
 -- ---- what they began and reported
 
--- a action in the midst begins none, and reports none
+-- an action in the midst begins none, and reports none
 midst_number : (action : Action client_side) (before : List (Action client_side)) → IsMidst action → number_in (action ∷ before) ≡ number_in before
 midst_number (Other (Aside (Starting op))) before midst = absurd midst
 midst_number action before midst = refl

@@ -66,7 +66,7 @@ whole a b hold is none (inl e) = e
 whole a b hold is none (inr (inl m)) = absurd (both m.hold (ap is_lost is ∙ none))
 whole a b hold is none (inr (inr m)) = absurd (both m.far (ap is_lost is ∙ none))
 
--- ---- what a action does between is done there
+-- ---- what an action does between is done there
 
 -- what can be done can be done there, and is the same
 pub record DoneThere (who : Who) (touch : Touch) (seen next : Between) : Type 0 where

@@ -65,7 +65,7 @@ pub resets_before : (action : Action client_side) (before : List Turn) (between 
 resets_before (Other Break) before between happened resets = resets.0
 resets_before action before between happened resets = resets
 
--- how the client stands to it is the same after a action of the server
+-- how the client stands to it is the same after an action of the server
 pub serving_near : (action : Action server_side) (at : Held Timed) → IsServing action at → (p q : Between) → CanTurn (Server action) p q → q.near ≡ p.near
 serving_near (Heard octets) at is p q can = ap (λ (m : Between). m.near) can
 serving_near (Says octets) at is p q can = ap (λ (m : Between). m.near) can
@@ -241,7 +241,7 @@ module _ (read : Reading) (reads : IsReading read) (moments : ℕ → ℕ) (time
     pub reached : At begun seen told server shown reports
     pub marked : reached.world.marks ≡ marks
 
-  -- a action of a client as a world sees it, but that it is told of a break: what becomes of the marks is by the action
+  -- an action of a client as a world sees it, but that it is told of a break: what becomes of the marks is by the action
   client_goes_on : (action : Action client_side) → BreaksNone action → (old new : Stand client_side) → ClientTries action old.owner new.owner
       → (actions : List (Action client_side)) → AreCarried (begun_at moments actions) → (s q : Between) → CanTurn (Client action) s q
       → (told : ℕ) (server : Stand server_side) (reports : List Said) → (o : At (begun_at moments actions) s told server old reports) → Done action old new
@@ -300,7 +300,7 @@ module _ (read : Reading) (reads : IsReading read) (moments : ℕ → ℕ) (time
             marked = went.1 ∙ ap (marked_by action) o.1;
           }
 
-  -- a action of the client
+  -- an action of the client
   client_sees : (action : Action client_side) (old new : Stand client_side) → ClientTries action old.owner new.owner → (actions : List (Action client_side))
       → AreCarried (begun_at moments actions) → (p q : Between) → CanTurn (Client action) p q → IsResetFor action p → (told : ℕ) (server : Stand server_side)
       (reports : List Said) (marks : List (List Mark)) → Seen marks (begun_at moments actions) p told server old reports → Done action old new

@@ -54,14 +54,14 @@ use Rattle.laws_transfers.proofs.ServerMoves.{server_heard, server_said}
 use Rattle.laws_transfers.proofs.ServerStays.{server_accepts, server_aside, server_closed, server_ends, server_got, server_lets, server_listens, server_read, server_shuts, server_waited, server_wrote}
 use Rattle.laws_transfers.proofs.ServerTaking.{server_received, server_told_end}
 
--- a action but a reset
+-- an action but a reset
 abbrev pub ResetsNone : Action server_side → Type 0
 ResetsNone (Other (Left (Reset left written))) = ⊥
 ResetsNone action = Unit {0}
 
 -- ---- what was begun
 
--- a action begins such an operation, or nothing
+-- an action begins such an operation, or nothing
 pub by_carried : (moment : ℕ) (action : Action client_side) (old new : client_side.End) → ClientTries action old new → AreCarried (begun_by moment action)
 by_carried moment (Other (Aside (Starting op))) old new is = (is.0.0.0, tt)
 by_carried moment action old new is = tt
@@ -74,7 +74,7 @@ in_carried moments (action ∷ before) start now led gives =
     both_carried (begun_at moments before) (begun_by (moments (number_in before)) action) (in_carried moments before start led.0 led.1 gives.0)
     (by_carried (moments (number_in before)) action led.0.owner now.owner gives.1)
 
--- what was begun after a action
+-- what was begun after an action
 abbrev pub orders_after : (moment : ℕ) → Action client_side → List Order → List Order
 orders_after moment (Other (Aside (Starting op))) orders = orders ++ Single op moment ∷ []
 orders_after moment action orders = orders
@@ -148,7 +148,7 @@ module _ (read : Reading) (reads : IsReading read) (moments : ℕ → ℕ) (time
         sym (doing_same v.job) ∙ ap (λ (n : Near). is_doing n.job) (sym near_is)
         ∙ (known.dials endpoint (ap near.wants near_is ∙ taken_wants v ∙ wants)).doing
 
-  -- ---- a action
+  -- ---- an action
 
   -- of the server
   pub server_goes : (action : Action server_side) → ResetsNone action → (old new : Stand server_side) → ServerTransfers action old.owner new.owner

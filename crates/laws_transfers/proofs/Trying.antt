@@ -16,7 +16,7 @@ use Rattle.laws_transfers.proofs.Reaching.{tries_are_of_worlds}
 
 -- ---- the actions
 
--- one of which no dial fails is such a action
+-- one of which no dial fails is such an action
 asking_tries : (action : Action client_side) (at : Held Client) → IsAsking action at → IsTrying action at
 asking_tries (Other (Refused (NotConnected endpoint ∷ []))) at is = tt
 asking_tries action at is = is
@@ -54,7 +54,7 @@ pub more_unmarked : (marks : List (List Mark)) → AreUnmarked marks → AreUnma
 more_unmarked [] unmarked = (refl, tt)
 more_unmarked (mark ∷ marks) unmarked = (unmarked.0, more_unmarked marks unmarked.1)
 
--- nor does such a action make one
+-- nor does such an action make one
 action_unmarked : (action : Action client_side) (at : Held Client) → IsAsking action at → (marks : List (List Mark)) → AreUnmarked marks
     → AreUnmarked (marked_by action marks)
 action_unmarked (Other (Aside (Starting op))) at is marks unmarked = more_unmarked marks unmarked

@@ -51,7 +51,7 @@ all_read false came none = absurd (omega (arith, ap length none, length-append c
 abbrev pub seen_as : LinkState → Fate → (came went : List ℕ) → LinkState
 seen_as known fate came went = record known { hold = hold_by fate; came = came; went = went }
 
--- what is seen is one link_state
+-- what is seen is one link state
 pub same_link_state : (channel : Channel) (known one other : LinkState) → IsAt channel known one → IsAt channel known other → one ≡ other
 same_link_state channel known one other is also = by channel.stands is also
   where

@@ -1,4 +1,4 @@
--- One action beside a data connection in memory: from the link_state after it the link_state before it is found.
+-- One action beside a data connection in memory: from the link state after it the link state before it is found.
 use Rattle.std.proofs.Common.{◌≡◌, ◌∙◌, ℕ, Bool, true, false, true≢false, List, [], ◌∷◌, ◌++◌, Option, Some, None, refl, sym, ap, subst, inl, inr, append_assoc}
 use Rattle.std.proofs.lemmas.List.{append_cancel_right}
 use Rattle.std.specs.Io.KnownBytes.{IsAtEnd}
@@ -48,7 +48,7 @@ had_stands Fates.Broken = tt
 had_stands Fates.Over = tt
 
 module _ (who : Who) (peer : LinkState) where
-  -- the link_state before a action that touches so, by the channel before it and what ports knew then
+  -- the link state before an action that touches so, by the channel before it and what ports knew then
   pub record Found (touch : Touch) (old : Channel) (known now : LinkState) : Type 0 where
     pub mid : LinkState
     pub is_at : IsAt old known mid

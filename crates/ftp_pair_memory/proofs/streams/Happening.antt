@@ -69,7 +69,7 @@ seen_before old new known last now same ran is = alike old (with_rest new.rest o
     (subst (λ l. IsAt l known now) same (subst (λ k. IsAt new k now) ran is))
 
 module _ {end : Machine} where
-  -- how a action moves the data connection
+  -- how an action moves the data connection
   moves : (action : Action (side_of end)) (old new : Stand (side_of end)) → Done action old new → Moves (move_in move_of action) old.owner.channel new.owner.channel
   moves (Heard octets) old new done = done.hears.1 ∙ ap (λ (l : Channel). with_rest l.rest old.owner.channel) (sym done.hears.1)
   moves (Said octets) old new done = done.gives.channel
@@ -95,7 +95,7 @@ module _ {end : Machine} where
       (known_after before old led.0 led.1 first parts.0 parts.1 known)
 
   module _ (who : Who) (peer : LinkState) where
-    -- the link_state before a action, and that it can happen from there, where `up` was written to the peer and `down` is to be read after it
+    -- the link state before an action, and that it can happen from there, where `up` was written to the peer and `down` is to be read after it
     record Stepped (action : Action (side_of end)) (old : Channel) (known now : LinkState) : Type 0 where
       mid : LinkState
       is_at : IsAt old known mid

@@ -77,7 +77,7 @@ reached_there Is_called (Some port) endpoint one now e = (tt, refl, the_same one
 reached_there Has_ended (Some port) endpoint one now e = (tt, refl, the_same one now e)
 reached_there Has_lost (Some port) endpoint one now e = (tt, refl, the_same one now e)
 
--- so the link_state moves as what was asked wants it
+-- so the link state moves as what was asked wants it
 moved_steps : (event : Event) (wire : Wire) (link_state now : LinkState) → moved event wire link_state ≡ Some now → Steps (told event wire (Some link_state)) link_state now
 moved_steps (Events.Listened None) wire link_state now e = the_same link_state now e
 moved_steps (Events.Listened (Some port)) wire link_state now e = let free = free_over link_state.hold (listening link_state) now e in (free.0, refl, free.1)
@@ -126,7 +126,7 @@ none_on : (log : List (Event × Wire)) (noted : Noted) → noted.link_state ≡ 
 none_on [] noted none = none
 none_on (next ∷ log) noted none = none_on log (noted_next noted next) (ap (moved_on next.0 next.1) none)
 
--- where the link_state is known, a turn found one, which did not dial, and from there all was asked that was noted
+-- where the link state is known, a turn found one, which did not dial, and from there all was asked that was noted
 pub ran_since : (found : List (Found × Wire)) (log : List (Event × Wire)) (now : LinkState) → (noted_in found log).link_state ≡ Some now
     → (first : LinkState) × (asked : List Asked) × (first.dialled ≡ false) × ((noted_in found log).asked ≡ asked ++ header first) × Ran first asked now
 unfolding Since

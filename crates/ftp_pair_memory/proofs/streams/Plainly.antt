@@ -175,7 +175,7 @@ called end (machine.Left asked) old new did = (
 )
 
 module _ {end : Machine} where
-  -- a action touches what lies between as before
+  -- an action touches what lies between as before
   pub touch_plain : (action : Action (side_of end)) → touch_in (plain action) ≡ touch_in action
   touch_plain (Other call) = touch_call call
   touch_plain other = refl

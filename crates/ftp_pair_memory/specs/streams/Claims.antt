@@ -26,7 +26,7 @@ pub record Happening (who : Who) {end : Machine} (actions : List (Action (side_o
   pub came : CameAlone own.host (map plain actions)
   pub host : now.host ≡ own.host
 
--- so it is where ports know in which link_state the data connection was before and is after, and told all that was asked between; so much was told before
+-- so it is where ports know in which link state the data connection was before and is after, and told all that was asked between; so much was told before
 abbrev pub Happens : Who → Machine → Type 0
 Happens who end =
     (actions : List (Action (side_of end))) (old new : Held end.Here) (first last own now peer : LinkState) (header asked : List Asked) (up down : List ℕ)

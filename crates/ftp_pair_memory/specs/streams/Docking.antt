@@ -76,7 +76,7 @@ abbrev pub where_so : Bool → LinkState → Option LinkState
 where_so true link_state = Some link_state
 where_so false link_state = None
 
--- the link_state after what was asked, where that could be
+-- the link state after what was asked, where that could be
 abbrev pub moved : Event → Wire → LinkState → Option LinkState
 moved (Events.Listened None) wire link_state = Some link_state
 moved (Events.Listened (Some port)) wire link_state = where_so (is_free link_state.hold) (listening link_state)
@@ -112,7 +112,7 @@ abbrev pub port_called : (calls : Option ℕ) → Endpoint → Endpoint
 port_called None endpoint = endpoint
 port_called (Some port) endpoint = record endpoint { port = port }
 
--- what was asked, of a data connection in that link_state
+-- what was asked, of a data connection in that link state
 abbrev pub told : Event → Wire → Option LinkState → Asked
 told (Events.Listened None) wire link_state = asking.Listened None
 told (Events.Listened (Some port)) wire None = asking.Listened (Some port)
@@ -129,7 +129,7 @@ told Events.Shut wire link_state = asking.Shut
 
 -- ---- since a turn began
 
--- a list from which it can be told how a link_state was found: what ports tell begins with it
+-- a list from which it can be told how a link state was found: what ports tell begins with it
 abbrev pub shown_hold : Hold → Asked
 shown_hold Has_not = asking.Shut
 shown_hold (Awaits port) = asking.Listened (Some port)
@@ -147,7 +147,7 @@ header link_state =
     asking.Ended (Some link_state.came) (Some link_state.went) ∷ asking.Listened link_state.calls ∷ shown_hold link_state.hold ∷ shown_end link_state.ended
     ∷ asking.Listened (Some link_state.listens) ∷ asking.Came link_state.host None None ∷ []
 
--- the link_state now, if all could be asked, and what was asked, the last one first
+-- the link state now, if all could be asked, and what was asked, the last one first
 pub record Noted : Type 0 where
   pub link_state : Option LinkState
   pub asked : List Asked
@@ -166,7 +166,7 @@ noted_on noted (next ∷ more) = noted_on (noted_next noted next) more
 abbrev pub noted_in : List (Found × Wire) → List (Event × Wire) → Noted
 noted_in found log = noted_on (noted_first found) log
 
--- the link_state is known, unless something was asked that could not be
+-- the link state is known, unless something was asked that could not be
 abbrev pub known_by : (spoiled : Bool) → LinkState → Option LinkState
 known_by true link_state = None
 known_by false link_state = Some link_state

@@ -73,7 +73,7 @@ with_tree_at tree stand = with_owner (held (with_tree tree stand.owner.end) stan
 abbrev pub found_at : (stays : Bool) → Stand server_side → Stand server_side
 found_at stays stand = with_owner (held (found_by stays stand.owner.end) stand.owner.channel) stand
 
--- the exchange that a action is
+-- the exchange that an action is
 abbrev pub tree_by : Action lent_side → List Exchange
 tree_by (Other (Aside (Exchanged exchange))) = exchange ∷ []
 tree_by other = []

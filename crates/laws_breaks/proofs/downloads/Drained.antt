@@ -32,7 +32,7 @@ IsLone (Other Failed) at = ⊤
 IsLone (Other Break) at = ⊥
 IsLone action at = IsServing action at
 
--- a action but that it is told of a break
+-- an action but that it is told of a break
 abbrev pub BreaksNot : Action server_side → Type 0
 BreaksNot (Other Break) = ⊥
 BreaksNot action = Unit {0}

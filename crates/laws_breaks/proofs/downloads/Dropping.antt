@@ -143,7 +143,7 @@ module _ (read : Reading) (reads : IsReading read) (moments : ℕ → ℕ) (time
           record { apart = apart; near = ap is_lost d.hold; channel = dry_shut client.owner.channel d.channel },
         )
 
-  -- ---- a action of a client that was told, while the world's server gives
+  -- ---- an action of a client that was told, while the world's server gives
 
   module _ {Are : OfMarks} (actions : List (Action client_side)) (carried : AreCarried (begun_at moments actions)) (between : Between) (count : ℕ)
       (server : Stand server_side) (client : Stand client_side) (d : Drops Are actions between count server client) (waits : Waits d.at.world) where
@@ -292,7 +292,7 @@ module _ (read : Reading) (reads : IsReading read) (moments : ℕ → ℕ) (time
         none_less : (k : ℕ) → k < 0 → ⊥
         none_less k less = omega (arith, less)
 
-    -- a action of one that was told
+    -- an action of one that was told
     pub drop_step : (action : Action client_side) (next : Between) (new : Stand client_side) → ClientSuffers action client.owner new.owner
         → CanTurn (ByClient action) between next → Done action client new → Drops (Then action client.owner Are) (action ∷ actions) next count server new
     drop_step (Heard octets) next new is can did = heard_on octets next new is.1 can did (hears_none octets new.unheard did.next)

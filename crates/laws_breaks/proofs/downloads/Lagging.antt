@@ -95,7 +95,7 @@ left_over {old} {new} asked left = record {
 abbrev pub OfMarks : Type 1
 OfMarks = List (List Mark) → Type 0
 
--- of those that a action of the client makes
+-- of those that an action of the client makes
 abbrev pub Then : Action client_side → Held Client → OfMarks → OfMarks
 Then action at Are marks = (old : List (List Mark)) × Are old × Marks action at old marks
 
@@ -214,7 +214,7 @@ module _ (read : Reading) (reads : IsReading read) (moments : ℕ → ℕ) (time
     plainly : IsPlainly client.owner.end.view
     plainly = subst IsPlainly (fault_told n l.loads ∙ sym l.view) (faulted_plain Whatever n (loads_of n l.loads) l.at.plain)
 
-    -- ---- a action of a client that was told
+    -- ---- an action of a client that was told
 
     module _ (action : Action client_side) (next : Between) (new : Stand client_side) (can : CanTurn (ByClient action) between next) where
       -- so it lags on, where a step of one that was not told is known
@@ -365,7 +365,7 @@ module _ (read : Reading) (reads : IsReading read) (moments : ℕ → ℕ) (time
         ∙ ready.1)).0).0 in
         subst (λ o. Loading (hears n o)) (sym none) l.loads
 
-    -- a action of one that was told
+    -- an action of one that was told
     pub lag_step : (action : Action client_side) (next : Between) (new : Stand client_side) → ClientSuffers action client.owner new.owner
         → CanTurn (ByClient action) between next → Done action client new → Going → Lags (Then action client.owner Are) (action ∷ actions) next count server new
     lag_step (Heard octets) next new is can did going = heard_on octets next new is.1 can did (loads_then octets new.unheard did.next going)

@@ -1,4 +1,4 @@
--- Two drives of which downloads, listings and Peeks break, as a list of a world's events: a action of either.
+-- Two drives of which downloads, listings and Peeks break, as a list of a world's events: an action of either.
 use Rattle.std.specs.Prelude.{Option}
 use Rattle.std.proofs.Common.{◌≡◌, ◌⊎◌, inl, inr, ℕ, true, false, true≢false, List, [], ◌∷◌, refl, sym, ap, subst, append-nil, ◌∙◌}
 use Rattle.ftp_ports.specs.Asking.{Reset}
@@ -54,7 +54,7 @@ use Rattle.laws_breaks.proofs.downloads.Untold.{told}
 
 -- ---- actions
 
--- how the client stands to it is the same after a action of the server
+-- how the client stands to it is the same after an action of the server
 pub yielding_near : (action : Action server_side) (at : server_side.End) → IsYielding action at → (p q : Between) → CanTurn (Server action) p q → q.near ≡ p.near
 yielding_near (Other Failed) at is p q can = ap (λ (m : Between). m.near) can
 yielding_near (Other Break) at is p q can = ap (λ (m : Between). m.near) can.1
@@ -69,7 +69,7 @@ short_on : (action : Action client_side) → BreaksNone action → (actions : Li
 short_on (Other Break) unbroken actions at = absurd unbroken
 short_on action unbroken actions at = inr tt
 
--- what a action but a break marks is of no matter to what the client holds
+-- what an action but a break marks is of no matter to what the client holds
 marks_same : (action : Action client_side) → BreaksNone action → (at other : client_side.End) (old new : List (List Mark)) → Marks action at old new
     → Marks action other old new
 marks_same (Other Break) unbroken at other old new is = absurd unbroken
@@ -175,7 +175,7 @@ module _ (read : Reading) (reads : IsReading read) (moments : ℕ → ℕ) (time
           absurd (true≢false (sym (ap (λ (n : Near). is_unaborted n.job)
           (steady_now read reads moments timed b fair actions carried between count server (with_view e.other client) l).is) ∙ sent))
 
-  -- ---- a action of the client
+  -- ---- an action of the client
 
   module _ {Are : OfMarks} (actions : List (Action client_side)) (carried : AreCarried (begun_at moments actions)) (before : List (Action server_side))
       (ports : ArePorts before)
@@ -269,7 +269,7 @@ module _ (read : Reading) (reads : IsReading read) (moments : ℕ → ℕ) (time
         unsent = o.unsent;
       }
 
-      -- as it does a action, so does that
+      -- as it does an action, so does that
       whole_after : (action : Action client_side) → BreaksNone action → (after : Stand client_side) → IsShown q new after
           → Whole read reads moments timed b fair (Then action there.owner Are) (action ∷ actions) q (listened_in before) (dried server) after
           → Kept (Then action old.owner Are) (action ∷ actions) q (listened_in before) server new
@@ -328,7 +328,7 @@ module _ (read : Reading) (reads : IsReading read) (moments : ℕ → ℕ) (time
               short is can did
         ]
 
-  -- ---- a action of the server
+  -- ---- an action of the server
 
   module _ {Are : OfMarks} (actions : List (Action client_side)) (carried : AreCarried (begun_at moments actions)) (before : List (Action server_side)) (p q : Between)
       (old new : Stand server_side) (client : Stand client_side) where

@@ -248,7 +248,7 @@ module _ (read : Reading) (reads : IsReading read) (moments : ℕ → ℕ) (time
         let one = both_empty p.were.unheard between.control.to_server (sym p.at.together.beside.to_server ∙ gives_now.quiet) in
         (p.unread ∙ one.0, one.1)
 
-    -- ---- a action of the server
+    -- ---- an action of the server
 
     abbrev f : Far
     f = server.owner.end.server.view

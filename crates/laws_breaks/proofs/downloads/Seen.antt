@@ -1,4 +1,4 @@
--- What a action of the server does between two drives, as a world sees it: octets that the server did not write as it was told of the break of a data connection
+-- What an action of the server does between two drives, as a world sees it: octets that the server did not write as it was told of the break of a data connection
 -- that it gave all for, or that it drops as it resets one, are on their way there.
 use Rattle.std.proofs.Common.{◌≡◌, ◌⊎◌, inl, inr, true, false, true≢false, [], sym, ap, subst, ◌∙◌, refl}
 use Rattle.ftp_ports.specs.Asking.{Reset}

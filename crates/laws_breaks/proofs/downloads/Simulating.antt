@@ -54,7 +54,7 @@ use Rattle.laws_breaks.proofs.downloads.Untold.{Loading, fault_told, loading_of,
 
 -- ---- what was begun
 
--- a action begins an operation as where none breaks, or nothing
+-- an action begins an operation as where none breaks, or nothing
 by_carried : (moment : ℕ) (action : Action client_side) (old new : client_side.End) → ClientSuffers action old new → AreCarried (begun_by moment action)
 by_carried moment (Other (Aside (Starting op))) old new is = (is.0.0.0, tt)
 by_carried moment action old new is = tt
@@ -115,7 +115,7 @@ module _ (read : Reading) (reads : IsReading read) (moments : ℕ → ℕ) (time
       (client : Stand client_side) → Type 0
   Suffered Are actions between count server client = Lone Are actions between count (dried server) client ⊎ P Are actions between count server client
 
-  -- ---- a action of the client, where a world is beside both
+  -- ---- an action of the client, where a world is beside both
 
   module _ {Are : OfMarks} (actions : List (Action client_side)) (carried : AreCarried (begun_at moments actions)) (p q : Between) (count : ℕ)
       (server : Stand server_side) (old new : Stand client_side) (o : W Are actions p count server old) where
@@ -293,7 +293,7 @@ module _ (read : Reading) (reads : IsReading read) (moments : ℕ → ℕ) (time
 
   -- ---- one after another
 
-  -- a action of the client
+  -- an action of the client
   lone_client : {Are : OfMarks} (action : Action client_side) (actions : List (Action client_side)) → AreCarried (begun_at moments actions) → (p q : Between)
       (count : ℕ) (server : Stand server_side) (old new : Stand client_side) → Lone Are actions p count server old → ToldShort action actions old.owner
       → ClientSuffers action old.owner new.owner → CanTurn (Client action) p q → Done action old new
@@ -351,7 +351,7 @@ module _ (read : Reading) (reads : IsReading read) (moments : ℕ → ℕ) (time
         | inr going ↦ inr l
       ]
 
-  -- a action of the server that is told of no break
+  -- an action of the server that is told of no break
   lone_server : {Are : OfMarks} (action : Action server_side) (actions : List (Action client_side)) → AreCarried (begun_at moments actions)
       → (before : List (Action server_side))
       → ArePorts (action ∷ before) → (p q : Between) (old new : Stand server_side) (client : Stand client_side) → Lone Are actions p (listened_in before) old client
@@ -409,7 +409,7 @@ module _ (read : Reading) (reads : IsReading read) (moments : ℕ → ℕ) (time
           (inl (lone_late actions carried before p old new client o is.1 closing.0 closing.1 did))
     ]
 
-    -- a action but that
+    -- an action but that
     goes_on : (action : Action server_side) → BreaksNot action → ArePorts (action ∷ before) → ServerYields action old.owner new.owner → Sees action (dried old) p q
         → (did : Done action old new) → IsToldAt action old new did (last_of moments (number_in actions))
         → Suffered Are actions q (listened_in (action ∷ before)) new client
@@ -444,7 +444,7 @@ module _ (read : Reading) (reads : IsReading read) (moments : ℕ → ℕ) (time
     precede_turn action is can did =
         inr (precede_server read reads moments timed b fair actions carried p (listened_in before) old client l action q new is can did)
 
-  -- a action of the server, as a world sees it
+  -- an action of the server, as a world sees it
   pub server_turn : {Are : OfMarks} (action : Action server_side) (actions : List (Action client_side)) → AreCarried (begun_at moments actions)
       → (before : List (Action server_side))
       → ArePorts (action ∷ before) → (p q : Between) (old new : Stand server_side) (client : Stand client_side)

@@ -1,4 +1,4 @@
--- A action of either end, as where none breaks, and the world that it leads to.
+-- An action of either end, as where none breaks, and the world that it leads to.
 use Rattle.std.proofs.Common.{◌≡◌, ℕ, true, true≢false, List, [], ◌∷◌, ◌++◌, refl, sym, ap, subst, ◌∙◌, append-nil}
 use Rattle.ftp_ports.specs.Asking.{Reset}
 use Rattle.ftp_ports.specs.Actions.{Calls, Action, Done, Other, Stand}
@@ -41,7 +41,7 @@ module _ (read : Reading) (reads : IsReading read) (moments : ℕ → ℕ) (time
   abbrev pub At : (actions : List (Action client_side)) (between : Between) (count : ℕ) (server : Stand server_side) (client : Stand client_side) → Type 0
   At actions between count server client = Reached read reads moments timed b fair (begun_at moments actions) between count server client (reports_in actions)
 
-  -- what a action of the client leads to
+  -- what an action of the client leads to
   abbrev pub Went : (action : Action client_side) (actions : List (Action client_side)) {between : Between} {count : ℕ} {server : Stand server_side}
       {old : Stand client_side} (o : At actions between count server old) (marks : List (List Mark)) (next : Between) (new : Stand client_side) → Type 0
   Went action actions {between} {count} {server} {old} o marks next new =
@@ -96,7 +96,7 @@ module _ (read : Reading) (reads : IsReading read) (moments : ℕ → ℕ) (time
         went.marked,
       )
 
-  -- a action that begins and reports nothing, and does nothing
+  -- an action that begins and reports nothing, and does nothing
   pub idle_again : (action : Action client_side) (actions : List (Action client_side)) {between : Between} {count : ℕ} {server : Stand server_side}
       {client : Stand client_side} (o : At actions between count server client) → begun_by (moments (number_in actions)) action ≡ [] → reported_by action ≡ []
       → Again (action ∷ actions) between count server client o.world.marks
@@ -109,7 +109,7 @@ module _ (read : Reading) (reads : IsReading read) (moments : ℕ → ℕ) (time
       (subst (λ (g : List Order). (n : Reached read reads moments timed b fair g between count server client (reports_in actions))
       × (n.world.marks ≡ o.world.marks)) (sym begun) (o, refl))
 
-  -- a action of the client as where none breaks
+  -- an action of the client as where none breaks
   pub client_step : (action : Action client_side) → BreaksNone action → (old new : Stand client_side) → ClientTries action old.owner new.owner
       → (actions : List (Action client_side))
       → AreCarried (begun_at moments actions) → (p q : Between) → CanTurn (Client action) p q → (count : ℕ) (server : Stand server_side)
@@ -120,7 +120,7 @@ module _ (read : Reading) (reads : IsReading read) (moments : ℕ → ℕ) (time
       again action actions o (marked_by action o.world.marks) q new went.0 went.1 plain
       (client_fresh read reads moments timed b fair action unbroken old new is actions puts p q can count server (reports_in actions) o did)
 
-  -- what a action of the server leads to
+  -- what an action of the server leads to
   served : (action : Action server_side) (old new : Stand server_side) (actions : List (Action client_side)) (before : List (Action server_side)) (p q : Between)
       (client : Stand client_side) → StaysFresh q client → (o : At actions p (listened_in before) old client)
       → Goes read [] (begun_at moments actions) q (listened_in (action ∷ before)) new client (reports_in actions) o.world → ServerServes new.owner
@@ -170,7 +170,7 @@ module _ (read : Reading) (reads : IsReading read) (moments : ℕ → ℕ) (time
         bare = λ e. ap (λ (l : Channel). l.unwritten) channel ∙ t.serves.bare (ap (λ (l : Channel). l.stands) (sym channel) ∙ e);
       })
 
-  -- a action of the server that is told of no break, as a world sees it
+  -- an action of the server that is told of no break, as a world sees it
   pub server_step : (action : Action server_side) (old new : Stand server_side) → IsLone action old.owner → ServerIsCalm old.owner new.owner
       → (actions : List (Action client_side))
       → AreCarried (begun_at moments actions) → (before : List (Action server_side)) → ArePorts (action ∷ before) → (p q : Between) → Sees action old p q

@@ -61,7 +61,7 @@ can_unbroken Resets p q dials lost can = ((can.0, ap unbroken can.1), ap (λ (m 
 can_unbroken ToldEnd p q dials lost can = absurd (true≢false (sym (ap is_ended (sym lost ∙ can.0))))
 can_unbroken ToldBreak p q dials lost can = ((can.0, ap unbroken can.1), ap (λ (m : Between). m.near) can.1 ∙ lost)
 
--- so can a action of the server, as a world sees it
+-- so can an action of the server, as a world sees it
 pub sees_unbroken : (action : Action server_side) (server : Stand server_side) → IsLone action server.owner → (p q : Between) → p.near ≡ Has_lost
     → Sees action server p q → Sees action server (unbroken p) (unbroken q) × (q.near ≡ Has_lost)
 sees_unbroken (Other (Left (Reset left written))) server is p q lost can = ((can.0, ap unbroken can.1), ap (λ (m : Between). m.near) can.1 ∙ lost)

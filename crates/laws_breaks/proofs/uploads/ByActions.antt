@@ -198,7 +198,7 @@ heard_at read (octet ∷ []) short v n none upload at =
     event (owed answer) = at
 heard_at read (octet ∷ other ∷ more) short v n none upload at = absurd (omega (arith, short))
 
--- ---- a action of the server
+-- ---- an action of the server
 
 module _ (old new : Stand server_side) (n : ℕ) where
   abbrev v : Far

@@ -84,7 +84,7 @@ module _ (read : Reading) (reads : IsReading read) (moments : ℕ → ℕ) (time
   carried : AreCarried (begun_at moments actions)
   carried = all_carried (begun_at moments actions) puts
 
-  -- a action that begins nothing
+  -- an action that begins nothing
   begun_same : (action : Action client_side) → begun_by (moments (number_in actions)) action ≡ [] → begun_at moments (action ∷ actions) ≡ begun_at moments actions
   begun_same action none = ap (λ o. begun_at moments actions ++ o) none ∙ append-nil (begun_at moments actions)
 

@@ -17,7 +17,7 @@ pub record Holding (between : Between) (client : Stand client_side) : Type 0 whe
   pub had : is_had between.near ≡ true → client.owner.channel.stands ≡ true
   pub uncalled : is_called between.near ≡ false
 
--- ---- a action of the server
+-- ---- an action of the server
 
 -- none dials
 losing_dials : (action : Action server_side) (at : Held Timed) → IsLosing action at → is_dialled (touch_in action) ≡ false
@@ -61,7 +61,7 @@ far_near Resets p q dials can = ap (λ (m : Between). m.near) can.1
 far_near ToldEnd p q dials can = ap (λ (m : Between). m.near) can.2
 far_near ToldBreak p q dials can = ap (λ (m : Between). m.near) can.1
 
--- ---- a action of the client
+-- ---- an action of the client
 
 module _ (p q : Between) (old new : Stand client_side) (h : Holding p old) where
   -- it has what it had, and that stands as before

@@ -90,7 +90,7 @@ same_reports (ByClient action ∷ before) start now led = ap (λ r. r ++ reporte
 
 -- ---- what was begun
 
--- a action begins an operation that asks for all, or nothing
+-- an action begins an operation that asks for all, or nothing
 by_all : (moment : ℕ) (action : Action client_side) (old new : client_side.End) → ClientGives action old new → AskAll (begun_by moment action)
 by_all moment (Other (Aside (Starting op))) old new is = ((is.0.0.0.0, is.0.1), tt)
 by_all moment action old new is = tt

@@ -258,7 +258,7 @@ module _ (read : Reading) (reads : IsReading read) (moments : ℕ → ℕ) (time
       ]
     ]
 
-    -- ---- a action of the server
+    -- ---- an action of the server
 
     -- what the drive's holds
     abbrev pub f : Far

@@ -131,7 +131,7 @@ far_seen touch p q m (inr s) can = subst (SeenOn TheServer touch q) (sym s.0) (f
 pub lost_dry : (q : Between) → is_left q.near ≡ true → q.far ≡ Has_lost → Seen q (dry q)
 lost_dry q near far = inr (refl, record { near = near; far = ap is_left far })
 
--- ---- a action of the server, as a world of downloads sees it
+-- ---- an action of the server, as a world of downloads sees it
 
 -- what it drops is on its way to the client
 pub sees_seen : (action : Action server_side) (server : Stand server_side) (p q m : Between) → Seen p m → Sees action server p q

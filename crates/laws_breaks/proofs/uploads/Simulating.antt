@@ -99,7 +99,7 @@ module _ (read : Reading) (reads : IsReading read) (moments : ℕ → ℕ) (time
       ⊎ (Leaves read reads moments timed b fair Are actions between count (dried server) client
       ⊎ Outlives read reads moments timed b fair Are actions between count server client))
 
-  -- ---- a action of the client
+  -- ---- an action of the client
 
   module _ {Are : OfMarks} (actions : List (Action client_side)) (puts : AskAll (begun_at moments actions)) (before : List (Action server_side))
       (ports : ArePorts before)
@@ -188,7 +188,7 @@ module _ (read : Reading) (reads : IsReading read) (moments : ℕ → ℕ) (time
         })
       ]
 
-  -- ---- a action of the server
+  -- ---- an action of the server
 
   -- what is so of the marks then
   abbrev marked_so : Action server_side → Stand server_side → Stand client_side → OfMarks → OfMarks
@@ -349,7 +349,7 @@ module _ (read : Reading) (reads : IsReading read) (moments : ℕ → ℕ) (time
       cut_on {Are} (inr (inr (inl l))) = absurd (true≢false (sym l.far ∙ ap is_left can.0))
       cut_on {Are} (inr (inr (inr l))) = absurd (true≢false (ap is_left (sym l.taker.hold ∙ can.0)))
 
-    -- a action as where downloads alone break
+    -- an action as where downloads alone break
     yields_turn : {Are : OfMarks} (action : Action server_side) → ArePorts (action ∷ before) → Cut Are actions p (listened_in before) old client
         → IsYielding action old.owner
         → ServerIsCalm old.owner new.owner → Sees action (dried old) p q → (did : Done action old new)
@@ -383,7 +383,7 @@ module _ (read : Reading) (reads : IsReading read) (moments : ℕ → ℕ) (time
     pub is_seen : IsSeen between view
     pub cut : Cut Are actions view count server client
 
-  -- a action of the server
+  -- an action of the server
   server_turn : {Are : OfMarks} (actions : List (Action client_side)) → AskAll (begun_at moments actions) → (before : List (Action server_side)) (p q : Between)
       (old new : Stand server_side) (client : Stand client_side) (o : Stood Are actions p (listened_in before) old client) (action : Action server_side)
       → ArePorts (action ∷ before) → ServerLoses action old.owner new.owner → CanTurn (Server action) p q → (did : Done action old new)

@@ -198,7 +198,7 @@ module _ (read : Reading) (reads : IsReading read) (moments : ℕ → ℕ) (time
         refl,
       )
 
-  -- a action that begins and reports nothing is of no matter either
+  -- an action that begins and reports nothing is of no matter either
   pub undone : (action : Action client_side) (actions : List (Action client_side)) {between : Between} {count : ℕ} {server : Stand server_side}
       {client : Stand client_side} (o : At read reads moments timed b fair (action ∷ actions) between count server client)
       → begun_by (moments (number_in actions)) action ≡ [] → reported_by action ≡ []

@@ -175,7 +175,7 @@ module _ (read : Reading) (reads : IsReading read) (moments : ℕ → ℕ) (time
     pub plainly : IsPlainly u
     plainly = lifts_plain n u l.lifts Whatever l.at.plain
 
-    -- ---- a action of a client that was told
+    -- ---- an action of a client that was told
 
     module _ (action : Action client_side) (next : Between) (new : Stand client_side) (can : CanTurn (ByClient action) between next) where
       -- so it lags on, where a step of one that was not told is known
@@ -295,7 +295,7 @@ module _ (read : Reading) (reads : IsReading read) (moments : ℕ → ℕ) (time
         (λ e. ap (λ (x : Channel). x.untold) did.hears.1 ∙ e) (ap (λ (x : Channel). x.unwritten) did.hears.1)) (λ marks. refl)
         (hears_plain Unsent unsent_kept octets n l.unsent) (stays (Heard octets) next new can tt (tt, calm) did)
 
-    -- a action of one that was told
+    -- an action of one that was told
     pub up_lag_step : (action : Action client_side) (next : Between) (new : Stand client_side) → ClientGives action client.owner new.owner
         → CanTurn (ByClient action) between next → Done action client new → UpLags (Then action client.owner Are) (action ∷ actions) next count server new
     up_lag_step (Heard octets) next new is can did = heard_on octets next new is.1 can did

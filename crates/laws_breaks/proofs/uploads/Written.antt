@@ -49,7 +49,7 @@ abbrev pub is_break : Action client_side → Bool
 is_break (Other call) = is_breaking (move_of call)
 is_break action = false
 
--- a action, of which a break finds none unwritten
+-- an action, of which a break finds none unwritten
 pub action_written : (action : Action client_side) (old new : Stand client_side) → (is_break action ≡ true → old.owner.channel.unwritten ≡ [])
     → Done action old new → IsWritten old.owner.channel → IsWritten new.owner.channel
 action_written (Heard octets) old new none did written =

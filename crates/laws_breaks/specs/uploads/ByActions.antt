@@ -23,7 +23,7 @@ use Rattle.ftp_wire.specs.Decoder.{Decoder}
 -- ---- either end
 
 module _ {machine : Machine} where
-  -- the octets of a data connection of which the end was told in a action, and in actions
+  -- the octets of a data connection of which the end was told in an action, and in actions
   abbrev pub told_by : Action (side_of machine) → List ℕ
   told_by (Other (Received octets count)) = take count octets
   told_by action = []
@@ -55,7 +55,7 @@ abbrev pub IsAmidUpload : Action server_side → Type 0
 IsAmidUpload (Other (Aside asked)) = ⊤
 IsAmidUpload action = IsAmid {machine = server_machine} action
 
--- so it does still after a action in the midst, and it was not refused memory, and no device of it failed or strayed
+-- so it does still after an action in the midst, and it was not refused memory, and no device of it failed or strayed
 abbrev pub TakesOn : Action server_side → (old new : Held Timed) → Type 0
 TakesOn action old new = IsAmidUpload action × ServerIsCalm old new × IsTaking new
 
@@ -84,7 +84,7 @@ abbrev pub IsAmidDownload : Action client_side → Type 0
 IsAmidDownload (Other (Aside (Reporting None))) = ⊤
 IsAmidDownload action = IsAmid {machine = client_machine} action
 
--- so it does still after a action in the midst, and it was not refused memory
+-- so it does still after an action in the midst, and it was not refused memory
 abbrev pub LoadsOn : Action client_side → (old new : Held Client) → Type 0
 LoadsOn action old new = IsAmidDownload action × ClientIsCalm old new × IsLoading new
 

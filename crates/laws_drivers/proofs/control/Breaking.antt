@@ -75,7 +75,7 @@ server_attends count old attends =
       none_waits = attends.none_waits;
     }
 
--- that beginning is said by a action
+-- that beginning is said by an action
 server_says : (front : List ℕ) (count : ℕ) (old : Stand server_side) (written : Option (List ℕ)) → ServerAttends old.owner
     → front ≡ take count old.owner.end.server.view.owed
     → Appends old.written written front → SaysNext front old (record old { owner = server_there count old.owner; written = written })
@@ -158,7 +158,7 @@ client_front n last old given (inr gives) =
 client_there : (count : ℕ) → Held Client → Held Client
 client_there count old = record old { end = record old.end { view = near.gives_control count old.end.view } }
 
--- that beginning is said by a action
+-- that beginning is said by an action
 client_says : (front : List ℕ) (count : ℕ) (old : Stand client_side) (written : Option (List ℕ)) → front ≡ take count old.owner.end.view.owed
     → Appends old.written written front → SaysNext front old (record old { owner = client_there count old.owner; written = written })
 unfolding client_there

@@ -1,4 +1,4 @@
--- A action beside the control connection and one of the other end that is not change places.
+-- An action beside the control connection and one of the other end that is not change places.
 use Rattle.std.proofs.Common.{◌≡◌, ◌⊎◌, inl, inr, None, Some, sym, ap, subst, ◌∙◌}
 use Rattle.std.specs.Prelude.{⊤}
 use Rattle.laws_drivers.specs.control.Between.{Between, Can, Far, Near, Ways, Who, peer}

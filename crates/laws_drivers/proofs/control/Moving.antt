@@ -5,7 +5,7 @@ use Rattle.laws_drivers.specs.control.Swaps.{IsMoving, MovingActionsChangePlaces
 use Rattle.laws_drivers.specs.control.Touches.{Touch, None_of_it, Says, Reads, Parts, Listens, Dials, Accepts, IsDenied, IsMissed, Writes, Takes, Ends, Resets, ToldEnd, ToldBreak}
 use Rattle.laws_drivers.proofs.control.Swapping.{same_rest}
 
--- ---- what such a action does
+-- ---- what such an action does
 
 -- how an end stands to it changes
 data Change : Type 0 where

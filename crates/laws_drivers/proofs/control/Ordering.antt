@@ -11,7 +11,7 @@ use Rattle.laws_drivers.proofs.control.Swapping.{same_rest}
 
 -- ---- what lies between after an order
 
--- a action leaves but one thing
+-- an action leaves but one thing
 can_once : (who : Who) (touch : Touch) (old one other : Between) → Can who touch old one → Can who touch old other → one ≡ other
 can_once who None_of_it old one other a b = a ∙ sym b
 can_once who (Says octets) old one other a b = a ∙ sym b

@@ -282,7 +282,7 @@ pub record Plays (start : Stand server_side) (begun : Stand client_side) (op : O
   pub near_goes : Goes IsAsking ClientIsCalm ClientAttends midst begun (near_at n unheard_near)
 
 module _ (start : Stand server_side) (begun : Stand client_side) (op : Op (List ℕ)) where
-  -- a action of the server
+  -- an action of the server
   pub far_turn : (action : Action server_side) → IsServing action → (up down next_up next_down : List ℕ) (v new : Far) (u next : List ℕ) (n : Near) (w : List ℕ)
       → Attends new → Done action (far_at v u) (far_at new next) → CanTurn (Server action) (between up down) (between next_up next_down)
       → Plays start begun op up v u down n w → Plays start begun op next_up new next next_down n w
@@ -301,7 +301,7 @@ module _ (start : Stand server_side) (begun : Stand client_side) (op : Op (List 
         near_goes = p.near_goes;
       }
 
-  -- a action of the client
+  -- an action of the client
   pub near_turn : (action : Action client_side) → IsAsking action → IsMidst action → (up down next_up next_down : List ℕ) (v : Far) (u : List ℕ) (n new : Near)
       (w next : List ℕ) → near.wants new ≡ Want.Nothing → Done action (near_at n w) (near_at new next)
       → CanTurn (Client action) (between up down) (between next_up next_down)

@@ -245,7 +245,7 @@ module _ (read : Reading) (reads : IsReading read) (table : Table) where
         too_many : (octets : List ℕ) → suc (suc (length octets)) ≤ 1 → ⊥
         too_many octets few = omega (arith, few)
 
-    -- a action
+    -- an action
     pub action_keeps : (action : Action server_side) → IsServing action → Done action old new → (a b : Between) → Can TheServer (touch_in action) a b → Quits table old a
         → Quits table new b
     action_keeps (Heard octets) is did a b can h = subst (Quits table new) (sym can) (heard_next octets a did h)

@@ -28,13 +28,13 @@ pub ends_so : {side : Side} (Is : Action side → Type 0) (Keeps : (old new : si
 ends_so Is Keeps Stands [] start now led held = held
 ends_so Is Keeps Stands (action ∷ before) start now led held = held.3
 
--- what a client reports in a action
+-- what a client reports in an action
 pub reported_is : (said : Option Said) → reported_by (Other (Aside (Reporting said))) ≡ option_to_list said
 reported_is None = refl
 reported_is (Some said) = refl
 
 module _ (read : Reading) (reads : IsReading read) (moment : ℕ) (timed : moment ≤ last_second) where
-  -- a action of the server
+  -- an action of the server
   server_goes : (action : Action server_side) → IsServing action → (old new : Stand server_side) (client : Stand client_side) (reports : List Said) (w : World)
       → ServerIsCalm old.owner new.owner → ServerAttends old.owner → ServerAttends new.owner → ClientAttends client.owner → Done action old new
       → (a b : Between) → CanTurn (Server action) a b → IsAlike a.control old client reports w → Goes read [] b.control new client reports w
@@ -52,7 +52,7 @@ module _ (read : Reading) (reads : IsReading read) (moment : ℕ) (timed : momen
       (server_aside read reads old new client reports w calm before after asks a.control alike did)
   server_goes action is old new client reports w calm before after asks did a b can alike = absurd is
 
-  -- a action of the client
+  -- an action of the client
   client_goes : (action : Action client_side) → IsAsking action → (server : Stand server_side) (old new : Stand client_side) (reports : List Said) (w : World)
       → ClientIsCalm old.owner new.owner → ServerAttends server.owner → ClientAttends old.owner → ClientAttends new.owner → Done action old new
       → (a b : Between) → CanTurn (Client action) a b → IsAlike a.control server old reports w

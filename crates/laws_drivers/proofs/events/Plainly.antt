@@ -40,7 +40,7 @@ ClientTakes action old new = IsTaking action × ClientIsCalm old new
 
 -- ---- that it stays plain
 
--- a action but taking octets
+-- an action but taking octets
 abbrev pub TakesNone : Action client_side → Type 0
 TakesNone (Other (Received octets count)) = ⊥
 TakesNone action = Unit {0}
@@ -68,7 +68,7 @@ module _ (Kept : Op (List ℕ) → Transfer → Type 0) (keeps : IsKept Kept) wh
     is_now : (n : Near) → u ≡ n → IsPlainBy Kept n → IsPlainBy Kept u
     is_now n is p = subst (IsPlainBy Kept) (sym is) p
 
-    -- a action
+    -- an action
     pub action_plain : (action : Action client_side) → TakesNone action → ClientTakes action old.owner new.owner → Done action old new → IsPlainBy Kept v → IsPlainBy Kept u
     action_plain (Heard octets) none is did p =
         is_now _ (did.hears.0.0.0 is.1).0 (hears_plain Kept keeps (take (length octets) old.unheard) v p)
@@ -94,7 +94,7 @@ took_plain octets count old new calm did p = subst IsPlainly (sym (did.0.0.0.0 c
 
 -- ---- that it has not failed
 
--- a action but hearing, and being told of an end
+-- an action but hearing, and being told of an end
 abbrev pub IsElse : Action client_side → Type 0
 IsElse (Heard octets) = ⊥
 IsElse (Other End) = ⊥

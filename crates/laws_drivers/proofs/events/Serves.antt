@@ -104,7 +104,7 @@ module _ (old new : Stand server_side) (before : ServerServes old.owner) where
       (did.0.0.1.0.done calm ∙ none_later (given_step count v) (ap (λ (x : Far). x.waiting) step ∙ kept.waiting ∙ before.none_waits) ∙ step)
       kept.life kept.waiting
 
--- a action but hearing
+-- an action but hearing
 abbrev pub IsElse : Action server_side → Type 0
 IsElse (Heard octets) = ⊥
 IsElse action = Unit {0}

@@ -68,7 +68,7 @@ AsksAlone actions start now led = Throughout IsAsking ClientIsCalm ClientAttends
 
 -- ---- what the client began and reported
 
--- in a action
+-- in an action
 abbrev pub begun_by : (moment : ℕ) → Action client_side → List Order
 begun_by moment (Other (Aside (Starting op))) = Single op moment ∷ []
 begun_by moment other = []

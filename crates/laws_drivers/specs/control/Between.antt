@@ -76,7 +76,7 @@ dialled who between = with_hold who Has (with_hold (peer who) Is_called (record 
 abbrev pub sent : Who → List ℕ → Ways → Ways
 sent who octets ways = with_coming (peer who) (coming (peer who) ways ++ octets) ways
 
--- How a action of one of them changes what lies between, and when it can: control octets are read in order, and only once they were written; so are
+-- How an action of one of them changes what lies between, and when it can: control octets are read in order, and only once they were written; so are
 -- those of a data connection, while it is had. One is dialled where its peer listens, which accepts it after that; who listens again forgets who came
 -- before. Its end is told once the peer ended it and all is read; a break may be told while it is had.
 abbrev pub Can : Who → Touch → (old new : Between) → Type 0

@@ -1,4 +1,4 @@
--- Actions of different ends that change places: a action comes before one of the other end that was done first, where it reads nothing that this wrote.
+-- Actions of different ends that change places: an action comes before one of the other end that was done first, where it reads nothing that this wrote.
 use Rattle.std.specs.Prelude.{◌≡◌, ◌⊎◌, ⊤, ℕ, List, [], ◌∷◌, ◌++◌, Some}
 use Rattle.ftp_ports.specs.Actions.{Stand}
 use Rattle.ftp_client_driver.specs.Side.{client_side}
@@ -85,7 +85,7 @@ NeighboursChangePlaces =
     → Happened (second ∷ before) other → Happened (later ++ second ∷ first ∷ before) now
     → Happened (later ++ first ∷ second ∷ before) now × AreOfSameEnds (later ++ second ∷ first ∷ before) (later ++ first ∷ second ∷ before)
 
--- so a action can come later than several, where these can happen without it
+-- so an action can come later than several, where these can happen without it
 abbrev pub ActionsGoBehind : Type 0
 ActionsGoBehind =
     (later others before : List Turn) (first : Turn) (other now : Between) → IsApartFrom first others

@@ -1,4 +1,4 @@
--- What a action does to what lies between two ends (RFC 959, section 2.3).
+-- What an action does to what lies between two ends (RFC 959, section 2.3).
 use Rattle.std.specs.Prelude.{ℕ, List, [], ◌∷◌, Option, Some, None}
 use Rattle.ftp_endpoint.specs.declared.host.Host.{Host}
 use Rattle.ftp_endpoint.specs.declared.endpoint.Endpoint.{Endpoint}

@@ -68,7 +68,7 @@ pub fn drives_that_broke_off_are_cut()
     ensures clients { ClientsAreCut }
 {}
 
-/// A action beside the control connection can come before one of the other end that was done first, where it reads nothing that this wrote; so can one of
+/// An action beside the control connection can come before one of the other end that was done first, where it reads nothing that this wrote; so can one of
 /// a data connection that stands before another of it, where it can happen without that.
 pub fn actions_change_places()
     ensures control { ActionsChangePlaces }
@@ -76,7 +76,7 @@ pub fn actions_change_places()
 {}
 
 /// In an order in which each action can happen, two neighbours of different ends, one of them beside the control connection or both of a data connection that
-/// stands, change places where the second can happen without the first, and a action goes behind several of the other end that can happen without it: then
+/// stands, change places where the second can happen without the first, and an action goes behind several of the other end that can happen without it: then
 /// each can still happen, and the same lies between. An order leaves but one thing there, and either end what its own actions leave.
 pub fn orders_change()
     ensures one { OrdersLeaveOne }

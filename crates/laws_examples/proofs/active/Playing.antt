@@ -43,7 +43,7 @@ pub record Played (moments : ℕ → ℕ) (start : Stand server_side) (begun : S
   pub ports : ArePorts turns
   pub told : AreToldAt moments turns start server far_led
 
--- a action that tells no port
+-- an action that tells no port
 abbrev pub TellsNoPort : Turn → Type 0
 TellsNoPort turn = (before : List Turn) → (listened_in (turn ∷ before) ≡ listened_in before) × (ArePorts before → ArePorts (turn ∷ before))
 
@@ -52,7 +52,7 @@ abbrev pub IsQuiet : Action server_side → Type 0
 IsQuiet action = TellsNoPort (Server action) × IsUntimed action
 
 module _ (moments : ℕ → ℕ) (start : Stand server_side) (begun : Stand client_side) (op : Op (List ℕ)) where
-  -- a action of the server
+  -- an action of the server
   pub far_turn : (action : Action server_side) → IsQuiet action → (listened : ℕ) (old new : Between) (at next : Stand server_side) (client : Stand client_side)
       → ServerTransfers action at.owner next.owner → Done action at next → CanTurn (Server action) old new
       → Played moments start begun op listened old at client → Played moments start begun op listened new next client
@@ -75,7 +75,7 @@ module _ (moments : ℕ → ℕ) (start : Stand server_side) (begun : Stand clie
     told = (p.told, quiet.1 at next done (last_of moments (number_in (client_actions p.turns))));
   }
 
-  -- a action of the client but that it is told of a break
+  -- an action of the client but that it is told of a break
   pub near_turn : (action : Action client_side) → IsMidst action × IsUnbroken action → TellsNoPort (Client action)
       → (listened : ℕ) (old new : Between) (server : Stand server_side) (at next : Stand client_side)
       → ClientTransfers action at.owner next.owner → Done action at next → CanTurn (Client action) old new

@@ -70,7 +70,7 @@ lies up down go come near_hold far_hold = record {
 
 -- ---- actions of both
 
--- a action that tells no port
+-- an action that tells no port
 abbrev pub TellsNoPort : Action server_side → Type 0
 TellsNoPort action = (before : List (Action server_side)) → (listened_in (action ∷ before) ≡ listened_in before) × (ArePorts before → ArePorts (action ∷ before))
 
@@ -81,7 +81,7 @@ IsUntimed action = (old new : Stand server_side) (done : Done action old new) (m
 abbrev pub IsQuiet : Action server_side → Type 0
 IsQuiet action = TellsNoPort action × IsUntimed action
 
--- a action in the midst begins none
+-- an action in the midst begins none
 midst_number : (action : Action client_side) (before : List (Action client_side)) → IsMidst action → number_in (action ∷ before) ≡ number_in before
 midst_number (Other (Aside (Starting op))) before midst = absurd midst
 midst_number action before midst = refl
@@ -90,7 +90,7 @@ pub midst_numbers : (actions before : List (Action client_side)) → AreMidst ac
 midst_numbers [] before midst = refl
 midst_numbers (action ∷ actions) before midst = midst_number action (actions ++ before) midst.1 ∙ midst_numbers actions before midst.0
 
--- a action of the client but that it is told of a break: nothing is asked of the server for it
+-- an action of the client but that it is told of a break: nothing is asked of the server for it
 abbrev pub IsUnbroken : Action client_side → Type 0
 IsUnbroken (Other Break) = ⊥
 IsUnbroken action = Unit {0}
@@ -151,7 +151,7 @@ abbrev pub Played : (moments : ℕ → ℕ) (start : Stand server_side) (begun :
 Played moments start begun op listened between server client = PlayedBy transferring moments start begun op listened between server client
 
 module _ {kind : Kind} (moments : ℕ → ℕ) (start : Stand server_side) (begun : Stand client_side) (op : Op (List ℕ)) where
-  -- a action of the server, of that kind
+  -- an action of the server, of that kind
   pub far_does : (action : Action server_side) → IsQuiet action → (listened : ℕ) (old new : Between) (at next : Stand server_side) (client : Stand client_side)
       → kind.Gives action at.owner next.owner → Done action at next → (can : CanTurn (Server action) old new)
       → (p : PlayedBy kind moments start begun op listened old at client)
@@ -206,7 +206,7 @@ module _ {kind : Kind} (moments : ℕ → ℕ) (start : Stand server_side) (begu
     told = (p.told, timely ∙ ap (last_of moments) (sym (ap number_in p.client_is ∙ midst_numbers p.midst (Other (Begun op) ∷ []) p.are)));
   }
 
-  -- a action of the client, of that kind
+  -- an action of the client, of that kind
   pub near_does : (action : Action client_side) → IsMidst action → (listened : ℕ) (old new : Between) (server : Stand server_side) (at next : Stand client_side)
       → kind.Takes action at.owner next.owner → Done action at next → (can : CanTurn (Client action) old new)
       → (p : PlayedBy kind moments start begun op listened old server at)

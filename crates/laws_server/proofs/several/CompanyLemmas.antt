@@ -84,7 +84,7 @@ same_part root table other limits same =
 the_same : (one other : Slot) → Some one ≡ Some other → one ≡ other
 the_same one other is = ap (λ (found : Option Slot). unwrap_or found one) is
 
--- who was called is in_slot still
+-- who was called is in a slot still
 called_in_slot : (read : Reading) (root : Names) (cue : Cue) (table : Table) (sits : Slot) → IsInSlot root sits.view → CallIsAt read root cue (lent_to table sits)
     → IsInSlot root (in_slot_again sits.view.session.table (call read cue (lent_to table sits)).1).view
 called_in_slot read root cue table sits in_slot known =

@@ -7,7 +7,7 @@ use Rattle.laws_drivers.specs.events.Actions.{AreMidst, IsMidst}
 use Rattle.laws_drivers.specs.control.Alone.{begun_by, reported_by, reports_in}
 use Rattle.laws_transfers.specs.Actions.{begun_at, number_in}
 
--- a action in the midst begins none, and reports none
+-- an action in the midst begins none, and reports none
 midst_number : (action : Action client_side) (before : List (Action client_side)) → IsMidst action → number_in (action ∷ before) ≡ number_in before
 midst_number (Other (Aside (Starting op))) before midst = absurd midst
 midst_number action before midst = refl

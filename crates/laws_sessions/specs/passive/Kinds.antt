@@ -29,7 +29,7 @@ pub record Kind : Type 1 where
   pub Asks : Action client_side → Held NearEnd → Type 0
   pub Meets : Ends → Type 0
 
--- such a action, and the ends before it and after it keep this
+-- such an action, and the ends before it and after it keep this
 module _ {side : Side} (Is : Action side → side.End → Type 0) (Keeps : (old new : side.End) → Type 0) where
   abbrev pub Does : Action side → (old new : side.End) → Type 0
   Does action old new = Is action old × Keeps old new

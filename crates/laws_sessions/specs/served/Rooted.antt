@@ -29,13 +29,13 @@ use Rattle.laws_sessions.specs.served.Alone.{DrivesBy, FindWhatWasLeft, actions_
 
 -- ---- who stays there
 
--- who logs in by a action has this root, whatever stands elsewhere and whenever it is: only a line that is heard logs somebody in
+-- who logs in by an action has this root, whatever stands elsewhere and whenever it is: only a line that is heard logs somebody in
 abbrev pub LogsInAt : Names → Action server_side → Held Timed → Type 0
 LogsInAt root (Heard octets) old =
     (read : Reading) → IsReading read → (table : Table) (moment : ℕ) → IsAt root (hears read (clock_step moment (exchanged table old.end.server.view)) octets)
 LogsInAt root action old = ⊤
 
--- so it is in a action that leaves both counts, before which no line waits
+-- so it is in an action that leaves both counts, before which no line waits
 pub record StaysAt (root : Names) (action : Action server_side) (old new : Held Timed) : Type 0 where
   pub calm : ServerIsCalm old new
   pub none_waits : old.end.server.view.waiting ≡ None
