@@ -7,7 +7,7 @@ use Rattle.ftp_ports.specs.Actions.{Stand, some_of, steps_in, with_owner}
 use Rattle.ftp_ports.specs.Carrying.{told_by}
 use Rattle.ftp_ports.specs.Driving.{Flushes, Fails, Goes, Leads, LeadsBy, LeadsFar}
 use Rattle.ftp_ports.specs.Channel.{IsLeft, IsRead, Channel, channel_of, with_asked, with_fate, with_untold}
-use Rattle.ftp_ports.specs.Machine.{IsFlushed, LeavesFlushed, GetsOn, Stirs, awaits, IsBroken, IsFairEnd, Machine, MayLeave, held, leaves as goes_without, side_of, stand_of}
+use Rattle.ftp_ports.specs.Machine.{IsFlushed, LeavesFlushed, GetsOn, Progresses, awaits, IsBroken, IsFairEnd, Machine, MayLeave, held, leaves as goes_without, side_of, stand_of}
 use Rattle.ftp_ports.specs.Outcome.{IsDropped, IsReset}
 use Rattle.ftp_ports.specs.Whole.{is_well}
 use Rattle.ftp_ports.specs.declared.data.DataConnection.{DataConnection}
@@ -22,7 +22,7 @@ use Rattle.ftp_ports.specs.declared.whole.Fate.TheVariants as Fates
 use Rattle.ftp_ports.proofs.Going.{goes_then}
 use Rattle.ftp_ports.proofs.Idling.{asked_waits, breaks_told, came, came_none, leaves, waits}
 use Rattle.ftp_ports.proofs.Channels.{same_channel}
-use Rattle.ftp_ports.proofs.Getting.{gets_goes, stirs_lead, stirs_some, then_gets, then_stirs}
+use Rattle.ftp_ports.proofs.Getting.{gets_goes, progresses_lead, progresses_some, then_gets, then_progresses}
 use Rattle.ftp_ports.proofs.Leading.{by_then, by_then_any, fails_spent, gives_up, leads_nowhere, leads_then, then_steps}
 use Rattle.ftp_ends.specs.Octets.{has_octets}
 use Rattle.ftp_ends.specs.declared.link.Wants.{Wants}
@@ -127,11 +127,11 @@ module _ (machine : Machine) where
   -- it is told that it broke, and it is reset
   pub loses : (old new : Stand (side_of machine)) (here : machine.Here) (asked : Asked) → machine.Break old.owner.end here
       → IsBroken (machine.wants old.owner.end) old.owner.channel.stands old.owner.channel.fate → IsReset asked old.owner.channel new.owner.channel
-      → new ≡ with_owner (held here new.owner.channel) old → Stirs machine old new
+      → new ≡ with_owner (held here new.owner.channel) old → Progresses machine old new
   loses old new here asked broke is reset same =
       let channel = with_fate Fates.Broken old.owner.channel in
       let mid = with_owner (held here channel) old in
-      then_stirs old mid new (breaks_told machine old.owner.end here old.owner.channel broke is old.left old.unheard old.written)
+      then_progresses old mid new (breaks_told machine old.owner.end here old.owner.channel broke is old.left old.unheard old.written)
       (leaves machine asked mid new (left_broken asked old.owner.channel new.owner.channel reset.left) tt
       (dropped_fair channel old.owner.channel.stands asked refl reset.dropped)
       (dropped_flushed here old.owner.channel.stands old.owner.channel.left old.owner.channel.written asked reset.dropped) same)
@@ -141,7 +141,7 @@ module _ (machine : Machine) where
       → Adds old.owner.channel.asked h1 (told_lost lost) → Leads old (asked_before h1 old)
   asks lost old h1 due told =
       let channel = old.owner.channel in
-      stirs_lead _ _ (waits machine lost old.owner.end channel (with_asked h1 channel) due (asked_waits machine lost channel channel.asked h1 told) old.left old.unheard old.written)
+      progresses_lead _ _ (waits machine lost old.owner.end channel (with_asked h1 channel) due (asked_waits machine lost channel channel.asked h1 told) old.left old.unheard old.written)
 
   -- all that it owed is written
   pub flushed_so : {T : Type 0} (a b : Stand (side_of machine)) (r : Result T Cause) → Flushes a b r → OnOk r (IsFlushed machine b.owner.end)
@@ -149,8 +149,8 @@ module _ (machine : Machine) where
   flushed_so a b (Err e) fails = tt
 
   -- a turn leads on, or fails
-  pub turned_on : {U : Type 0} (a b : Stand (side_of machine)) → Stirs machine a b ⊎ (Leads a b × U) → Leads a b
-  turned_on a b (inl stirs) = stirs_lead a b stirs
+  pub turned_on : {U : Type 0} (a b : Stand (side_of machine)) → Progresses machine a b ⊎ (Leads a b × U) → Leads a b
+  turned_on a b (inl progresses) = progresses_lead a b progresses
   turned_on a b (inr other) = other.0
 
   pub turned_off : {U : Type 0} (cause : Cause) (a b : Stand (side_of machine)) → Fails cause a b ⊎ (Fails cause a b × U) → Fails cause a b
@@ -184,10 +184,10 @@ module _ (machine : Machine) where
 
   -- one turn more, where it was not over
   pub turns_on : (before left : ℕ) (a b c d : Stand (side_of machine)) → TurnsBy before a b → before ≡ suc left → IsOpenEnd machine b.owner.end → Leads b c
-      → Stirs machine c d ⊎ (Leads c d × ((machine.serves ≡ true) × (machine.wants d.owner.end ≡ Want.CloseAll))) → TurnsBy left a d
+      → Progresses machine c d ⊎ (Leads c d × ((machine.serves ≡ true) × (machine.wants d.owner.end ≡ Want.CloseAll))) → TurnsBy left a d
   turns_on before left a b c d (inr over) one is_open aside turned = absurd (is_open over.1.0 over.1.1)
-  turns_on before left a b c d (inl by) one is_open aside (inl stirs) =
-      inl (by_then before left a c d (by_then_any before a b c by aside) one (stirs_lead c d stirs) (stirs_some c d stirs))
+  turns_on before left a b c d (inl by) one is_open aside (inl progresses) =
+      inl (by_then before left a c d (by_then_any before a b c by aside) one (progresses_lead c d progresses) (progresses_some c d progresses))
   turns_on before left a b c d (inl by) one is_open aside (inr over) =
       inr (subst (λ n. LeadsBy n a d) one (by_then_any before a c d (by_then_any before a b c by aside) over.0), over.1)
 
@@ -223,12 +223,12 @@ module _ (machine : Machine) where
 
   -- one turn more, where it was not over
   pub made_on : (made : ℕ) (a b c d : Stand (side_of machine)) → MadeBy made a b → IsOpenEnd machine b.owner.end → Leads b c
-      → Stirs machine c d ⊎ (Leads c d × ((machine.serves ≡ true) × (machine.wants d.owner.end ≡ Want.CloseAll))) → MadeBy (made + 1) a d
+      → Progresses machine c d ⊎ (Leads c d × ((machine.serves ≡ true) × (machine.wants d.owner.end ≡ Want.CloseAll))) → MadeBy (made + 1) a d
   made_on made a b c d (inr over) is_open aside turned = absurd (is_open over.1.0 over.1.1)
-  made_on made a b c d (inl by) is_open aside (inl stirs) =
+  made_on made a b c d (inl by) is_open aside (inl progresses) =
       let first = leads_then a b c by.0 aside in
-      let second = stirs_lead c d stirs in
-      inl (leads_then a c d first second, omega (arith, by.1, stirs_some c d stirs, then_steps a c d first second, then_steps a b c by.0 aside))
+      let second = progresses_lead c d progresses in
+      inl (leads_then a c d first second, omega (arith, by.1, progresses_some c d progresses, then_steps a c d first second, then_steps a b c by.0 aside))
   made_on made a b c d (inl by) is_open aside (inr over) =
       let first = leads_then a b c by.0 aside in
       inr (record { leads = leads_then a c d first over.0; made = omega (arith, by.1, then_steps a c d first over.0, then_steps a b c by.0 aside) }, over.1)

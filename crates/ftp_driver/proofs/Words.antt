@@ -3,7 +3,7 @@ pub use Rattle.std.proofs.Common.{◌∙◌, ◌∷◌, [], refl, rules, subst, 
 pub use Rattle.ftp_ports.proofs.Causing.{is_fault, is_spent, passes}
 pub use Rattle.ftp_ports.proofs.Going.{flushed, flushes_err, goes_err, goes_then, read_fails, write_fails}
 pub use Rattle.ftp_ports.proofs.Idling.{asides, breaks_told, came, came_none, ends_told, hears_first, idles_same, idles_sent, leaves, lets_go, received, receives, sends, waits}
-pub use Rattle.ftp_ports.proofs.Getting.{gets_err, gets_goes, gets_then, stirs_by, stirs_lead, stirs_on, stirs_then, then_gets, then_stirs}
+pub use Rattle.ftp_ports.proofs.Getting.{gets_err, gets_goes, gets_then, progresses_by, progresses_lead, progresses_on, progresses_then, then_gets, then_progresses}
 pub use Rattle.ftp_ports.proofs.Channels.{fills, none_had}
 pub use Rattle.ftp_ports.proofs.Leading.{by_action, by_nowhere, by_then_any, fails_here, fails_lets, fails_spent, fails_then, leads_by, leads_nowhere, leads_on, leads_then}
 pub use Rattle.ftp_ports.proofs.Meeting.{has_none, has_one, listens, listens_nowhere, none_answered, none_came, one_came}

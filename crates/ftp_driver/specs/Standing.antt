@@ -9,7 +9,7 @@ use Rattle.ftp_ports.specs.Cause.{IsCause}
 use Rattle.ftp_ports.specs.Actions.{Stand, with_owner}
 use Rattle.ftp_ports.specs.Driving.{Goes, Leads}
 use Rattle.ftp_ports.specs.Channel.{IsLeft, Channel, channel_of, no_channel, with_asked, with_ends}
-use Rattle.ftp_ports.specs.Machine.{GetsOn, IsFairEnd, Machine, Stirs, held, side_of, stand_of}
+use Rattle.ftp_ports.specs.Machine.{GetsOn, IsFairEnd, Machine, Progresses, held, side_of, stand_of}
 use Rattle.ftp_ports.specs.Unheard.{unheard_of}
 use Rattle.ftp_ports.specs.declared.cause.Cause.{Cause}
 use Rattle.ftp_ports.specs.declared.control.Control.{Control}
@@ -79,8 +79,8 @@ module _ (machine : Machine) {K E R W P S : Type 0} (here : E → machine.Here) 
   LeadsOn old new = Leads (standing old) (standing new)
 
   -- it gets on
-  abbrev pub StirsOn : (old new : Drive K E R W P S) → Type 0
-  StirsOn old new = Stirs machine (standing old) (standing new)
+  abbrev pub ProgressesOn : (old new : Drive K E R W P S) → Type 0
+  ProgressesOn old new = Progresses machine (standing old) (standing new)
 
   -- it gets on, or fails
   abbrev pub Gets : {T : Type 0} → (old new : Drive K E R W P S) → Result T Cause → Type 0

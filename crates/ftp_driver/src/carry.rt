@@ -6,7 +6,7 @@ ghost use Rattle.ftp_ports.specs.Cause.{HasLost};
 ghost use Rattle.ftp_ports.specs.Halting.{fate_by};
 ghost use Rattle.ftp_ports.specs.Machine.{IsBroken, IsFlushed, IsListening, MayLeave, awaits, moves_octets, waits};
 ghost use Rattle.ftp_ports.specs.Unheard.{unheard_of};
-ghost use Rattle.ftp_driver.specs.Standing.{Follows, Gets, HasEnded, IsKept, IsOpenAt, LeadsOn, StirsOn, Why};
+ghost use Rattle.ftp_driver.specs.Standing.{Follows, Gets, HasEnded, IsKept, IsOpenAt, LeadsOn, ProgressesOn, Why};
 
 use crate::calls::EndCalls;
 use crate::data::Data;
@@ -25,7 +25,7 @@ where
     S: Duplex,
 {
     /// Takes octets from an end that asks, which the turns behind it write; of one that serves sends them where there is room for them.
-    #[tactic(auto, using(ftp_ports::proofs::Getting::gets_then, ftp_ports::proofs::Getting::then_gets, ftp_ports::proofs::Getting::stirs_then, ftp_ports::proofs::Leading::leads_then, ftp_ports::proofs::Getting::gets_goes))]
+    #[tactic(auto, using(ftp_ports::proofs::Getting::gets_then, ftp_ports::proofs::Getting::then_gets, ftp_ports::proofs::Getting::progresses_then, ftp_ports::proofs::Leading::leads_then, ftp_ports::proofs::Getting::gets_goes))]
     pub(crate) fn carry(&mut self) -> Result<(), Cause>
         requires wants { K.machine.wants (K.here self.old.end.now) ≡ Wants.Send }
         requires sound { self.old.data.now.connection.fate ≢ Fate.Failed }
@@ -78,7 +78,7 @@ where
         requires sound { self.old.data.now.connection.fate ≢ Fate.Failed }
         requires none { IsOpenAt self.old.data.now → ⊥ }
         requires flushed { IsFlushed K.machine (K.here self.old.end.now) }
-        ensures stirs { StirsOn K.machine K.here R.remaining W.contents P.history S.remaining S.contents self.old self.new }
+        ensures progresses { ProgressesOn K.machine K.here R.remaining W.contents P.history S.remaining S.contents self.old self.new }
         ensures kept { IsKept self.old self.new }
     {
         if self.data.connection.fate() == Fate::Sound {
@@ -91,7 +91,7 @@ where
     /// Waits until octets can go over the data connection, or where all that was read was heard until the control connection is to be served.
     fn wait(&mut self, what: For) -> Ready
         requires { awaits (K.machine.wants (K.here self.old.end.now)) ≡ true }
-        ensures stirs { StirsOn K.machine K.here R.remaining W.contents P.history S.remaining S.contents self.old self.new }
+        ensures progresses { ProgressesOn K.machine K.here R.remaining W.contents P.history S.remaining S.contents self.old self.new }
         ensures ready { IsOpenAt self.old.data.now → IsOpenAt self.new.data.now }
         ensures end { self.new.end.now ≡ self.old.end.now }
         ensures first { result ≡ Ready.Control → 0 < length (unheard_of self.new.control.now) → HasLost (P.history self.new.ports.now) }
@@ -148,11 +148,11 @@ where
     }
 
     /// Writes octets on their way, as many as one write takes; where that fails, the data connection is lost.
-    #[tactic(auto, using(ftp_ports::proofs::Leading::leads_then, ftp_ports::proofs::Getting::stirs_lead, ftp_ports::proofs::Getting::stirs_then))]
+    #[tactic(auto, using(ftp_ports::proofs::Leading::leads_then, ftp_ports::proofs::Getting::progresses_lead, ftp_ports::proofs::Getting::progresses_then))]
     pub(crate) fn push(&mut self)
         requires ready { IsOpenAt self.old.data.now }
         ensures leads { LeadsOn K.machine K.here R.remaining W.contents P.history S.remaining S.contents self.old self.new }
-        ensures stirs { self.old.data.now.connection.at < self.old.data.now.connection.end → StirsOn K.machine K.here R.remaining W.contents P.history S.remaining S.contents self.old self.new }
+        ensures progresses { self.old.data.now.connection.at < self.old.data.now.connection.end → ProgressesOn K.machine K.here R.remaining W.contents P.history S.remaining S.contents self.old self.new }
         ensures kept { IsKept self.old self.new }
     {
         match self.write() {
@@ -183,7 +183,7 @@ where
         requires wants { K.machine.wants (K.here self.old.end.now) ≡ Wants.Send }
         ensures ready { IsOpenAt self.new.data.now }
         ensures leads { LeadsOn K.machine K.here R.remaining W.contents P.history S.remaining S.contents self.old self.new }
-        ensures stirs { self.old.data.now.connection.at ≡ self.old.data.now.connection.end → StirsOn K.machine K.here R.remaining W.contents P.history S.remaining S.contents self.old self.new }
+        ensures progresses { self.old.data.now.connection.at ≡ self.old.data.now.connection.end → ProgressesOn K.machine K.here R.remaining W.contents P.history S.remaining S.contents self.old self.new }
         ensures kept { IsKept self.old self.new }
     {
         self.data.fill::<K, E>(self.end);
@@ -195,7 +195,7 @@ where
         ensures end { self.new.end.now ≡ self.old.end.now }
         ensures fate { self.new.data.now.connection.fate ≡ fate_by result Fate.Sound }
         ensures leads { LeadsOn K.machine K.here R.remaining W.contents P.history S.remaining S.contents self.old self.new }
-        ensures stirs { self.old.data.now.connection.at < self.old.data.now.connection.end → StirsOn K.machine K.here R.remaining W.contents P.history S.remaining S.contents self.old self.new }
+        ensures progresses { self.old.data.now.connection.at < self.old.data.now.connection.end → ProgressesOn K.machine K.here R.remaining W.contents P.history S.remaining S.contents self.old self.new }
         ensures kept { IsKept self.old self.new }
     {
         self.data.write()
@@ -203,7 +203,7 @@ where
 
     /// Follows a read or a write of the data connection that moved no octet: one that asks reads what goes first, where all before was heard, and
     /// where it broke, the end is told.
-    #[tactic(auto, using(ftp_ports::proofs::Getting::gets_goes, ftp_ports::proofs::Getting::stirs_lead, ftp_ports::proofs::Leading::leads_nowhere))]
+    #[tactic(auto, using(ftp_ports::proofs::Getting::gets_goes, ftp_ports::proofs::Getting::progresses_lead, ftp_ports::proofs::Leading::leads_nowhere))]
     fn halted(&mut self, halt: Halt) -> Result<(), Cause>
         requires flushed { IsFlushed K.machine (K.here self.old.end.now) }
         requires failed { halt ≡ Halt.Broken → self.old.data.now.connection.fate ≡ Fate.Failed }
@@ -245,7 +245,7 @@ where
     }
 
     /// The data connection broke: that is told, unless the control connection goes first.
-    #[tactic(auto, using(ftp_ports::proofs::Getting::then_gets, ftp_ports::proofs::Getting::then_stirs))]
+    #[tactic(auto, using(ftp_ports::proofs::Getting::then_gets, ftp_ports::proofs::Getting::then_progresses))]
     pub(crate) fn broke(&mut self) -> Result<(), Cause>
         requires flushed { IsFlushed K.machine (K.here self.old.end.now) }
         requires failed { self.old.data.now.connection.fate ≡ Fate.Failed }
@@ -310,7 +310,7 @@ where
     pub(crate) fn leave(&mut self)
         requires may { MayLeave (K.machine.IsDone (K.here self.old.end.now)) (K.machine.wants (K.here self.old.end.now)) self.old.data.now.connection.fate }
         requires flushed { IsFlushed K.machine (K.here self.old.end.now) }
-        ensures stirs { StirsOn K.machine K.here R.remaining W.contents P.history S.remaining S.contents self.old self.new }
+        ensures progresses { ProgressesOn K.machine K.here R.remaining W.contents P.history S.remaining S.contents self.old self.new }
         ensures kept { IsKept self.old self.new }
     {
         self.data.leave(self.ports);
@@ -319,7 +319,7 @@ where
     /// The data connection is lost: the end is told, and it is reset.
     fn lose(&mut self)
         requires { IsBroken (K.machine.wants (K.here self.old.end.now)) (is_some self.old.data.now.connection.stream) self.old.data.now.connection.fate }
-        ensures stirs { StirsOn K.machine K.here R.remaining W.contents P.history S.remaining S.contents self.old self.new }
+        ensures progresses { ProgressesOn K.machine K.here R.remaining W.contents P.history S.remaining S.contents self.old self.new }
         ensures kept { IsKept self.old self.new }
     {
         K::data_fault(self.end);

@@ -6,7 +6,7 @@ ghost use Rattle.ftp_ports.specs.Driving.{Flushes};
 ghost use Rattle.ftp_ports.specs.Channel.{Channel};
 ghost use Rattle.ftp_ports.specs.Machine.{IsFlushed, IsListening, held, stand_of};
 ghost use Rattle.ftp_ports.specs.Unheard.{unheard_of};
-ghost use Rattle.ftp_driver.specs.Standing.{Follows, Gets, IsKept, IsParting, StirsOn, Why, standing};
+ghost use Rattle.ftp_driver.specs.Standing.{Follows, Gets, IsKept, IsParting, ProgressesOn, Why, standing};
 
 use crate::calls::EndCalls;
 use crate::drive::Drive;
@@ -62,7 +62,7 @@ where
         requires some { 0 < length (unheard_of self.old.control.now) }
         requires may { IsTrue (K.machine.may_hear (K.here self.old.end.now)) }
         requires listening { IsListening K.machine (K.here self.old.end.now) }
-        ensures stirs { StirsOn K.machine K.here R.remaining W.contents P.history S.remaining S.contents self.old self.new }
+        ensures progresses { ProgressesOn K.machine K.here R.remaining W.contents P.history S.remaining S.contents self.old self.new }
         ensures kept { IsKept self.old self.new }
     {
         self.data.see::<K, E>(self.end);

@@ -4,7 +4,7 @@ ghost use Rattle.ftp_ports.specs.Asking.{Asked, is_lost};
 ghost use Rattle.ftp_ports.specs.Driving.{Quietly};
 ghost use Rattle.ftp_ports.specs.Halting.{fate_by};
 ghost use Rattle.ftp_ports.specs.Channel.{IsRead, IsWaited, no_channel, with_fate};
-ghost use Rattle.ftp_ports.specs.Machine.{IsCut, Stirring, held, seen, side_of};
+ghost use Rattle.ftp_ports.specs.Machine.{IsCut, Progressing, held, seen, side_of};
 ghost use Rattle.ftp_ports.specs.Outcome.{IsReset, IsSent, IsWrote, in_hand};
 ghost use Rattle.ftp_driver.specs.Standing.{HasEnded, HasNone, IsExchanged, IsOpenAt, IsParting, IsSameChannel, Leaving, channel_at};
 
@@ -44,7 +44,7 @@ impl<S: Duplex> Data<S> {
         requires wants { K.machine.wants (K.here end.old) ≡ Wants.Send }
         ensures ready { IsOpenAt self.new }
         ensures quiet { (asked : Option (List Asked)) → Quietly (side_of K.machine) (held (K.here end.old) (channel_at S.remaining S.contents asked self.old [])) (held (K.here end.new) (channel_at S.remaining S.contents asked self.new [])) }
-        ensures stirs { self.old.connection.at ≡ self.old.connection.end → (asked : Option (List Asked)) → Stirring K.machine (held (K.here end.old) (channel_at S.remaining S.contents asked self.old [])) (held (K.here end.new) (channel_at S.remaining S.contents asked self.new [])) }
+        ensures progresses { self.old.connection.at ≡ self.old.connection.end → (asked : Option (List Asked)) → Progressing K.machine (held (K.here end.old) (channel_at S.remaining S.contents asked self.old [])) (held (K.here end.new) (channel_at S.remaining S.contents asked self.new [])) }
     {
         if self.connection.has_unwritten() {
             return;

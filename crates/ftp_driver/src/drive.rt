@@ -156,7 +156,7 @@ where
     /// One turn: what the end owes is written; then what was read is heard, where it may be heard now; or the end is told of a data connection that
     /// failed; or octets on their way from one that asks are written; or what the end wants is done. Of one that serves and has no more to give, the
     /// octets on their way go before all else.
-    #[tactic(auto, using(ftp_ports::proofs::Getting::gets_err, ftp_ports::proofs::Getting::then_gets, ftp_ports::proofs::Getting::then_stirs, ftp_ports::proofs::Causing::passes))]
+    #[tactic(auto, using(ftp_ports::proofs::Getting::gets_err, ftp_ports::proofs::Getting::then_gets, ftp_ports::proofs::Getting::then_progresses, ftp_ports::proofs::Causing::passes))]
     fn turn(&mut self) -> Result<(), Cause>
         ensures gets { TurnsOn K.machine K.here R.remaining W.contents P.history S.remaining S.contents self.old self.new result }
         ensures why { Why K.machine K.machine.serves (K.here self.new.end.now) (P.history self.new.ports.now) self.new.control.now result }

@@ -3,7 +3,7 @@ ghost use Rattle.std.specs.Prelude.{◌≡◌, ◌≤◌, [], List, Option, leng
 ghost use Rattle.ftp_ports.specs.Asking.{Asked};
 ghost use Rattle.ftp_ports.specs.Driving.{Goes};
 ghost use Rattle.ftp_ports.specs.Channel.{IsOpen, Channel, with_given, with_untold};
-ghost use Rattle.ftp_ports.specs.Machine.{Stirring, held, rest_by, stand_of};
+ghost use Rattle.ftp_ports.specs.Machine.{Progressing, held, rest_by, stand_of};
 ghost use Rattle.ftp_driver.specs.Standing.{Why};
 
 use crate::calls::{EndCalls, Given};
@@ -19,7 +19,7 @@ where
     requires most { most ≤ length room.old }
     requires wants { K.machine.wants (K.here end.old) ≡ Wants.Send }
     ensures within { result.count ≤ most }
-    ensures stirs { (channel : Channel) → IsOpen channel → Stirring K.machine (held (K.here end.old) channel) (held (K.here end.new) (with_given (take result.count room.new) result.rest channel)) }
+    ensures progresses { (channel : Channel) → IsOpen channel → Progressing K.machine (held (K.here end.old) channel) (held (K.here end.new) (with_given (take result.count room.new) result.rest channel)) }
 {
     let (front, _) = room.split_at_mut(most);
     fill::<K, E>(end, front)
@@ -29,7 +29,7 @@ where
 fn fill<K: EndCalls<E>, E>(end: &mut E, room: &mut [u8]) -> Given
     requires { K.machine.wants (K.here end.old) ≡ Wants.Send }
     ensures within { result.count ≤ length room.new }
-    ensures stirs { (channel : Channel) → IsOpen channel → Stirring K.machine (held (K.here end.old) channel) (held (K.here end.new) (with_given (take result.count room.new) result.rest channel)) }
+    ensures progresses { (channel : Channel) → IsOpen channel → Progressing K.machine (held (K.here end.old) channel) (held (K.here end.new) (with_given (take result.count room.new) result.rest channel)) }
 {
     let first = K::data_out(end, room);
     let mut at = first.count;

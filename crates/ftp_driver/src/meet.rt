@@ -3,8 +3,8 @@ ghost use Rattle.std.specs.Prelude.{◌≡◌, ◌≢◌, [], ◌∷◌, List, O
 ghost use Rattle.std.specs.Option.{is_some};
 ghost use Rattle.ftp_ports.specs.Asking.{Adds, Asked};
 ghost use Rattle.ftp_ports.specs.Channel.{IsHad};
-ghost use Rattle.ftp_ports.specs.Machine.{IsFlushed, IsWanted, Stirs};
-ghost use Rattle.ftp_driver.specs.Standing.{Gets, IsKept, StirsOn, Why, asked_before, standing};
+ghost use Rattle.ftp_ports.specs.Machine.{IsFlushed, IsWanted, Progresses};
+ghost use Rattle.ftp_driver.specs.Standing.{Gets, IsKept, ProgressesOn, Why, asked_before, standing};
 
 use crate::calls::EndCalls;
 use crate::drive::Drive;
@@ -49,7 +49,7 @@ where
     pub(crate) fn listen(&mut self)
         requires wants { K.machine.wants (K.here self.old.end.now) ≡ Wants.Listen }
         requires flushed { IsFlushed K.machine (K.here self.old.end.now) }
-        ensures stirs { StirsOn K.machine K.here R.remaining W.contents P.history S.remaining S.contents self.old self.new }
+        ensures progresses { ProgressesOn K.machine K.here R.remaining W.contents P.history S.remaining S.contents self.old self.new }
         ensures kept { IsKept self.old self.new }
     {
         match self.ports.listen() {
@@ -63,7 +63,7 @@ where
         requires wants { K.machine.wants (K.here self.old.end.now) ≡ Wants.Connect endpoint }
         requires flushed { IsFlushed K.machine (K.here self.old.end.now) }
         requires sound { self.old.data.now.connection.fate ≢ Fate.Failed }
-        ensures stirs { StirsOn K.machine K.here R.remaining W.contents P.history S.remaining S.contents self.old self.new }
+        ensures progresses { ProgressesOn K.machine K.here R.remaining W.contents P.history S.remaining S.contents self.old self.new }
         ensures kept { IsKept self.old self.new }
     {
         if self.data.connection.stands() {
@@ -80,7 +80,7 @@ where
     fn opened(&mut self, stream: S, host: Host)
         requires none { is_some self.old.data.now.connection.stream ≡ false }
         requires flushed { IsFlushed K.machine (K.here self.old.end.now) }
-        ensures stirs { (before : Option (List Asked)) (had : Asked) → Adds before (P.history self.old.ports.now) (had ∷ []) → IsHad host had (S.remaining stream) (S.contents stream) → IsWanted (K.machine.wants (K.here self.old.end.now)) had → Stirs K.machine (asked_before before (standing K.machine K.here R.remaining W.contents P.history S.remaining S.contents self.old)) (standing K.machine K.here R.remaining W.contents P.history S.remaining S.contents self.new) }
+        ensures progresses { (before : Option (List Asked)) (had : Asked) → Adds before (P.history self.old.ports.now) (had ∷ []) → IsHad host had (S.remaining stream) (S.contents stream) → IsWanted (K.machine.wants (K.here self.old.end.now)) had → Progresses K.machine (asked_before before (standing K.machine K.here R.remaining W.contents P.history S.remaining S.contents self.old)) (standing K.machine K.here R.remaining W.contents P.history S.remaining S.contents self.new) }
         ensures kept { IsKept self.old self.new }
     {
         K::data_opened(self.end, host);
@@ -93,7 +93,7 @@ where
         requires wants { K.machine.wants (K.here self.old.end.now) ≡ Wants.CloseData }
         requires flushed { IsFlushed K.machine (K.here self.old.end.now) }
         requires sound { self.old.data.now.connection.fate ≢ Fate.Failed }
-        ensures stirs { StirsOn K.machine K.here R.remaining W.contents P.history S.remaining S.contents self.old self.new }
+        ensures progresses { ProgressesOn K.machine K.here R.remaining W.contents P.history S.remaining S.contents self.old self.new }
         ensures kept { IsKept self.old self.new }
     {
         self.data.leave(self.ports);

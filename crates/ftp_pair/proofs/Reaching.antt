@@ -7,7 +7,7 @@ use Rattle.laws_world.specs.Claims.{Beginning, IsFair, IsTimed, AreTimed, world_
 use Rattle.laws_world.specs.Events.{Happens}
 use Rattle.laws_world.specs.Events as events
 use Rattle.laws_world.specs.World.{World}
-use Rattle.ftp_pair_events.specs.events.Happening.{IsSmall, Stirs, event_of}
+use Rattle.ftp_pair_events.specs.events.Happening.{IsSmall, Progresses, event_of}
 use Rattle.ftp_pair_events.specs.events.Shown.{Steps}
 use Rattle.ftp_pair_events.specs.declared.events.event.Event.{Event}
 use Rattle.ftp_pair_events.specs.declared.events.event.Event.TheVariants as Given
@@ -70,9 +70,9 @@ small_timed (events.End queue) small = tt
 small_timed other small = absurd small
 
 -- after a turn
-pub reached_turn : (result : Bool) (old new : Seen) → (result ≡ true → Stirs old.calm new.calm old.world new.world) → (result ≡ false → new ≡ old) → ∥ IsReached old ∥₁ → ∥ IsReached new ∥₁
+pub reached_turn : (result : Bool) (old new : Seen) → (result ≡ true → Progresses old.calm new.calm old.world new.world) → (result ≡ false → new ≡ old) → ∥ IsReached old ∥₁ → ∥ IsReached new ∥₁
 reached_turn true old new does same was =
-    let stirs = does refl in ∥∥₁_elim was ∥∥₁_prop (λ reached. ∣ reached_more stirs.event true old new (small_timed stirs.event stirs.small) stirs.happened reached ∣₁)
+    let progresses = does refl in ∥∥₁_elim was ∥∥₁_prop (λ reached. ∣ reached_more progresses.event true old new (small_timed progresses.event progresses.small) progresses.happened reached ∣₁)
 reached_turn false old new does same was = subst (λ s. ∥ IsReached s ∥₁) (sym (same refl)) was
 
 -- a world that is reached is steady

@@ -9,7 +9,7 @@ use Rattle.laws_world.specs.Agreement.{Leads, Order, begun_by}
 use Rattle.laws_world.specs.Events as events
 use Rattle.laws_world.specs.Events.{Event, Happens}
 use Rattle.laws_world.specs.World.{World}
-use Rattle.ftp_pair_events.specs.events.Happening.{IsSmall, Stirs}
+use Rattle.ftp_pair_events.specs.events.Happening.{IsSmall, Progresses}
 use Rattle.ftp_pair.specs.Session.{AreSmall, LeadsSmall, Seen}
 
 -- a small event is a turn
@@ -29,13 +29,13 @@ calm_less left true old new is less = omega (arith, less)
 calm_less left false old new is less = absurd (cc (is))
 
 -- and where something did
-pub less_by : (left : ℕ) (was calm : Bool) (old new : World) → 0 < left → (was ≡ true → ∥ IsSteady old ∥₁) → Stirs was calm old new
+pub less_by : (left : ℕ) (was calm : Bool) (old new : World) → 0 < left → (was ≡ true → ∥ IsSteady old ∥₁) → Progresses was calm old new
     → (if calm then left else left - 1) + (if calm then tall new else 0) < left + (if was then tall old else 0)
-less_by left was true old new some steady stirs =
-    let did = stirs.happened refl in
-    let turned : Turned old new = (stirs.event, small_turn stirs.event old stirs.small, did.1) in
+less_by left was true old new some steady progresses =
+    let did = progresses.happened refl in
+    let turned : Turned old new = (progresses.event, small_turn progresses.event old progresses.small, did.1) in
     calm_less left was old new did.0 (falls old new turned (steady did.0))
-less_by left was false old new some steady stirs = omega (arith, some)
+less_by left was false old new some steady progresses = omega (arith, some)
 
 -- ---- turns lead on
 
@@ -65,11 +65,11 @@ small_last read (first ∷ turns) event old mid new small one leads happens =
     none_first other possible one = absurd one
 
 -- one turn more
-pub one_small : (old mid new : Seen) → LeadsSmall old mid → Stirs mid.calm new.calm mid.world new.world → LeadsSmall old new
-one_small old mid new leads stirs calm =
-    let did = stirs.happened calm in
+pub one_small : (old mid new : Seen) → LeadsSmall old mid → Progresses mid.calm new.calm mid.world new.world → LeadsSmall old new
+one_small old mid new leads progresses calm =
+    let did = progresses.happened calm in
     let so = leads did.0 in
-    (so.0, λ read reads. let before = so.1 read reads in small_last read before.0 stirs.event old.world mid.world new.world before.1 stirs.small before.2 (did.1 read reads))
+    (so.0, λ read reads. let before = so.1 read reads in small_last read before.0 progresses.event old.world mid.world new.world before.1 progresses.small before.2 (did.1 read reads))
 
 -- ---- a turn of the loop
 
@@ -78,13 +78,13 @@ abbrev left_by : Bool → ℕ → ℕ
 left_by calm left = if calm then left else left - 1
 
 -- less is left to do
-pub smaller : (left after : ℕ) (told : Bool) (old new : Seen) → 0 < left → (old.calm ≡ true → ∥ IsSteady old.world ∥₁) → Stirs old.calm new.calm old.world new.world
+pub smaller : (left after : ℕ) (told : Bool) (old new : Seen) → 0 < left → (old.calm ≡ true → ∥ IsSteady old.world ∥₁) → Progresses old.calm new.calm old.world new.world
     → told ≡ new.calm → after ≡ left_by told left → still_to_do after new < still_to_do left old
-smaller left after told old new some steady stirs is after_is =
+smaller left after told old new some steady progresses is after_is =
     subst (λ n. n + (if new.calm then tall new.world else 0) < still_to_do left old) (sym (after_is ∙ ap (λ b. left_by b left) is))
-    (less_by left old.calm new.calm old.world new.world some steady stirs)
+    (less_by left old.calm new.calm old.world new.world some steady progresses)
 
 -- where nothing failed no turn is counted
-pub none_counted : (left after many : ℕ) (told : Bool) (old new : Seen) → (old.calm ≡ true → left ≡ many) → Stirs old.calm new.calm old.world new.world
+pub none_counted : (left after many : ℕ) (told : Bool) (old new : Seen) → (old.calm ≡ true → left ≡ many) → Progresses old.calm new.calm old.world new.world
     → told ≡ new.calm → after ≡ left_by told left → new.calm ≡ true → after ≡ many
-none_counted left after many told old new all stirs is after_is calm = after_is ∙ ap (λ b. left_by b left) (is ∙ calm) ∙ all (stirs.happened calm).0
+none_counted left after many told old new all progresses is after_is calm = after_is ∙ ap (λ b. left_by b left) (is ∙ calm) ∙ all (progresses.happened calm).0

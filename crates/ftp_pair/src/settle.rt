@@ -2,7 +2,7 @@
 ghost use Rattle.std.specs.Prelude.{◌≡◌, ◌<◌, ◌-◌, true, false, if◌then◌else◌};
 ghost use Rattle.laws_settling.specs.Steady.{IsSteady};
 ghost use Rattle.laws_world.specs.Still.{IsStill};
-ghost use Rattle.ftp_pair_events.specs.events.Happening.{Stirs};
+ghost use Rattle.ftp_pair_events.specs.events.Happening.{Progresses};
 ghost use Rattle.ftp_pair.specs.Session.{Counted, KeepsCalm, LeadsSmall, SettlesAfter};
 
 use crate::world::World;
@@ -44,9 +44,9 @@ impl<A: Allocator + Copy, T: Tree<A>, N: Near<A>, F: SureFar<A, T>> World<A, T, 
 
     /// One turn; it answers whether there was one to make.
     fn turn(&mut self) -> bool
-        ensures does { result ≡ true → Stirs self.old.calm self.new.calm self.old.world self.new.world }
+        ensures does { result ≡ true → Progresses self.old.calm self.new.calm self.old.world self.new.world }
         ensures still { result ≡ false → IsStill self.old.world }
-        ensures stirs { result ≡ true → ¬ IsStill self.old.world }
+        ensures progresses { result ≡ true → ¬ IsStill self.old.world }
         ensures same { result ≡ false → self.new ≡ self.old }
         ensures counted { Counted 12312 self.old self.new }
         ensures steady { self.old.calm ≡ true → ∥ IsSteady self.old.world ∥₁ }

@@ -1,4 +1,4 @@
-mod Berths
+mod LinkStates
 mod Coming
 mod Counting
 mod Finding

@@ -1,7 +1,7 @@
 pub mod LinkState
 pub mod Claims
 pub mod PortTables
-pub mod Docking
+pub mod PortTableMoves
 pub mod MemoryEnds
 pub mod Order
 pub mod Plain

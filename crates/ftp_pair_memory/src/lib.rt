@@ -5,4 +5,4 @@ pub mod steps;
 pub mod streams;
 
 pub use steps::{Line, Slot, ask};
-pub use streams::{Inlet, MemoryEnd, MemoryPorts, Outlet, Wire, meet};
+pub use streams::{MemoryEnd, MemoryPorts, ReadHalf, Wire, WriteHalf, meet};

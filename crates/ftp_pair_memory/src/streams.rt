@@ -9,5 +9,5 @@ mod wire;
 
 pub use memory_end::{MemoryEnd, meet};
 pub use memory_ports::MemoryPorts;
-pub use way::{Inlet, Outlet};
+pub use way::{ReadHalf, WriteHalf};
 pub use wire::Wire;

@@ -8,9 +8,9 @@ use Rattle.ftp_ports.specs.Asking.{Adds, Asked, told_lost}
 use Rattle.ftp_ports.specs.Actions.{Heard, Other, Stand, with_owner}
 use Rattle.ftp_ports.specs.Driving.{Breaks, Leads, Quietly}
 use Rattle.ftp_ports.specs.Channel.{IsLeft, IsOpen, IsRead, IsWaited, IsWritten, Channel, with_asked, with_fate, with_rest, with_untold}
-use Rattle.ftp_ports.proofs.Getting.{stirs_by, stirs_lead, stirs_then}
+use Rattle.ftp_ports.proofs.Getting.{progresses_by, progresses_lead, progresses_then}
 use Rattle.ftp_ports.specs.Unheard.{Source}
-use Rattle.ftp_ports.specs.Machine.{Aside, Called, Stirs, awaits, Break, End, Failed, Gives, Got, Held, Idles, IsBroken, IsFairEnd, IsListening, Left, LeavesFlushed, MayLeave, LetGo, Machine, Received, Waited, Wrote, held, move_of, seen, side_of}
+use Rattle.ftp_ports.specs.Machine.{Aside, Called, Progresses, awaits, Break, End, Failed, Gives, Got, Held, Idles, IsBroken, IsFairEnd, IsListening, Left, LeavesFlushed, MayLeave, LetGo, Machine, Received, Waited, Wrote, held, move_of, seen, side_of}
 use Rattle.ftp_ports.proofs.Courses.{Carrier}
 use Rattle.ftp_ports.specs.Outcome.{IsSent, IsWrote}
 use Rattle.ftp_ports.specs.declared.whole.Fate.TheVariants.{Broken, Failed as HasFailed, Over, Sound}
@@ -36,9 +36,9 @@ module _ (machine : Machine) where
   -- it is waited at, or looked at the control connection
   pub waits : (lost : Bool) (here : machine.Here) (old new : Channel) → awaits (machine.wants here) ≡ true → IsWaited lost old new
       → (left : Source) (unheard : List ℕ) (written : Option (List ℕ))
-      → Stirs machine (record { owner = held here old; left = left; unheard = unheard; written = written })
+      → Progresses machine (record { owner = held here old; left = left; unheard = unheard; written = written })
       (record { owner = held here new; left = left; unheard = unheard; written = written })
-  waits lost here old new due waited left unheard written = stirs_by (Other (Waited lost)) _ _ tt ((refl, waited, due), refl)
+  waits lost here old new due waited left unheard written = progresses_by (Other (Waited lost)) _ _ tt ((refl, waited, due), refl)
 
   -- a read or a write of it failed
   idles_failed : (old : Channel) → IsOpen old → Idles machine old (with_fate HasFailed old)
@@ -50,14 +50,14 @@ module _ (machine : Machine) where
   -- octets were written, where some were to be
   pub sends : (here : machine.Here) (old new : Channel) → (new.fate ≡ Sound) ⊎ (new.fate ≡ HasFailed) → IsWrote old new
       → (left : Source) (unheard : List ℕ) (written : Option (List ℕ))
-      → Stirs machine (record { owner = held here old; left = left; unheard = unheard; written = written })
+      → Progresses machine (record { owner = held here old; left = left; unheard = unheard; written = written })
       (record { owner = held here new; left = left; unheard = unheard; written = written })
   sends here old new (inl is) (octets, wrote) left unheard written =
-      stirs_by (Other (Wrote octets)) _ _ tt ((refl, subst (λ l. IsWritten octets old l) (sound_so new is) wrote, tt), refl)
+      progresses_by (Other (Wrote octets)) _ _ tt ((refl, subst (λ l. IsWritten octets old l) (sound_so new is) wrote, tt), refl)
   sends here old new (inr is) (octets, wrote) left unheard written =
       let mid = with_fate Sound new in
-      stirs_then _ (record { owner = held here mid; left = left; unheard = unheard; written = written }) _
-      (stirs_by (Other (Wrote octets)) _ _ tt ((refl, wrote, tt), refl))
+      progresses_then _ (record { owner = held here mid; left = left; unheard = unheard; written = written }) _
+      (progresses_by (Other (Wrote octets)) _ _ tt ((refl, wrote, tt), refl))
       (subst (λ l. Idles machine mid l) (sym (failed_so new is)) (idles_failed mid (wrote.stands ∙ wrote.is_open.0, refl)) here left unheard written)
 
   -- octets were written, or none were to be
@@ -85,9 +85,9 @@ module _ (machine : Machine) where
   -- its data connection is left
   pub leaves : (asked : Asked) (old new : Stand (side_of machine)) → IsLeft asked old.owner.channel new.owner.channel
       → MayLeave (machine.IsDone old.owner.end) (machine.wants old.owner.end) old.owner.channel.fate → IsFairEnd old.owner.channel asked → LeavesFlushed machine old.owner.end asked
-      → new ≡ with_owner (held old.owner.end new.owner.channel) old → Stirs machine old new
+      → new ≡ with_owner (held old.owner.end new.owner.channel) old → Progresses machine old new
   leaves asked old new left may fair flushed same =
-      stirs_by (Other (Left asked)) old new tt ((ap (λ s. s.owner.end) same, left, (may, fair, flushed)), subst (λ s. new ≡ with_owner s old) (sym (ap (λ s. s.owner) same)) same)
+      progresses_by (Other (Left asked)) old new tt ((ap (λ s. s.owner.end) same, left, (may, fair, flushed)), subst (λ s. new ≡ with_owner s old) (sym (ap (λ s. s.owner) same)) same)
 
   -- one of its own calls
   pub asides : (own : machine.Own) (old new : machine.Here) (channel : Channel) → machine.Owns own old new → Quietly (side_of machine) (held old channel) (held new channel)
@@ -142,8 +142,8 @@ module _ (machine : Machine) where
   -- it heard the first of the octets that were read
   pub hears_first : (old new : Stand (side_of machine)) (count : ℕ) → machine.Hears (take count old.unheard) old.unheard old.owner.end new.owner.end
       → new.owner.channel ≡ seen (machine.wants old.owner.end) old.owner.channel → IsListening machine old.owner.end → new.unheard ≡ drop count old.unheard
-      → new.left ≡ old.left → new.written ≡ old.written → 0 < length (take count old.unheard) → Stirs machine old new
-  hears_first old new count hears channel listening unheard left written some = stirs_by (Heard (take count old.unheard)) old new some (record {
+      → new.left ≡ old.left → new.written ≡ old.written → 0 < length (take count old.unheard) → Progresses machine old new
+  hears_first old new count hears channel listening unheard left written some = progresses_by (Heard (take count old.unheard)) old new some (record {
     hears = (hears, channel, listening);
     next = sym (ap (λ l. take count old.unheard ++ l) unheard ∙ take-append-drop count old.unheard);
     left = left;

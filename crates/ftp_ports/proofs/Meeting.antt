@@ -5,14 +5,14 @@ use Rattle.std.specs.Option.{is_some}
 use Rattle.ftp_ports.specs.Asking.{Accepts, Adds, Asked, Came, Listened, NotCame, Replaces, told_lost}
 use Rattle.ftp_ports.specs.Actions.{Other, Stand, with_owner}
 use Rattle.ftp_ports.specs.Channel.{IsHad, channel_of, with_asked}
-use Rattle.ftp_ports.specs.Machine.{IsFlushed, IsRefused, IsWanted, Listening, Machine, NoPort, Opened, Refused, Stirs, held, rest_by, side_of}
+use Rattle.ftp_ports.specs.Machine.{IsFlushed, IsRefused, IsWanted, Listening, Machine, NoPort, Opened, Refused, Progresses, held, rest_by, side_of}
 use Rattle.ftp_ports.specs.declared.whole.Rest.{Rest}
 use Rattle.ftp_ports.specs.declared.data.DataConnection.{DataConnection}
 use Rattle.ftp_ports.specs.declared.whole.Fate.TheVariants.{Sound}
 use Rattle.ftp_ports.specs.declared.ports.Accepted.{Accepted}
 use Rattle.ftp_ports.specs.declared.ports.Accepted.TheVariants as Answers
 use Rattle.ftp_ports.proofs.Channels.{opens}
-use Rattle.ftp_ports.proofs.Getting.{stirs_by}
+use Rattle.ftp_ports.proofs.Getting.{progresses_by}
 use Rattle.ftp_ports.specs.Unheard.{Source}
 use Rattle.ftp_endpoint.specs.declared.host.Host.{Host}
 use Rattle.ftp_ends.specs.declared.link.Wants.TheVariants as Want
@@ -34,22 +34,22 @@ module _ (machine : Machine) where
   -- a port is listened at, and the end is told which
   pub listens : (old : Stand (side_of machine)) (there : machine.Here) (h1 : Option (List Asked)) (answer : Option ℕ) (port : ℕ) → answer ≡ Some port
       → Adds old.owner.channel.asked h1 (Listened answer ∷ []) → machine.Listening port old.owner.end there → machine.wants old.owner.end ≡ Want.Listen → IsFlushed machine old.owner.end
-      → Stirs machine old (with_owner (held there (with_asked h1 old.owner.channel)) old)
+      → Progresses machine old (with_owner (held there (with_asked h1 old.owner.channel)) old)
   listens old there h1 answer port is asks told wanted flushed =
-      stirs_by (Other (Listening port)) old _ tt ((told, (subst (λ a. Adds old.owner.channel.asked h1 (Listened a ∷ [])) is asks, refl), (wanted, flushed)), refl)
+      progresses_by (Other (Listening port)) old _ tt ((told, (subst (λ a. Adds old.owner.channel.asked h1 (Listened a ∷ [])) is asks, refl), (wanted, flushed)), refl)
 
   -- at none
   pub listens_nowhere : (old : Stand (side_of machine)) (there : machine.Here) (h1 : Option (List Asked)) (answer : Option ℕ) → answer ≡ None
       → Adds old.owner.channel.asked h1 (Listened answer ∷ []) → machine.NoPort old.owner.end there → machine.wants old.owner.end ≡ Want.Listen → IsFlushed machine old.owner.end
-      → Stirs machine old (with_owner (held there (with_asked h1 old.owner.channel)) old)
+      → Progresses machine old (with_owner (held there (with_asked h1 old.owner.channel)) old)
   listens_nowhere old there h1 answer is asks told wanted flushed =
-      stirs_by (Other NoPort) old _ tt ((told, (subst (λ a. Adds old.owner.channel.asked h1 (Listened a ∷ [])) is asks, refl), (wanted, flushed)), refl)
+      progresses_by (Other NoPort) old _ tt ((told, (subst (λ a. Adds old.owner.channel.asked h1 (Listened a ∷ [])) is asks, refl), (wanted, flushed)), refl)
 
   -- none is had, and the end is told that
   pub has_none : (old : Stand (side_of machine)) (there : machine.Here) (h1 : Option (List Asked)) (asked : List Asked) → Adds old.owner.channel.asked h1 asked
       → machine.Refused old.owner.end there → IsRefused (machine.wants old.owner.end) asked → IsFlushed machine old.owner.end
-      → Stirs machine old (with_owner (held there (with_asked h1 old.owner.channel)) old)
-  has_none old there h1 asked asks told wanted flushed = stirs_by (Other (Refused asked)) old _ tt ((told, (asks, refl), (wanted, flushed)), refl)
+      → Progresses machine old (with_owner (held there (with_asked h1 old.owner.channel)) old)
+  has_none old there h1 asked asks told wanted flushed = progresses_by (Other (Refused asked)) old _ tt ((told, (asks, refl), (wanted, flushed)), refl)
 
   -- one that was asked for is had now, where none stood
   pub has_one : {S : Type 0} (remaining contents : S → Option (List ℕ)) (old new : DataConnection S) (stream : S) (h0 h1 h2 : Option (List Asked)) (host : Host) (had : Asked)
@@ -57,8 +57,8 @@ module _ (machine : Machine) where
       → is_some old.stream ≡ false → Replaces remaining contents old.stream h1 h2 → new.at ≡ new.end → new.rest ≡ rest → new.fate ≡ Sound → new.stream ≡ Some stream
       → machine.Opened host here there → rest ≡ rest_by (machine.wants there) → IsFlushed machine here
       → (left : Source) (unheard : List ℕ) (written : Option (List ℕ))
-      → Stirs machine (record { owner = held here (channel_of remaining contents h0 old room []); left = left; unheard = unheard; written = written })
+      → Progresses machine (record { owner = held here (channel_of remaining contents h0 old room []); left = left; unheard = unheard; written = written })
       (record { owner = held there (channel_of remaining contents h2 new room []); left = left; unheard = unheard; written = written })
   has_one remaining contents old new stream h0 h1 h2 host had room rest here there asks is_had wanted none replaced all rests sound is told by flushed left unheard written =
-      stirs_by (Other (Opened host (had ∷ []) (remaining stream) (contents stream) rest)) _ _ tt
+      progresses_by (Other (Opened host (had ∷ []) (remaining stream) (contents stream) rest)) _ _ tt
       (((told, by), opens remaining contents old new stream h0 h1 h2 host had room room [] rest asks is_had none replaced all rests sound is, (wanted, flushed)), refl)

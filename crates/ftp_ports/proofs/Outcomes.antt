@@ -8,7 +8,7 @@ use Rattle.ftp_ports.specs.Asking.{Adds, Asked, Drops, Reset, Shut}
 use Rattle.ftp_ports.specs.Carrying.{carried_of, left_of, told_by}
 use Rattle.ftp_ports.specs.Actions.{Other}
 use Rattle.ftp_ports.specs.Channel.{IsEnded, IsOpen, IsRead, Channel, channel_of, with_fate, with_given}
-use Rattle.ftp_ports.specs.Machine.{Gave, Gives, Machine, Stirring, held, side_of}
+use Rattle.ftp_ports.specs.Machine.{Gave, Gives, Machine, Progressing, held, side_of}
 use Rattle.ftp_ports.specs.Outcome.{IsDropped, IsReset, in_hand}
 use Rattle.ftp_ports.specs.Whole.{IsWhole}
 use Rattle.ftp_ports.specs.declared.data.DataConnection.{DataConnection}
@@ -17,7 +17,7 @@ use Rattle.ftp_ports.specs.declared.whole.Fate.TheVariants.{Sound}
 use Rattle.ftp_ports.specs.declared.whole.Rest.{Rest}
 use Rattle.ftp_ends.specs.declared.link.Wants.TheVariants as Want
 use Rattle.ftp_ports.proofs.Channels.{keeps_consumes, reads, way_none}
-use Rattle.ftp_ports.proofs.Getting.{stirs_by, stirs_then}
+use Rattle.ftp_ports.proofs.Getting.{progresses_by, progresses_then}
 use Rattle.ftp_ports.proofs.Leading.{quiet_call}
 
 -- one that is reset is left
@@ -72,22 +72,22 @@ more_given before at count room front out is len fits =
 module _ (machine : Machine) where
   -- it gave more into the room behind what it gave before
   pub given_more : (old mid new : machine.Here) (channel : Channel) (at count : ℕ) (room front out : List ℕ) (before rest : Rest) → IsOpen channel → machine.wants mid ≡ Want.Send
-      → Stirring machine (held old channel) (held mid (with_given (take at room) before channel)) → front ≡ take at room → length front ≡ at → count ≤ length out
+      → Progressing machine (held old channel) (held mid (with_given (take at room) before channel)) → front ≡ take at room → length front ≡ at → count ≤ length out
       → machine.Gave count (take count out) rest mid new
-      → Stirring machine (held old channel) (held new (with_given (take (at + count) (front ++ out)) rest channel))
+      → Progressing machine (held old channel) (held new (with_given (take (at + count) (front ++ out)) rest channel))
   given_more old mid new channel at count room front out before rest is_open sends first is len fits gave left unheard written =
       let there = with_given (take at room) before channel in
       let then = with_given (take (at + count) (front ++ out)) rest channel in
-      stirs_then _ _ _ (first left unheard written)
+      progresses_then _ _ _ (first left unheard written)
       (quiet_call (side_of machine) (Gave count (take count out) rest) (held mid there) (held new then)
       (gave, (ap (λ l. record channel { rest = rest; unwritten = l }) (more_given channel.unwritten at count room front out is len fits), is_open), sends) left unheard written)
 
   -- it gave these first
   pub given_first : (old new : machine.Here) (channel : Channel) (count : ℕ) (out : List ℕ) (rest : Rest) → IsOpen channel → machine.wants old ≡ Want.Send
       → machine.Gave count (take count out) rest old new
-      → Stirring machine (held old channel) (held new (with_given (take count out) rest channel))
+      → Progressing machine (held old channel) (held new (with_given (take count out) rest channel))
   given_first old new channel count out rest is_open sends gave left unheard written =
-      stirs_by (Other (Gave count (take count out) rest)) _ _ tt ((gave, (refl, is_open), sends), refl)
+      progresses_by (Other (Gave count (take count out) rest)) _ _ tt ((gave, (refl, is_open), sends), refl)
 
   -- control octets that it owed it gave
   pub gave_some : (old new : machine.Here) (channel : Channel) (count : ℕ) (octets : List ℕ) → octets ≡ take count (machine.owed old) → machine.Gives count old new

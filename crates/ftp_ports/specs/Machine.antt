@@ -291,30 +291,30 @@ module _ (machine : Machine) where
 
   -- an action by which a drive gets on: octets are heard or read, the end is told of something, its data connection moves, or is waited for as the
   -- end wants it; not that the end is asked what it owes, or whether its drive is over
-  abbrev pub IsTouch : Action side_of → Type 0
-  IsTouch (Heard octets) = 0 < length octets
-  IsTouch (Said octets) = ⊥
-  IsTouch (Read octets) = ⊤
-  IsTouch ToldEnded = ⊤
-  IsTouch (Other (Aside own)) = ⊥
-  IsTouch (Other call) = ⊤
+  abbrev pub IsProgress : Action side_of → Type 0
+  IsProgress (Heard octets) = 0 < length octets
+  IsProgress (Said octets) = ⊥
+  IsProgress (Read octets) = ⊤
+  IsProgress ToldEnded = ⊤
+  IsProgress (Other (Aside own)) = ⊥
+  IsProgress (Other call) = ⊤
 
   -- actions led from here to there, and the drive got on by one of them
-  pub record Stirs (start now : Stand side_of) : Type 0 where
+  pub record Progresses (start now : Stand side_of) : Type 0 where
     pub old : Stand side_of
     pub new : Stand side_of
     pub before : Leads start old
     pub action : Action side_of
-    pub touch : IsTouch action
+    pub progress : IsProgress action
     pub done : Done action old new
     pub after : Leads new now
 
   -- the end and its data connection get on, however the control connection stands
-  abbrev pub Stirring : (old new : Held machine.Here) → Type 0
-  Stirring old new = (left : Source) (unheard : List ℕ) (written : Option (List ℕ))
-      → Stirs (record { owner = old; left = left; unheard = unheard; written = written }) (record { owner = new; left = left; unheard = unheard; written = written })
+  abbrev pub Progressing : (old new : Held machine.Here) → Type 0
+  Progressing old new = (left : Source) (unheard : List ℕ) (written : Option (List ℕ))
+      → Progresses (record { owner = old; left = left; unheard = unheard; written = written }) (record { owner = new; left = left; unheard = unheard; written = written })
 
   -- the drive got on, or it fails
   abbrev pub GetsOn : {T : Type 0} → (old new : Stand side_of) → Result T Cause → Type 0
-  GetsOn old new (Ok value) = Stirs old new
+  GetsOn old new (Ok value) = Progresses old new
   GetsOn old new (Err cause) = BreaksOff cause old new

@@ -17,7 +17,7 @@ use Rattle.laws_settling.proofs.Steady.{leads_steady, starts_steady}
 -- ---- a world is quiet, or something happens
 
 -- a delivery, an opening or an end of it
-pub record Stirs (read : Reading) (w : World) : Type 0 where
+pub record Progresses (read : Reading) (w : World) : Type 0 where
   pub event : Event
   pub next : World
   pub settles : IsSettling event
@@ -29,7 +29,7 @@ owes_all : (owed : List ℕ) → Gives 4096 owed (min 4096 (length owed))
 owes_all owed = record { within = omega arith; some = λ room is. (let some = some_octets owed is in omega (arith, some)) }
 
 -- one call with room gives what is due
-moves : (read : Reading) (queue : Queue) (w : World) → has_octets (due queue w) ≡ true → Stirs read w
+moves : (read : Reading) (queue : Queue) (w : World) → has_octets (due queue w) ≡ true → Progresses read w
 moves read queue w is =
     let gave : ℕ = min 4096 (length (due queue (lends_none w))) in
     record {
@@ -52,7 +52,7 @@ first_may read DataToClient w is zero less = is
 first_may read queue w is (suc k) less = absurd (omega (arith, less))
 
 -- one octet is taken, where nothing is due
-takes : (read : Reading) (queue : Queue) (w : World) → has_octets (due queue w) ≡ false → has_octets (in_queue queue w) ≡ true → may_take queue w ≡ true → Stirs read w
+takes : (read : Reading) (queue : Queue) (w : World) → has_octets (due queue w) ≡ false → has_octets (in_queue queue w) ≡ true → may_take queue w ≡ true → Progresses read w
 takes read queue w none is may =
     let u : World = lends_none w in
     let some = some_octets (in_queue queue u) (ap has_octets (lent_queue queue w) ∙ is) in
@@ -74,7 +74,7 @@ takes read queue w none is may =
     }
 
 -- no octet of a queue moves, or something happens
-queue_rests : (read : Reading) (queue : Queue) (w : World) → Stirs read w ⊎ ((count : ℕ) → can_happen (Deliver queue count) w ≡ false)
+queue_rests : (read : Reading) (queue : Queue) (w : World) → Progresses read w ⊎ ((count : ℕ) → can_happen (Deliver queue count) w ≡ false)
 queue_rests read queue w = elim (decided (has_octets (due queue w))) [
   | inl is ↦ inl (moves read queue w is)
   | inr none ↦ elim (decided (has_octets (in_queue queue w))) [
@@ -91,14 +91,14 @@ queue_rests read queue w = elim (decided (has_octets (due queue w))) [
     and_last false c is = refl
 
 -- an end can be told, or not
-end_rests : (read : Reading) (queue : Queue) (w : World) → Stirs read w ⊎ (can_happen (End queue) w ≡ false)
+end_rests : (read : Reading) (queue : Queue) (w : World) → Progresses read w ⊎ (can_happen (End queue) w ≡ false)
 end_rests read queue w = elim (decided (can_happen (End queue) w)) [
   | inl can ↦ inl (record { event = End queue; next = after_event (told queue (lends_none w)); settles = tt; nothing = refl; happens = (can, refl) })
   | inr none ↦ inr none
 ]
 
 -- a link can be opened, or not
-open_rests : (read : Reading) (w : World) → Stirs read w ⊎ (can_happen Open w ≡ false)
+open_rests : (read : Reading) (w : World) → Progresses read w ⊎ (can_happen Open w ≡ false)
 open_rests read w = elim (decided (can_happen Open w)) [
   | inl can ↦ inl (record { event = Open; next = after_event (link_opens (lends_none w)); settles = tt; nothing = refl; happens = (can, refl) })
   | inr none ↦ inr none
@@ -122,13 +122,13 @@ each_queue P Q f = by_four (f ControlToServer) (f ControlToClient) (f DataToServ
     by_four (inr a) (inr b) (inr c) (inr d) = inr (by_all a b c d)
 
 -- a world is quiet, or one of them happens
-rests_or_stirs : (read : Reading) (w : World) → Stirs read w ⊎ IsQuiet w
-rests_or_stirs read w =
-    by_three (each_queue (λ queue. (count : ℕ) → can_happen (Deliver queue count) w ≡ false) (Stirs read w) (λ queue. queue_rests read queue w)) (open_rests read w)
-    (each_queue (λ queue. can_happen (End queue) w ≡ false) (Stirs read w) (λ queue. end_rests read queue w))
+rests_or_progresses : (read : Reading) (w : World) → Progresses read w ⊎ IsQuiet w
+rests_or_progresses read w =
+    by_three (each_queue (λ queue. (count : ℕ) → can_happen (Deliver queue count) w ≡ false) (Progresses read w) (λ queue. queue_rests read queue w)) (open_rests read w)
+    (each_queue (λ queue. can_happen (End queue) w ≡ false) (Progresses read w) (λ queue. end_rests read queue w))
   where
-    by_three : Stirs read w ⊎ ((queue : Queue) (count : ℕ) → can_happen (Deliver queue count) w ≡ false) → Stirs read w ⊎ (can_happen Open w ≡ false)
-        → Stirs read w ⊎ ((queue : Queue) → can_happen (End queue) w ≡ false) → Stirs read w ⊎ IsQuiet w
+    by_three : Progresses read w ⊎ ((queue : Queue) (count : ℕ) → can_happen (Deliver queue count) w ≡ false) → Progresses read w ⊎ (can_happen Open w ≡ false)
+        → Progresses read w ⊎ ((queue : Queue) → can_happen (End queue) w ≡ false) → Progresses read w ⊎ IsQuiet w
     by_three (inl s) b c = inl s
     by_three (inr a) (inl s) c = inl s
     by_three (inr a) (inr b) (inl s) = inl s
@@ -138,13 +138,13 @@ rests_or_stirs read w =
 
 -- a world whose runs end comes to rest: it is quiet, or one of them leads to one that does
 settles_from : (read : Reading) (w : World) → Ends read w → Settles read w
-settles_from read w (ends f) = elim (rests_or_stirs read w) [
+settles_from read w (ends f) = elim (rests_or_progresses read w) [
   | inr quiet ↦ ([], w, tt, (refl, refl), quiet)
-  | inl stirs ↦ (let after = settles_from read stirs.next (f stirs.event stirs.next stirs.settles stirs.happens) in (
-    stirs.event ∷ after.0,
+  | inl progresses ↦ (let after = settles_from read progresses.next (f progresses.event progresses.next progresses.settles progresses.happens) in (
+    progresses.event ∷ after.0,
     after.1,
-    (stirs.settles, after.2),
-    (true, stirs.next, [], stirs.happens, ap (λ orders. orders ++ []) (sym stirs.nothing), after.3),
+    (progresses.settles, after.2),
+    (true, progresses.next, [], progresses.happens, ap (λ orders. orders ++ []) (sym progresses.nothing), after.3),
     after.4,
   ))
 ]

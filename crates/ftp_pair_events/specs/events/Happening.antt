@@ -35,7 +35,7 @@ IsSmall (events.End queue) = Unit {0}
 IsSmall event = ⊥
 
 -- one of these happened
-pub record Stirs (was calm : Bool) (old new : World) : Type 0 where
+pub record Progresses (was calm : Bool) (old new : World) : Type 0 where
   pub event : events.Event
   pub small : IsSmall event
   pub happened : Steps was calm (λ read. Happens read event old true new)

@@ -3,7 +3,7 @@ ghost use Rattle.std.specs.Prelude.{◌≡◌, ◌<◌, true, false, IfSome, IfN
 ghost use Rattle.laws_world.specs.Events.{can_happen, Deliver, End, Happens};
 ghost use Rattle.laws_world.specs.Still.{IsStill};
 ghost use Rattle.ftp_pair_events.specs.events.Calm.{Counted, most_in};
-ghost use Rattle.ftp_pair_events.specs.events.Happening.{turn_of, Stirs};
+ghost use Rattle.ftp_pair_events.specs.events.Happening.{turn_of, Progresses};
 ghost use Rattle.ftp_pair_events.specs.events.Shown.{shown, HasRoom, NoneEnds, NoneFlows, Steps, queue_of};
 
 use crate::events::parts::Parts;
@@ -25,9 +25,9 @@ impl<A: Allocator + Copy, T: Tree<A>, N: Near<A>, F: SureFar<A, T>> Parts<A, T, 
     /// One delivery of at most 4,096 octets, opening or end happens, if one is possible; it answers whether one was. Takes no memory.
     pub fn turn(&mut self) -> bool
         requires report { HasRoom N.client self.old }
-        ensures does { result ≡ true → Stirs self.old.calm self.new.calm (shown N.client F.server self.old) (shown N.client F.server self.new) }
+        ensures does { result ≡ true → Progresses self.old.calm self.new.calm (shown N.client F.server self.old) (shown N.client F.server self.new) }
         ensures still { result ≡ false → IsStill (shown N.client F.server self.old) }
-        ensures stirs { result ≡ true → ¬ IsStill (shown N.client F.server self.old) }
+        ensures progresses { result ≡ true → ¬ IsStill (shown N.client F.server self.old) }
         ensures same { result ≡ false → self.new ≡ self.old }
         ensures counted { Counted 12312 N.client F.server self.old self.new }
         ensures report { HasRoom N.client self.new }

@@ -11,7 +11,7 @@ use Rattle.ftp_operation.specs.declared.answer.Answer.{Answer}
 use Rattle.laws_drivers.specs.control.Between.{Far, Near}
 use Rattle.ftp_pair_memory.specs.streams.Claims.{ways_at}
 use Rattle.ftp_pair_memory.specs.streams.PortTables.{asked_of}
-use Rattle.ftp_pair_memory.specs.streams.Docking.{left_in, went_in}
+use Rattle.ftp_pair_memory.specs.streams.PortTableMoves.{left_in, went_in}
 use Rattle.ftp_pair_memory.specs.streams.MemoryEnds.{IsKnown, Meets, link_state_of, between_both, listens_of, plain_in, told_channel}
 use Rattle.ftp_pair_memory.specs.streams.Order.{CameAlone, CountedAlone, Hosts, WentAlone}
 use Rattle.ftp_pair_memory.specs.streams.Plain.{plain, plain_asked, quiet}

@@ -15,7 +15,7 @@ use Rattle.laws_drivers.specs.control.Touches.{had_by, left_by, touch_in, touch_
 use Rattle.ftp_pair_memory.specs.streams.LinkState.{LinkState, Ran, Steps}
 use Rattle.ftp_pair_memory.specs.streams.Order.{CountedAlone, Counts}
 use Rattle.ftp_pair_memory.specs.streams.Plain.{plain}
-use Rattle.ftp_pair_memory.proofs.streams.Berths.{ran_split}
+use Rattle.ftp_pair_memory.proofs.streams.LinkStates.{ran_split}
 use Rattle.ftp_pair_memory.proofs.streams.Plainly.{touch_plain}
 
 -- one thing was asked

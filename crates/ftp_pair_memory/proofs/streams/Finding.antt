@@ -22,7 +22,7 @@ use Rattle.laws_drivers.specs.control.Touches.{Touch, had_by, left_by, touch_of}
 use Rattle.laws_world.specs.World.{port_at}
 use Rattle.ftp_pair_memory.specs.streams.LinkState.{LinkState, IsAt, IsSeen, Ran, Steps, between_by, called_by, dialling, handed, hold_by, listening, mark}
 use Rattle.ftp_pair_memory.specs.streams.Order.{CanGo}
-use Rattle.ftp_pair_memory.proofs.streams.Berths.{Heeds, IsKnown, alike, all_read, appended, consumed, kept, same_some, seen_as}
+use Rattle.ftp_pair_memory.proofs.streams.LinkStates.{Heeds, IsKnown, alike, all_read, appended, consumed, kept, same_some, seen_as}
 use Rattle.ftp_pair_memory.proofs.streams.Lying.{accepts_at, breaks_at, dials_at, ends_at, listens_at, over_at, resets_at, takes_at, told_at, writes_at}
 
 -- what is had is not listened for

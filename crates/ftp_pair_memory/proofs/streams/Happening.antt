@@ -16,7 +16,7 @@ use Rattle.ftp_pair_memory.specs.streams.LinkState.{LinkState, IsAt, Ran, betwee
 use Rattle.ftp_pair_memory.specs.streams.Claims.{Happens, ways_at}
 use Rattle.ftp_pair_memory.specs.streams.Order.{CameAlone, CanGo, CountedAlone, WentAlone}
 use Rattle.ftp_pair_memory.specs.streams.Plain.{plain, quiet}
-use Rattle.ftp_pair_memory.proofs.streams.Berths.{Heeds, IsKnown, alike, counts_same, heeds, host_same, heeds_on, known_at, known_on, ran_split, same_link_state}
+use Rattle.ftp_pair_memory.proofs.streams.LinkStates.{Heeds, IsKnown, alike, counts_same, heeds, host_same, heeds_on, known_at, known_on, ran_split, same_link_state}
 use Rattle.ftp_pair_memory.proofs.streams.Coming.{came}
 use Rattle.ftp_pair_memory.proofs.streams.Counting.{counted}
 use Rattle.ftp_pair_memory.proofs.streams.Finding.{found}

@@ -8,7 +8,7 @@ use Rattle.ftp_driver.specs.Standing.{HasNone, IsExchanged, IsSameChannel, chann
 use Rattle.ftp_driver.specs.declared.data.Data.{Data}
 use Rattle.ftp_pair_memory.specs.streams.LinkState.{LinkState, called_by, hold_by, mark}
 use Rattle.laws_drivers.specs.control.Between.{Has, Has_not, Hold}
-use Rattle.ftp_pair_memory.specs.streams.Docking.{hold_at, is_back, is_ended, is_out, left_in, went_in}
+use Rattle.ftp_pair_memory.specs.streams.PortTableMoves.{hold_at, is_back, is_ended, is_out, left_in, went_in}
 use Rattle.ftp_pair_memory.specs.streams.Plain.{plain_channel}
 use Rattle.ftp_pair_memory.proofs.streams.Noting.{back_has, back_marked}
 use Rattle.ftp_pair_memory.specs.streams.MemoryEnds.{AnswersDial, IsFresh, IsKnown, Lifts, Lowers, Meets, Prepares, link_state_of, came_at, came_in, listens_of, mark_in, octets_of, of_two, plain_in, told_in, went_at}

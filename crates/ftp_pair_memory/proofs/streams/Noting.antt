@@ -4,7 +4,7 @@ use Rattle.ftp_endpoint.specs.declared.endpoint.Endpoint.{Endpoint}
 use Rattle.ftp_ports.specs.Asking.{Asked}
 use Rattle.laws_drivers.specs.control.Between.{Awaits, Has, Has_ended, Has_lost, Has_not, Hold, IsOver, Is_called}
 use Rattle.ftp_pair_memory.specs.streams.LinkState.{LinkState, Ran, Steps, dialling, listening, mark}
-use Rattle.ftp_pair_memory.specs.streams.Docking.{Noted, found_at, header, is_back, is_dialled, is_ended, is_free, is_reached, moved, moved_on, noted_first, noted_in, noted_next, noted_on, port_called, told, where_so}
+use Rattle.ftp_pair_memory.specs.streams.PortTableMoves.{Noted, found_at, header, is_back, is_dialled, is_ended, is_free, is_reached, moved, moved_on, noted_first, noted_in, noted_next, noted_on, port_called, told, where_so}
 use Rattle.ftp_pair_memory.specs.declared.streams.port_table.Event.{Event}
 use Rattle.ftp_pair_memory.specs.declared.streams.port_table.Event.TheVariants as Events
 use Rattle.ftp_pair_memory.specs.declared.streams.port_table.Found.{Found}

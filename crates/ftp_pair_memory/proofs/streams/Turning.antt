@@ -13,7 +13,7 @@ use Rattle.laws_drivers.specs.control.Between.{Awaits, Between, Far, Has, Has_en
 use Rattle.ftp_pair_memory.specs.streams.LinkState.{LinkState, IsAt, IsSeen, Ran, between_at, between_by, called_by, hold_by, mark}
 use Rattle.ftp_pair_memory.specs.streams.Claims.{Happening, ways_at}
 use Rattle.ftp_pair_memory.specs.streams.PortTables.{asked_of}
-use Rattle.ftp_pair_memory.specs.streams.Docking.{link_state_at, header, hold_at, is_ended, is_out, known_by, left_in, shown_end, shown_hold, went_in}
+use Rattle.ftp_pair_memory.specs.streams.PortTableMoves.{link_state_at, header, hold_at, is_ended, is_out, known_by, left_in, shown_end, shown_hold, went_in}
 use Rattle.ftp_pair_memory.specs.streams.MemoryEnds.{KnowsHolder, IsKnown, Meets, link_state_of, between_both, came_in, listens_of, mark_in, octets_of, of_two, plain_in, told_in, told_channel}
 use Rattle.ftp_pair_memory.specs.streams.Order.{CameAlone, CountedAlone, WentAlone}
 use Rattle.ftp_pair_memory.specs.streams.Plain.{plain, plain_channel, quiet}

@@ -8,7 +8,7 @@ use Rattle.ftp_driver.specs.declared.data.Data.{Data}
 use Rattle.laws_drivers.specs.control.Between.{Between, Has_not, Hold, Ways, Who}
 use Rattle.ftp_pair_memory.specs.streams.LinkState.{LinkState, Knows, between_at, called_by, hold_by, mark}
 use Rattle.ftp_pair_memory.specs.streams.PortTables.{asked_of}
-use Rattle.ftp_pair_memory.specs.streams.Docking.{link_state_at, header, hold_at, is_ended, is_out, left_in, went_in}
+use Rattle.ftp_pair_memory.specs.streams.PortTableMoves.{link_state_at, header, hold_at, is_ended, is_out, left_in, went_in}
 use Rattle.ftp_pair_memory.specs.declared.streams.memory_end.MemoryEnd.{MemoryEnd}
 use Rattle.ftp_pair_memory.specs.declared.streams.wire.Wire.{Wire}
 

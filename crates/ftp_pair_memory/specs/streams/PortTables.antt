@@ -1,7 +1,7 @@
 -- What the ports of a data connection in memory told, since a turn of their end began.
 use Rattle.std.specs.Prelude.{List}
 use Rattle.ftp_ports.specs.Asking.{Asked}
-use Rattle.ftp_pair_memory.specs.streams.Docking.{noted_in}
+use Rattle.ftp_pair_memory.specs.streams.PortTableMoves.{noted_in}
 use Rattle.ftp_pair_memory.specs.declared.streams.port_table.PortTable.{PortTable}
 
 -- the last one first

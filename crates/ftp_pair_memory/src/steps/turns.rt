@@ -6,7 +6,7 @@ ghost use Rattle.ftp_pair_memory.specs.steps.Turning.{FarTurned, NearTurned};
 ghost use Rattle.ftp_server_driver.specs.alone.Side.{timed};
 
 use crate::steps::course::{Course, far_course, near_course};
-use crate::streams::{Inlet, Outlet};
+use crate::streams::{ReadHalf, WriteHalf};
 use ftp_client_driver::{Control, Data};
 use ftp_client_model::Near;
 use ftp_operation::Answer;
@@ -33,8 +33,8 @@ where
     S: Duplex,
     ensures { NearTurned result (held (N.client client.old) (channel_at S.remaining S.contents (P.history ports.old) data.old [])) (held (N.client client.new) (channel_at S.remaining S.contents (P.history ports.new) data.new [])) came.old.items came.new.items goes.old.items goes.new.items }
 {
-    let mut control = Control::new(Inlet::new(came, most), Outlet::new(goes));
-    let turned = ftp_client_driver::drive_some::<A, N, Inlet<'_>, Outlet<'_>, P>(
+    let mut control = Control::new(ReadHalf::new(came, most), WriteHalf::new(goes));
+    let turned = ftp_client_driver::drive_some::<A, N, ReadHalf<'_>, WriteHalf<'_>, P>(
         client,
         &mut control,
         ports,
@@ -64,8 +64,8 @@ where
     S: Duplex,
     ensures { FarTurned result (held (timed F.server C.told clocked.old) (channel_at S.remaining S.contents (P.history ports.old) data.old [])) (held (timed F.server C.told clocked.new) (channel_at S.remaining S.contents (P.history ports.new) data.new [])) came.old.items came.new.items goes.old.items goes.new.items }
 {
-    let mut control = Control::new(Inlet::new(came, most), Outlet::new(goes));
-    let turned = ftp_server_driver::drive_some::<A, T, F, Inlet<'_>, Outlet<'_>, P, C, O>(
+    let mut control = Control::new(ReadHalf::new(came, most), WriteHalf::new(goes));
+    let turned = ftp_server_driver::drive_some::<A, T, F, ReadHalf<'_>, WriteHalf<'_>, P, C, O>(
         clocked,
         &mut control,
         ports,

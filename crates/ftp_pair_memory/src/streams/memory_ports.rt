@@ -1,7 +1,7 @@
 // The ports of an end beside data connections in memory (RFC 959, section 3.2).
 ghost use Rattle.std.specs.Prelude.{Some};
 ghost use Rattle.ftp_ports.specs.Asking.{Closes};
-ghost use Rattle.ftp_pair_memory.specs.streams.Docking.{left_in, went_in};
+ghost use Rattle.ftp_pair_memory.specs.streams.PortTableMoves.{left_in, went_in};
 
 use crate::streams::port_table::{PortTable, Stay};
 use crate::streams::wire::{Closed, Wire};

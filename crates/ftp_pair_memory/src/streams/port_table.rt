@@ -2,7 +2,7 @@
 ghost use Rattle.std.specs.Prelude.{◌<◌, ◌≡◌, ◌+◌, ◌%◌, ◌∷◌, [], IfSome, IsTrue, None, Some, false, true};
 ghost use Rattle.ftp_ports.specs.Asking.{Came, Connected, Ended as EndedBy, Listened, NotCame, NotConnected, Reset as ResetBy, Shut};
 ghost use Rattle.laws_world.specs.World.{port_at};
-ghost use Rattle.ftp_pair_memory.specs.streams.Docking.{MovesNothing, link_state_at, header, hold_at, is_back, is_ended, is_out, is_reached, known_by, left_in, noted_in, told, went_in};
+ghost use Rattle.ftp_pair_memory.specs.streams.PortTableMoves.{MovesNothing, link_state_at, header, hold_at, is_back, is_ended, is_out, is_reached, known_by, left_in, noted_in, told, went_in};
 
 use crate::streams::wire::{Closed, Wire};
 use ftp_endpoint::{Endpoint, Host};

@@ -6,25 +6,25 @@ use std::io::{Error, ErrorKind, Read, Write};
 
 /// A way as its reader has it.
 #[derive(Drop)]
-pub struct Inlet<'w> {
+pub struct ReadHalf<'w> {
     way: &'w mut Vec<u8>,
     /// How many octets may still be read.
     most: usize,
 }
 
-impl<'w> Inlet<'w> {
-    pub fn new(way: &'w mut Vec<u8>, most: usize) -> Inlet<'w>
+impl<'w> ReadHalf<'w> {
+    pub fn new(way: &'w mut Vec<u8>, most: usize) -> ReadHalf<'w>
         ensures same { result.way.ghost_name ≡ way.entry.ghost_name }
         ensures now { result.way.now ≡ way.old }
     {
-        Inlet { way, most }
+        ReadHalf { way, most }
     }
 }
 
 /// Behind the octets of the way it tells one more, which no read gives: which way it is. So whoever lends a way to it finds that way again as it was left,
 /// and no read finds its end.
-impl<'w> Read for Inlet<'w> {
-    ghost remaining = { λ inlet. Some (inlet.way.now.items ++ inlet.way.ghost_name ∷ []) };
+impl<'w> Read for ReadHalf<'w> {
+    ghost remaining = { λ read_half. Some (read_half.way.now.items ++ read_half.way.ghost_name ∷ []) };
 
     #[tactic(auto, using(crate::proofs::streams::Ways::front_read))]
     fn read(&mut self, room: &mut [u8]) -> io::Result<usize> {
@@ -51,22 +51,22 @@ pub(crate) fn take_front(way: &mut Vec<u8>, room: &mut [u8], count: usize)
 
 /// A way as its writer has it.
 #[derive(Drop)]
-pub struct Outlet<'w> {
+pub struct WriteHalf<'w> {
     way: &'w mut Vec<u8>,
 }
 
-impl<'w> Outlet<'w> {
-    pub fn new(way: &'w mut Vec<u8>) -> Outlet<'w>
+impl<'w> WriteHalf<'w> {
+    pub fn new(way: &'w mut Vec<u8>) -> WriteHalf<'w>
         ensures same { result.way.ghost_name ≡ way.entry.ghost_name }
         ensures now { result.way.now ≡ way.old }
     {
-        Outlet { way }
+        WriteHalf { way }
     }
 }
 
 /// Before the octets of the way it tells which way it is.
-impl<'w> Write for Outlet<'w> {
-    ghost contents = { λ outlet. Some (outlet.way.ghost_name ∷ outlet.way.now.items) };
+impl<'w> Write for WriteHalf<'w> {
+    ghost contents = { λ write_half. Some (write_half.way.ghost_name ∷ write_half.way.now.items) };
 
     fn write(&mut self, octets: &[u8]) -> io::Result<usize> {
         match self.way.extend_from_slice(octets) {

@@ -54,7 +54,7 @@ impl Wire {
 /// After the octets that came it tells one more that is none, unless the other end ended it: so no read finds an end before that.
 impl Read for Wire {
     ghost use Rattle.ftp_pair_memory.specs.streams.LinkState.{mark};
-    ghost use Rattle.ftp_pair_memory.specs.streams.Docking.{is_ended};
+    ghost use Rattle.ftp_pair_memory.specs.streams.PortTableMoves.{is_ended};
 
     ghost remaining = { λ wire. Some (wire.came.items ++ mark (is_ended wire.closed)) };
 

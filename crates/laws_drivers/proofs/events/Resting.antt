@@ -48,36 +48,36 @@ abbrev linked : ServerLink Transfer → Far → Far
 linked link v = record v { session = record v.session { connection = link } }
 
 -- a world's server that is ahead by an opening is not at rest
-opening_stirs : (transfer : Transfer) (v : Far) → is_aside (far_ahead Opens (linked (Data.Opening transfer Ways.Accept) v)).session.connection ≡ true
+opening_progresses : (transfer : Transfer) (v : Far) → is_aside (far_ahead Opens (linked (Data.Opening transfer Ways.Accept) v)).session.connection ≡ true
     → (far_ahead Opens (linked (Data.Opening transfer Ways.Accept) v)).owed ≡ [] → ⊥
-opening_stirs (Transfers.Upload path keep d) v aside owed = true≢false (sym aside)
-opening_stirs Transfers.OverLimit v aside owed = true≢false (sym aside)
-opening_stirs (Transfers.Download []) v aside owed = not_some v.owed _ refl owed
-opening_stirs (Transfers.Download (octet ∷ more)) v aside owed = true≢false (sym aside)
-opening_stirs (Transfers.Listing []) v aside owed = not_some v.owed _ refl owed
-opening_stirs (Transfers.Listing (octet ∷ more)) v aside owed = true≢false (sym aside)
+opening_progresses (Transfers.Upload path keep d) v aside owed = true≢false (sym aside)
+opening_progresses Transfers.OverLimit v aside owed = true≢false (sym aside)
+opening_progresses (Transfers.Download []) v aside owed = not_some v.owed _ refl owed
+opening_progresses (Transfers.Download (octet ∷ more)) v aside owed = true≢false (sym aside)
+opening_progresses (Transfers.Listing []) v aside owed = not_some v.owed _ refl owed
+opening_progresses (Transfers.Listing (octet ∷ more)) v aside owed = true≢false (sym aside)
 
-opens_touch : (link : ServerLink Transfer) → accepts link ≡ true → (v : Far) → is_aside (far_ahead Opens (linked link v)).session.connection ≡ true
+opens_progress : (link : ServerLink Transfer) → accepts link ≡ true → (v : Far) → is_aside (far_ahead Opens (linked link v)).session.connection ≡ true
     → (far_ahead Opens (linked link v)).owed ≡ [] → ⊥
-opens_touch Data.Passive is v aside owed = true≢false (sym aside)
-opens_touch (Data.Opening transfer Ways.Accept) is v aside owed = opening_stirs transfer v aside owed
-opens_touch (Data.Opening transfer (Ways.Connect endpoint)) is v aside owed = true≢false (sym is)
-opens_touch Data.Free is v aside owed = true≢false (sym is)
-opens_touch (Data.Asked verb) is v aside owed = true≢false (sym is)
-opens_touch (Data.Active endpoint) is v aside owed = true≢false (sym is)
-opens_touch Data.Ready is v aside owed = true≢false (sym is)
-opens_touch (Data.Transferring transfer) is v aside owed = true≢false (sym is)
+opens_progress Data.Passive is v aside owed = true≢false (sym aside)
+opens_progress (Data.Opening transfer Ways.Accept) is v aside owed = opening_progresses transfer v aside owed
+opens_progress (Data.Opening transfer (Ways.Connect endpoint)) is v aside owed = true≢false (sym is)
+opens_progress Data.Free is v aside owed = true≢false (sym is)
+opens_progress (Data.Asked verb) is v aside owed = true≢false (sym is)
+opens_progress (Data.Active endpoint) is v aside owed = true≢false (sym is)
+opens_progress Data.Ready is v aside owed = true≢false (sym is)
+opens_progress (Data.Transferring transfer) is v aside owed = true≢false (sym is)
 
 -- nor is one that is ahead by a port
-told_stirs : (port : ℕ) (link : ServerLink Transfer) → is_asked link ≡ true → (v : Far) → (far_ahead (Listens port) (linked link v)).owed ≡ [] → ⊥
-told_stirs port (Data.Asked Asking.Pasv) is v owed = not_some v.owed _ refl owed
-told_stirs port (Data.Asked Asking.Epsv) is v owed = not_some v.owed _ refl owed
-told_stirs port Data.Free is v owed = true≢false (sym is)
-told_stirs port (Data.Active endpoint) is v owed = true≢false (sym is)
-told_stirs port Data.Passive is v owed = true≢false (sym is)
-told_stirs port Data.Ready is v owed = true≢false (sym is)
-told_stirs port (Data.Opening transfer way) is v owed = true≢false (sym is)
-told_stirs port (Data.Transferring transfer) is v owed = true≢false (sym is)
+told_progresses : (port : ℕ) (link : ServerLink Transfer) → is_asked link ≡ true → (v : Far) → (far_ahead (Listens port) (linked link v)).owed ≡ [] → ⊥
+told_progresses port (Data.Asked Asking.Pasv) is v owed = not_some v.owed _ refl owed
+told_progresses port (Data.Asked Asking.Epsv) is v owed = not_some v.owed _ refl owed
+told_progresses port Data.Free is v owed = true≢false (sym is)
+told_progresses port (Data.Active endpoint) is v owed = true≢false (sym is)
+told_progresses port Data.Passive is v owed = true≢false (sym is)
+told_progresses port Data.Ready is v owed = true≢false (sym is)
+told_progresses port (Data.Opening transfer way) is v owed = true≢false (sym is)
+told_progresses port (Data.Transferring transfer) is v owed = true≢false (sym is)
 
 -- between two lines, owing nothing, at no transfer
 pub record AtRest (v : Far) : Type 0 where
@@ -88,8 +88,8 @@ pub record AtRest (v : Far) : Type 0 where
 -- so the drive's server is where the world's is
 pub rests_so : (ahead : Ahead) (v : Far) → Fits ahead v.session.connection → IsIdle (far_ahead ahead v) → AtRest v
 rests_so Level v fits idle = record { ear = idle.ear; owed = idle.owed; idle = aside_idle v.session.connection idle.aside }
-rests_so Opens v fits idle = absurd (opens_touch v.session.connection fits v idle.aside idle.owed)
-rests_so (Listens port) v fits idle = absurd (told_stirs port v.session.connection fits v idle.owed)
+rests_so Opens v fits idle = absurd (opens_progress v.session.connection fits v idle.aside idle.owed)
+rests_so (Listens port) v fits idle = absurd (told_progresses port v.session.connection fits v idle.owed)
 
 -- at whatever moment
 pub idle_at : (moment : ℕ) (w f : Far) → w ≡ clock_step moment f → IsIdle w → IsIdle f

@@ -11,8 +11,8 @@ loop-at-init g c =
           (gave.ensures.gave c.requires),
     )
 
-pub returns-then-given-eq0-clause-stirs : goal.returns-then-given-eq0-clause-stirs
-returns-then-given-eq0-clause-stirs g c channel is_open =
+pub returns-then-given-eq0-clause-progresses : goal.returns-then-given-eq0-clause-progresses
+returns-then-given-eq0-clause-progresses g c channel is_open =
     let gave = c.data_out-given in
     let split = c.split_at_mut-free.ensures in
     let sends : g.K.EndCalls.machine.wants (g.K.EndCalls.here c.loop-at.end) ≡ Send = search rules in

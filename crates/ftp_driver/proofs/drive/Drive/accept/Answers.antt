@@ -7,7 +7,7 @@ use Rattle.ftp_driver.proofs.drive.Drive.accept.Goals as goal
 pub returns-in-Came-clause-gets : goal.returns-in-Came-clause-gets
 returns-in-Came-clause-gets g c =
     let came = c.in-Came in
-    c.opened.ensures.stirs (g.P.Ports.history c.args.self.now.ports.now) (Came came.host (g.S.Read.remaining came.stream) (g.S.Write.contents came.stream))
+    c.opened.ensures.progresses (g.P.Ports.history c.args.self.now.ports.now) (Came came.host (g.S.Read.remaining came.stream) (g.S.Write.contents came.stream))
     (one_came g.S.Read.remaining g.S.Write.contents _ _ _ c.accept.result came.stream came.host came.is c.accept.ensures) (inl refl) c.requires.wants
 
 pub returns-in-Spoken-clause-gets : goal.returns-in-Spoken-clause-gets

@@ -3,8 +3,8 @@ use Rattle.std.proofs.lemmas.List.{length-take-le}
 use Rattle.ftp_driver.proofs.Words.{hears_first}
 use Rattle.ftp_driver.proofs.drive.Drive.hear.Goals as goal
 
-pub returns-clause-stirs : goal.returns-clause-stirs
-returns-clause-stirs g c =
+pub returns-clause-progresses : goal.returns-clause-progresses
+returns-clause-progresses g c =
     let taken = c.hear-taken.result in
     let here = g.K.EndCalls.here in
     let some = subst (λ l. 0 < length l) (sym c.unheard.ensures) c.requires.some in

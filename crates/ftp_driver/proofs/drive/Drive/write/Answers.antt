@@ -5,6 +5,6 @@ pub returns-clause-leads : goal.returns-clause-leads
 returns-clause-leads g c =
     idles_sent g.K.EndCalls.machine _ _ (sent_fate c.write.result _ c.write.ensures.fate) (c.write.ensures.written (g.P.Ports.history c.args.self.now.ports.now)) _ _ _ _
 
-pub returns-clause-stirs : goal.returns-clause-stirs
-returns-clause-stirs g c some =
+pub returns-clause-progresses : goal.returns-clause-progresses
+returns-clause-progresses g c some =
     sends g.K.EndCalls.machine _ _ _ (sent_fate c.write.result _ c.write.ensures.fate) (c.write.ensures.some some (g.P.Ports.history c.args.self.now.ports.now)) _ _ _

@@ -24,7 +24,7 @@ loop-left-preserved g c = record {
       c.is_calm.ensures.calm c.left_after-left.ensures;
   counted = turned c.loop-left.left c.left_after-left.result c.is_calm.result c.args.self.now c.loop-left.self c.turn.new.self (omega (arith, c.loop-left-test.true)) c.loop-left.invariant.few
       c.loop-left.invariant.counted c.turn.ensures.counted c.is_calm.ensures.calm c.left_after-left.ensures;
-  idle = λ still. absurd (c.turn.ensures.stirs c.if-not-turn.false (subst (λ (s : Seen). IsStill s.world) (sym (c.loop-left.invariant.idle still)) still));
+  idle = λ still. absurd (c.turn.ensures.progresses c.if-not-turn.false (subst (λ (s : Seen). IsStill s.world) (sym (c.loop-left.invariant.idle still)) still));
   few = left_few c.loop-left.left c.left_after-left.result c.is_calm.result c.loop-left.invariant.few c.left_after-left.ensures;
 }
 

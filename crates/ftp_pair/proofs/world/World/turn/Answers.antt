@@ -1,6 +1,6 @@
 use Rattle.std.proofs.Common.{◌∙◌, ◌≡◌, true, false, ap, subst}
 use Rattle.ftp_pair_events.specs.events.Calm.{Keeps, tally_of}
-use Rattle.ftp_pair_events.specs.events.Happening.{Stirs}
+use Rattle.ftp_pair_events.specs.events.Happening.{Progresses}
 use Rattle.ftp_pair_events.specs.events.Shown.{shown}
 use Rattle.laws_settling.specs.Steady.{IsSteady}
 use Rattle.laws_world.specs.Still.{IsStill}
@@ -10,13 +10,13 @@ use Rattle.ftp_pair.proofs.world.World.turn.Goals as goal
 
 pub returns-clause-does : goal.returns-clause-does
 returns-clause-does g c =
-    subst (λ (s : Seen). c.turn.result ≡ true → Stirs s.calm c.turn.new.self.calm s.world (shown g.N.Near.client g.F.Far.server c.turn.new.self)) c.self.view_is c.turn.ensures.does
+    subst (λ (s : Seen). c.turn.result ≡ true → Progresses s.calm c.turn.new.self.calm s.world (shown g.N.Near.client g.F.Far.server c.turn.new.self)) c.self.view_is c.turn.ensures.does
 
 pub returns-clause-still : goal.returns-clause-still
 returns-clause-still g c = subst (λ (s : Seen). c.turn.result ≡ false → IsStill s.world) c.self.view_is c.turn.ensures.still
 
-pub returns-clause-stirs : goal.returns-clause-stirs
-returns-clause-stirs g c = subst (λ (s : Seen). c.turn.result ≡ true → ¬ IsStill s.world) c.self.view_is c.turn.ensures.stirs
+pub returns-clause-progresses : goal.returns-clause-progresses
+returns-clause-progresses g c = subst (λ (s : Seen). c.turn.result ≡ true → ¬ IsStill s.world) c.self.view_is c.turn.ensures.progresses
 
 pub returns-clause-same : goal.returns-clause-same
 returns-clause-same g c is = ap (seen g.N.Near.client g.F.Far.server) (c.turn.ensures.same is) ∙ c.self.view_is

@@ -13,5 +13,5 @@ returns-clause-counted g c = fewer c.take_turn.ensures.counted (turn_few c.in-So
 pub returns-in_default-clause-counted : goal.returns-in_default-clause-counted
 returns-in_default-clause-counted g c = none _ _ _
 
-pub returns-clause-stirs : goal.returns-clause-stirs
-returns-clause-stirs g c is = not_still c.in-Some.turn (shown g.N.Near.client g.F.Far.server c.args.self.now) c.in-Some.ensures.some
+pub returns-clause-progresses : goal.returns-clause-progresses
+returns-clause-progresses g c is = not_still c.in-Some.turn (shown g.N.Near.client g.F.Far.server c.args.self.now) c.in-Some.ensures.some

@@ -1,4 +1,4 @@
--- Berths beside channels: what ports know of a data connection in memory, and what is seen of it.
+-- LinkStates beside channels: what ports know of a data connection in memory, and what is seen of it.
 use Rattle.std.proofs.Common.{◌≡◌, ◌∙◌, ℕ, Bool, true, false, true≢false, List, [], ◌∷◌, ◌++◌, Option, Some, None, refl, sym, ap, subst, inl, inr}
 use Rattle.std.proofs.Common.{length, length-append, arith}
 use Rattle.std.proofs.lemmas.List.{append_cancel_right}
