@@ -12,9 +12,8 @@ use tool_command::{PLACE_OPTION, Refusal, asked_of, fetch_task_of, openings_of, 
 use tool_get_put::{Each, Pair, Task};
 use tool_job::{Simple, Target};
 use tool_session::Openings;
-use tool_status::Status;
-use tool_terminal::Shown;
-use tool_words::UrlPlace;
+use tool_terminal::{Shown, Status};
+use tool_location::UrlPlace;
 
 /// Does what a subcommand asks for at one place, where standard error may be a terminal.
 pub(crate) fn ask<R>(

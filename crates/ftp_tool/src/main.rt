@@ -23,8 +23,7 @@ use std::random::RandomSource;
 use std::time::Clock;
 use std::{env, io};
 use tool_command::{command, told_of};
-use tool_status::Status;
-use tool_terminal::{QuietHandle, Told};
+use tool_terminal::{QuietHandle, Status, Told};
 
 fn main(rt: HostRuntime) -> ExitCode {
     ExitCode::from(run(&rt, &mut rt.stderr()).unwrap_or(Status::Failed.number()))

@@ -13,8 +13,8 @@ use tool_command::{
     script_user_of, serving_of, settings_of, task_of, url_in,
 };
 use tool_session::Openings;
-use tool_status::Status;
-use tool_words::UrlPlace;
+use tool_terminal::Status;
+use tool_location::UrlPlace;
 
 /// Does what the words of a command line ask for.
 pub(crate) fn obey<R, F>(

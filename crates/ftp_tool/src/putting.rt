@@ -12,8 +12,8 @@ use std::io::Eprint;
 use tool_command::{PLACE_OPTION, asked_of, openings_of, url_in};
 use tool_get_put::{Each, Pair, Task};
 use tool_job::Target;
-use tool_status::Status;
-use tool_words::{Location, place_for};
+use tool_terminal::Status;
+use tool_location::{Location, place_for};
 
 /// Does what `put` asks for, file by file, each over a control connection of its own; the status is the worst.
 pub(crate) fn put<R>(

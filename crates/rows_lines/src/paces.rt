@@ -2,7 +2,7 @@
 use crate::report::put_printed;
 use rows_base::Paper;
 use std::alloc::Global;
-use tool_status::{Span, measured, pace_of, unit_for};
+use tool_terminal::{Span, measured, pace_of, unit_for};
 
 /// Sizes around the places where a unit begins.
 const SIZES: &[u128] = &[

@@ -8,9 +8,8 @@ use std::alloc::Global;
 use std::io;
 use std::io::{Error, ErrorKind, Write};
 use tool_files::{LocalFiles, OpenPart, Reading, read_from};
-use tool_resume::{Downloading, Stamp};
+use tool_resume::{Arrival, Downloading, Stamp};
 use tool_session::{Openings, SessionFault};
-use tool_status::Arrival;
 
 /// The most octets that the file may have.
 const LIMIT: u64 = 100;

@@ -18,7 +18,7 @@ use std::alloc::Global;
 use std::io::Write;
 use std::process::ExitCode;
 use std::{fs, io};
-use tool_status::Status;
+use tool_terminal::Status;
 
 fn main(rt: HostRuntime) -> ExitCode {
     ExitCode::from(played(&rt).unwrap_or(Status::Failed).number())

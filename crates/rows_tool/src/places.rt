@@ -1,6 +1,6 @@
 // Which places texts say.
 use rows_base::Paper;
-use tool_words::{Location, place_of};
+use tool_location::{Location, place_of};
 
 /// Texts that say a place.
 const SAID: &[&str] = &[

@@ -2,7 +2,7 @@
 use rows_base::{FailingReader, FailingWriter, Paper, Refusing, cut, row_in_front, split};
 use std::alloc::Global;
 use tool_pair::{PairSettings, pair};
-use tool_status::Status;
+use tool_terminal::Status;
 
 /// The most octets of a round, of the pieces that a script is played by again.
 const PIECES: &[u32] = &[1, 7];

@@ -1,1 +1,2 @@
 mod AmountLemmas
+mod PortLemmas

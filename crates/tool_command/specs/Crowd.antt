@@ -4,9 +4,9 @@ use Rattle.tool_command.specs.declared.crowd.Stop.{Stop}
 use Rattle.tool_command.specs.declared.crowd.Stop.TheVariants.{InputEnd, Signal}
 use Rattle.tool_scheduler.specs.declared.house.Input.{Input}
 use Rattle.tool_scheduler.specs.declared.house.Input.TheVariants.{Stops, Unread}
-use Rattle.tool_words.specs.Words.{SaysBelow}
-use Rattle.tool_words.specs.declared.words.Sessions.{Sessions}
-use Rattle.tool_words.specs.declared.words.Sessions.TheVariants.{Count, Forever}
+use Rattle.tool_command.specs.Numbers.{SaysBelow}
+use Rattle.tool_serve.specs.declared.sessions.Sessions.{Sessions}
+use Rattle.tool_serve.specs.declared.sessions.Sessions.TheVariants.{Count, Forever}
 
 -- a number from 1 to 64
 abbrev pub SaysCount : List ℕ → ℕ → Type 0

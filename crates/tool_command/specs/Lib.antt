@@ -1,4 +1,5 @@
 pub mod Amount
 pub mod Crowd
 pub mod Host
+pub mod Numbers
 pub mod Serving

@@ -11,9 +11,9 @@ use Rattle.tool_command.specs.declared.serving.ServeWords.{ServeWords}
 use Rattle.tool_command.specs.declared.serving.WaitWords.{WaitWords}
 use Rattle.tool_serve.specs.declared.serving.Serving.{Serving}
 use Rattle.tool_polling.specs.declared.timeouts.Limits.{Limits as Waits}
-use Rattle.tool_words.specs.Words.{SaysBelow, SaysPort, SaysPorts, SaysSessions}
-use Rattle.tool_words.specs.declared.words.Sessions.{Sessions}
-use Rattle.tool_words.specs.declared.words.Sessions.TheVariants.{Count, Forever}
+use Rattle.tool_command.specs.Numbers.{SaysBelow, SaysPort, SaysPorts, SaysSessions}
+use Rattle.tool_serve.specs.declared.sessions.Sessions.{Sessions}
+use Rattle.tool_serve.specs.declared.sessions.Sessions.TheVariants.{Count, Forever}
 use Rattle.ftp_tree.specs.Tree.{default_limits}
 use Rattle.ftp_tree.specs.declared.limits.Limits.{Limits}
 use Rattle.ftp_disk_scan.specs.declared.loading.fault.Odd.{Odd}

@@ -13,7 +13,7 @@ use tool_get_put::{Each, Lines, Task};
 use tool_job::{Download, Parts, Simple, Target, Targets};
 use tool_listing::is_pattern;
 use tool_session::Openings;
-use tool_words::{Location, UrlPlace};
+use tool_location::{Location, UrlPlace};
 
 pub const GET: Subcommand<'static> = Subcommand {
     name: "get",

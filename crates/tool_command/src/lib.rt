@@ -9,6 +9,7 @@ mod help;
 mod host;
 mod laws;
 mod mirroring;
+mod numbers;
 mod pairing;
 mod password;
 mod place;
@@ -20,7 +21,7 @@ mod words;
 
 pub use command_line::{Program, command, program_of};
 pub use fetching::{PLACE_OPTION, asked_of, each_got, fetch_task_of, get_task_of, is_matched};
-pub use laws::one_most;
+pub use laws::{one_count, one_most, one_port, one_range};
 pub use mirroring::mirror_of;
 pub use pairing::settings_of;
 pub use password::rounds_of;

@@ -12,7 +12,7 @@ use tool_files::Flush;
 use tool_mirror_copy::{Actions, Doing, Mirror};
 use tool_mirror_plan::{Check, Extra, Rules, Way};
 use tool_session::{Openings, ServerAddress};
-use tool_words::{Location, UrlPlace};
+use tool_location::{Location, UrlPlace};
 
 const HELP: &str = "\
 Copies what is missing in TARGET or differs there, with all directories below SOURCE. One of both is HOST:PORT/PATH or a URL, as with get; the other

@@ -3,7 +3,8 @@ use crate::host::is_host;
 use crate::refusal::Refusal;
 use clap::ArgMatches;
 use std::alloc::Global;
-use tool_words::{Location, UrlPlace, User, is_url, place_of, url_place_of};
+use tool_location::{Location, UrlPlace, is_url, place_of, url_place_of};
+use tool_login::User;
 
 /// The URL that a word is; none where it is none.
 pub fn url_in<'a>(

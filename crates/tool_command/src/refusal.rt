@@ -1,5 +1,5 @@
 // Why the words of a command line ask for nothing.
-use tool_words::UrlFault;
+use tool_location::UrlFault;
 
 /// A value that is none of its option.
 #[derive(Clone, Copy)]

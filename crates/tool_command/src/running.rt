@@ -5,7 +5,8 @@ use crate::refusal::Refusal;
 use crate::words::{Form, PASSWORD_FILE, Subcommand, TIMEOUT, Value, Word, text_in, timeout_in};
 use clap::ArgMatches;
 use tool_session::ServerAddress;
-use tool_words::{User, server_port_of};
+use crate::numbers::server_port_of;
+use tool_login::User;
 
 /// The words of `run`.
 pub const RUN: Subcommand<'static> = Subcommand {

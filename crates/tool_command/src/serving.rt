@@ -4,8 +4,8 @@ ghost use Rattle.std.specs.Net.Grammar.{IsIpText};
 ghost use Rattle.std.specs.declared.net.IpAddr.{IpAddr};
 ghost use Rattle.tool_serve.specs.declared.serving.Serving.{Serving};
 ghost use Rattle.tool_polling.specs.declared.timeouts.Limits.{Limits as Waits};
-ghost use Rattle.tool_words.specs.Words.{SaysPorts, SaysSessions};
-ghost use Rattle.tool_words.specs.declared.words.Sessions.{Sessions};
+ghost use Rattle.tool_command.specs.Numbers.{SaysPorts, SaysSessions};
+ghost use Rattle.tool_serve.specs.declared.sessions.Sessions.{Sessions};
 ghost use Rattle.ftp_tree.specs.declared.limits.Limits.{Limits};
 ghost use Rattle.tool_command.specs.Serving.{AreLimits, AreWaits, Asks, SaysAddress, SaysLimit, SaysSeconds, odd_of, unsaid_limits, unsaid_waits};
 
@@ -18,7 +18,7 @@ use clap::ArgMatches;
 use std::net::IpAddr;
 use tool_codec::number_of;
 use tool_serve::{Limits, Log, Odd, Others, Serving, Sessions, Waits};
-use tool_words::{port_of, ports_of, sessions_of};
+use crate::numbers::{port_of, ports_of, sessions_of};
 
 /// How long something is waited for.
 const SECONDS: Value<'static> = Value::Number("SECONDS", 0, MOST);

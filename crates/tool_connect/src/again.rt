@@ -9,7 +9,7 @@ use std::alloc::Global;
 use std::io::Eprint;
 use tool_session::{LastReply, Phase, ServerAddress, SessionFault, SessionTask};
 use tool_sockets::pause;
-use tool_words::User;
+use tool_login::User;
 
 /// How long is waited before each further control connection, in seconds.
 const WAITS: [u16; 4] = [1, 2, 4, 8];

@@ -11,7 +11,7 @@ use std::io::Eprint;
 use std::net::{Net, TcpListener, TcpStream};
 use std::time::Clock;
 use tool_session::{LastReply, Phase, ServerAddress, SessionFault, SessionTask, at};
-use tool_words::{User, login_of};
+use tool_login::{User, login_of};
 
 /// Who can open control connections.
 pub trait Converses {
@@ -46,7 +46,7 @@ pub trait Converses {
 
 /// Who knows the logins of users.
 pub trait Logins {
-    /// The login of a user at a host: `login_of` of `tool_words`.
+    /// The login of a user at a host: `login_of` of `tool_login`.
     fn login(&self, host: &str, user: User<'_>) -> io::Result<Login<Global>>;
 }
 

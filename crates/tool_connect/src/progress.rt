@@ -11,7 +11,7 @@ use std::net::{Net, TcpListener, TcpStream};
 use std::time::{Clock, Duration, Instant};
 use tool_session::{Course, ServerAddress, pause_of, piece_of};
 use tool_sockets::{Link, SocketPorts, Timeouts, pause};
-use tool_status::pace_of;
+use tool_terminal::pace_of;
 
 /// How long a transfer goes on before it is told of, and between two tellings.
 const BETWEEN_SECONDS: u64 = 1;

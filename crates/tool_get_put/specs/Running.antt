@@ -1,7 +1,7 @@
 -- The exit status of `run` (own choice).
 use Rattle.std.specs.Prelude.{Bool, true, false}
-use Rattle.tool_status.specs.declared.status.Status.{Status}
-use Rattle.tool_status.specs.declared.status.Status.TheVariants.{Failed}
+use Rattle.tool_terminal.specs.declared.status.Status.{Status}
+use Rattle.tool_terminal.specs.declared.status.Status.TheVariants.{Failed}
 
 -- the worst of the reports, of which `lost` is one like another where the server ended the control connection; where a read or a write of it failed, or the
 -- server was waited for no longer, that of a failure

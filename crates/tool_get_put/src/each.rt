@@ -13,7 +13,7 @@ use tool_job::{
     done_all,
 };
 use tool_session::{LastReply, Phase, SessionFault, at};
-use tool_status::Status;
+use tool_terminal::Status;
 
 /// A file of a server, and one of this end.
 pub struct Pair {

@@ -15,7 +15,7 @@ use tool_files::LocalFiles;
 use tool_job::{Download, Getting, Simple, Target, Wish, ask_for, do_simple, get, make_all, put};
 use tool_resume::tell;
 use tool_session::{LastReply, Phase, SessionFault, at, say};
-use tool_status::Status;
+use tool_terminal::Status;
 
 /// What is to be done at a place.
 #[derive(Clone, Copy)]

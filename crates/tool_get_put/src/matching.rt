@@ -14,9 +14,8 @@ use tool_job::{Fetched, Getting, JobQueue, Often, Single, Waiting, Wish, source_
 use tool_listing::{Item, chosen_items, chosen_names, items_of_columns, items_of_facts};
 use tool_resume::tell;
 use tool_session::{ClientSession, Ending, LastReply, Phase, SessionFault, SessionTask, at, told};
-use tool_status::Status;
-use tool_terminal::Shown;
-use tool_words::{joined, last_part};
+use tool_terminal::{Shown, Status};
+use tool_location::{joined, last_part};
 
 /// How often it goes on that got further over the control connections before.
 const ROUNDS: u32 = 1_000_000;

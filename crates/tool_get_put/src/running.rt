@@ -17,8 +17,8 @@ use tool_session::{
     ClientSession, LastReply, Phase, Request, ServerAddress, SessionFault, SessionTask, Subject,
     at, told,
 };
-use tool_status::Status;
-use tool_words::User;
+use tool_terminal::Status;
+use tool_login::User;
 
 /// The orders of a script.
 type Orders = Vec<Order<Text<Global>>, Global>;

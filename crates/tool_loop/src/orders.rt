@@ -11,7 +11,7 @@ use std::alloc::Global;
 use std::io;
 use std::io::{Error, ErrorKind, Write};
 use tool_script::{Order, moment_of, write_report};
-use tool_status::Status;
+use tool_terminal::Status;
 
 /// Does orders, each once all that the one before moved has settled, and writes their reports; gives the worst of their statuses.
 pub(crate) fn obey<J, N, S, W>(

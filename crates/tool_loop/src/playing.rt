@@ -22,7 +22,7 @@ use std::io::{Eprint, Error, ErrorKind};
 use std::net::{Net, TcpListener, TcpStream};
 use tool_accounts::two_accounts;
 use tool_script::{Order, Script, read_script};
-use tool_status::Status;
+use tool_terminal::Status;
 
 /// Plays the script that standard input has, and writes the report of each order to standard output; gives the exit status.
 ///

@@ -13,7 +13,7 @@ use tool_connect::{Converses, Logins, ask};
 use tool_files::LocalFiles;
 use tool_mirror_copy::Mirror;
 use tool_session::{LastReply, SessionFault, Subject, say, told};
-use tool_status::Status;
+use tool_terminal::Status;
 
 /// How often a mirror goes on that got further over the control connections before.
 const ROUNDS: u32 = 1_000_000;

@@ -10,7 +10,7 @@ use tool_mirror_copy::{Doing, Trouble, done_by, stands_there, word_of};
 use tool_mirror_plan::{Action, Way};
 use tool_mirror_queue::QueuedAction;
 use tool_session::ClientSession;
-use tool_words::last_part;
+use tool_location::last_part;
 
 /// What stands behind the name of something in that of what comes in its place, until it is whole.
 const COMING: &str = ".ftp-new";

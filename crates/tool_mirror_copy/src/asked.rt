@@ -5,7 +5,8 @@ use std::alloc::{AllocError, Global};
 use tool_files::Flush;
 use tool_mirror_plan::Rules;
 use tool_session::{Openings, ServerAddress};
-use tool_words::{User, joined};
+use tool_location::joined;
+use tool_login::User;
 
 /// What is done of what is planned.
 #[derive(Clone, Copy)]

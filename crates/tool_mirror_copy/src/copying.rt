@@ -9,9 +9,8 @@ use std::alloc::{AllocError, Global};
 use std::io::Eprint;
 use tool_files::{LocalFiles, Places, Reading};
 use tool_listing::Facts;
-use tool_resume::{Came, Downloading, Stamp};
+use tool_resume::{Arrival, Came, Downloading, Stamp};
 use tool_session::{ClientSession, Request};
-use tool_status::Arrival;
 
 /// Moves the part of a file that came over its name here, last changed at the moment that the server told last of it. Gives how many octets it has.
 pub fn leave<R: Places + LocalFiles + Eprint>(

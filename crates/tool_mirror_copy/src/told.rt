@@ -11,7 +11,7 @@ use std::alloc::{AllocError, Global};
 use tool_listing::{Facts, Item, Kind, Listing, is_name, items_of_columns, items_of_facts};
 use tool_mirror_plan::Way;
 use tool_session::{ClientSession, MOST_ENTRIES, Request};
-use tool_words::joined;
+use tool_location::joined;
 
 /// What stands in a directory, which is called `below` in the tree, by this text. Of a file that LIST tells its size and its moment are asked for, where LIST
 /// does not tell them well enough.

@@ -5,7 +5,7 @@ use std::mem;
 use tool_listing::{Item, Kind, Listing, is_name};
 use tool_mirror_copy::{Trouble, shown_below};
 use tool_mirror_plan::{Action, Extra, Rules, Step, may_remove, plan};
-use tool_words::joined;
+use tool_location::joined;
 
 /// How many things are done at most.
 const MOST_STEPS: u64 = 1_000_000;

@@ -13,7 +13,7 @@ use Rattle.tool_script.specs.Reading.{ReadsScript}
 use Rattle.tool_script.specs.Status.{status_without, worst_of}
 use Rattle.tool_script.specs.declared.reading.NoScript.{NoScript}
 use Rattle.tool_script.specs.declared.reading.NoScript.TheVariants as Nones
-use Rattle.tool_status.specs.declared.status.Status.{Status}
+use Rattle.tool_terminal.specs.declared.status.Status.{Status}
 use Rattle.tool_pair.specs.Leading.{LeadsTaking, LeadsTo, Led, Rests, first_second, orders_at}
 use Rattle.tool_pair.specs.Making.{own_beginning}
 use Rattle.tool_pair.specs.Played.{Plays, PlaysIn, Tells}

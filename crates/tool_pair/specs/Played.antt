@@ -11,8 +11,8 @@ use Rattle.tool_script.specs.Script.{script_value}
 use Rattle.tool_script.specs.declared.order.Order.{Order}
 use Rattle.tool_script.specs.Reading.{GivesAll}
 use Rattle.tool_script.specs.Status.{worst_of}
-use Rattle.tool_status.specs.declared.status.Status.{Status}
-use Rattle.tool_status.specs.declared.status.Status.TheVariants.{BadWords, Failed}
+use Rattle.tool_terminal.specs.declared.status.Status.{Status}
+use Rattle.tool_terminal.specs.declared.status.Status.TheVariants.{BadWords, Failed}
 use Rattle.tool_pair.specs.Leading.{Led, LeadsTo, first_second, orders_at}
 use Rattle.tool_pair.specs.Making.{own_beginning}
 use Rattle.tool_pair.specs.Transcript.{Delivery, transcript}

@@ -1,7 +1,7 @@
 // A script between a reader and a writer.
 ghost use Rattle.std.specs.Prelude.{◌≡◌, true, IfOk, OnOk};
 ghost use Rattle.tool_pair.specs.Begun.{begun};
-ghost use Rattle.tool_status.specs.declared.status.Status.TheVariants.{Failed};
+ghost use Rattle.tool_terminal.specs.declared.status.Status.TheVariants.{Failed};
 ghost use Rattle.tool_pair.specs.Leading.{Rests, first_second, orders_at};
 ghost use Rattle.tool_pair.specs.Making.{own_beginning};
 ghost use Rattle.tool_script.specs.Status.{status_without};
@@ -26,7 +26,7 @@ use std::alloc::Allocator;
 use std::io;
 use std::io::{Error, ErrorKind, Read, Write};
 use tool_script::{NoScript, Order, Script, read_script, write_reports};
-use tool_status::Status;
+use tool_terminal::Status;
 
 /// How a script is played.
 #[derive(Clone, Copy)]

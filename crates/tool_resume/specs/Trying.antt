@@ -3,10 +3,10 @@ use Rattle.std.specs.Prelude.{ℕ, ◌==◌, ◌&&◌, Bool, Option, Some, None,
 use Rattle.ftp_operation.specs.declared.answer.Answer.{Answer}
 use Rattle.ftp_operation.specs.declared.answer.Answer.TheVariants as Answers
 use Rattle.ftp_reply.specs.declared.code.TheConstants.{GIVEN_UP, UNAVAILABLE}
-use Rattle.tool_status.specs.declared.step.There.{There}
-use Rattle.tool_status.specs.declared.step.There.TheVariants as Theres
-use Rattle.tool_status.specs.declared.step.Ended.{Ended}
-use Rattle.tool_status.specs.declared.step.Ended.TheVariants as Ends
+use Rattle.tool_resume.specs.declared.step.There.{There}
+use Rattle.tool_resume.specs.declared.step.There.TheVariants as Theres
+use Rattle.tool_resume.specs.declared.step.Ended.{Ended}
+use Rattle.tool_resume.specs.declared.step.Ended.TheVariants as Ends
 
 -- how a try ended that was answered so, with a data connection or without, which ended, or did not although the server says that all is done: 451 says
 -- that the server gave up what it did (RFC 959, section 4.2.2); none where the answer is told, whatever is there

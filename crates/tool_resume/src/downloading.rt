@@ -17,10 +17,9 @@ use tool_files::{LocalFiles, OpenPart};
 use tool_session::{
     ClientSession, Ending, Openings, Poured, Request, SessionFault, SessionTask, Terms, Ticket, say,
 };
-use tool_status::{
-    Arrival, Ended, LastChange, Size, Step, Version, arrived, follows_download, is_too_large,
-    last_change, resumes,
-};
+use crate::step::{Ended, Step};
+use crate::tries::follows_download;
+use crate::version::{Arrival, LastChange, Size, Version, arrived, is_too_large, last_change, resumes};
 
 /// What is known of the moment of the file's last change.
 #[derive(Clone, Copy)]

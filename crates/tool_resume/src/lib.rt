@@ -9,9 +9,12 @@ mod held;
 mod noting;
 mod sending;
 mod source;
+mod step;
 mod telling;
+mod tries;
 mod trying;
 mod uploading;
+mod version;
 
 pub use came::Came;
 pub use downloading::{Downloading, Stamp};
@@ -19,6 +22,11 @@ pub use foreseeing::download_row;
 pub use held::limit_held;
 pub use sending::Sending;
 pub use source::Source;
+pub use step::{Ended, Front, Step, There, Transfer, behind_front, follows, front_from};
 pub use telling::{Part, tell, tell_too_large};
+pub use tries::follows_download;
 pub use trying::is_counted;
 pub use uploading::{Uploading, Wrong};
+pub use version::{
+    Arrival, LastChange, Size, Version, arrived, is_too_large, last_change, resumes, stays,
+};

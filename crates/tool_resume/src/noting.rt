@@ -2,7 +2,7 @@
 use std::alloc::{AllocError, Global};
 use std::io;
 use tool_files::{GROWING, LocalFiles, Note, OpenPart, note_of};
-use tool_status::{LastChange, Size, Version};
+use crate::version::{LastChange, Size, Version};
 
 /// Of which file the part of a download is, for the note beside it.
 pub(crate) struct Noting {

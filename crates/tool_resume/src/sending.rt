@@ -8,7 +8,7 @@ use std::io;
 use std::time::SystemTime;
 use tool_files::{LocalFiles, OpenSource};
 use tool_session::{ClientSession, Openings, Request, Ticket};
-use tool_status::Span;
+use tool_terminal::Span;
 
 /// What stands for the octets of a file in an operation of which others go.
 const STAND_IN: &[u8] = b"-";

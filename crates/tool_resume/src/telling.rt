@@ -5,8 +5,7 @@ use std::fmt::{Display, Formatter};
 use std::io::Eprint;
 use std::{fmt, io};
 use tool_session::{LastReply, Refusal, Stranger, told};
-use tool_status::Status;
-use tool_terminal::Shown;
+use tool_terminal::{Shown, Status};
 
 /// Tells on standard error why an operation at a path was not done, and gives the exit status; `stranger` is how another host may have come to be at the
 /// other end of its data connection.

@@ -1,7 +1,7 @@
 // What uploads and downloads that go on have in common.
 ghost use Rattle.std.specs.Prelude.{◌≡◌};
 ghost use Rattle.ftp_operation.specs.declared.answer.Answer.{Answer};
-ghost use Rattle.tool_status.specs.declared.step.Front.{Front};
+ghost use Rattle.tool_resume.specs.declared.step.Front.{Front};
 ghost use Rattle.tool_resume.specs.Trying.{ended_by, there_by};
 
 use ftp_facts::Text;
@@ -10,7 +10,7 @@ use ftp_reply::code::{GIVEN_UP, UNAVAILABLE};
 use ftp_settings::{Kind, Structure};
 use std::alloc::{AllocError, Global};
 use tool_session::Request;
-use tool_status::{Ended, Front, There};
+use crate::step::{Ended, Front, There};
 
 /// Whether SIZE counts the octets of the transfer: in type I and file structure.
 pub fn is_counted(how: How) -> bool {

@@ -15,9 +15,8 @@ use tool_session::{
     ClientSession, Ending, LastReply, Openings, Phase, Request, SessionFault, SessionTask, Terms,
     Ticket, at, say, told,
 };
-use tool_status::{
-    Ended, Front, Span, Status, Step, There, Transfer, behind_front, follows, front_from,
-};
+use crate::step::{Ended, Front, Step, There, Transfer, behind_front, follows, front_from};
+use tool_terminal::{Span, Status};
 
 /// What stands for the octets of a file in an operation of which others go: some, so that their end is awaited.
 const STAND_IN: &[u8] = b"-";

@@ -5,8 +5,8 @@ use Rattle.std.specs.Io.KnownBytes.{Appends}
 use Rattle.std.proofs.KnownBytes.{Appends-trans}
 use Rattle.ftp_operation.specs.declared.answer.Answer.{Answer}
 use Rattle.tool_script.specs.Report.{report}
-use Rattle.tool_status.specs.declared.status.Status.{Status}
-use Rattle.tool_status.specs.Status.{worse}
+use Rattle.tool_terminal.specs.declared.status.Status.{Status}
+use Rattle.tool_terminal.specs.Status.{worse}
 use Rattle.tool_script.specs.Status.{status_of, worst_after}
 
 -- the worst status of answers and one more

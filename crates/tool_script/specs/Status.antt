@@ -4,9 +4,9 @@ use Rattle.ftp_operation.specs.declared.answer.Answer.{Answer}
 use Rattle.ftp_operation.specs.declared.answer.Answer.TheVariants as Answers
 use Rattle.tool_script.specs.declared.reading.NoScript.{NoScript}
 use Rattle.tool_script.specs.declared.reading.NoScript.TheVariants as Nones
-use Rattle.tool_status.specs.declared.status.Status.{Status}
-use Rattle.tool_status.specs.declared.status.Status.TheVariants as Statuses
-use Rattle.tool_status.specs.Status.{worse}
+use Rattle.tool_terminal.specs.declared.status.Status.{Status}
+use Rattle.tool_terminal.specs.declared.status.Status.TheVariants as Statuses
+use Rattle.tool_terminal.specs.Status.{worse}
 
 -- the status of an answer
 abbrev pub status_of : {A : Type 0} → Answer A → Status

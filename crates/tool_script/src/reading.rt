@@ -9,7 +9,7 @@ use std::alloc::Allocator;
 use std::fmt::{Display, Formatter};
 use std::io::{Error, ErrorKind, Read};
 use std::{fmt, io};
-use tool_status::Status;
+use tool_terminal::Status;
 
 /// How many octets one read is asked for.
 const ROOM: usize = 65_536;

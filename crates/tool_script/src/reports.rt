@@ -9,7 +9,7 @@ use ftp_operation::Answer;
 use std::alloc::Allocator;
 use std::io;
 use std::io::Write;
-use tool_status::Status;
+use tool_terminal::Status;
 
 /// Writes the reports of answers, in order; gives the worst of their statuses.
 pub fn write_reports<A: Allocator + Copy, B: Allocator + Copy, W: Write>(

@@ -26,7 +26,7 @@ use std::time::Clock;
 use tool_polling::{Limits, Line, LinePorts, LineReader, LineWriter};
 use tool_scheduler::{Full, Slot, Slots};
 use tool_sockets::{Sockets, host_of};
-use tool_words::Sessions;
+use crate::sessions::Sessions;
 
 /// What all sessions have in common. `M` begins their servers.
 #[derive(Drop)]

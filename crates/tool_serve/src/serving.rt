@@ -29,9 +29,8 @@ use tool_login_limit::LoginLimiter;
 use tool_polling::{Limits as Waits, PassivePorts};
 use tool_scheduler::{House, Input, is_input_open, serve_rounds};
 use tool_sockets::Sockets;
-use tool_status::Status;
-use tool_terminal::Shown;
-use tool_words::Sessions;
+use tool_terminal::{Shown, Status};
+use crate::sessions::Sessions;
 
 /// What is to be served.
 #[derive(Clone, Copy)]

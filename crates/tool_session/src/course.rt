@@ -8,7 +8,7 @@ use ftp_operation::Answer;
 use ftp_ports::Ready;
 use std::alloc::Global;
 use std::cell::Cell;
-use tool_status::Span;
+use tool_terminal::Span;
 
 /// The first octet of a reply that all is done (RFC 959, section 4.2.1).
 const COMPLETION: u8 = b'2';

@@ -5,7 +5,7 @@ use crate::saying::told;
 use crate::subject::{Stop, Subject};
 use std::io;
 use std::io::{Eprint, Error, ErrorKind};
-use tool_status::Status;
+use tool_terminal::Status;
 
 /// What was under way.
 #[derive(Clone, Copy)]

@@ -6,7 +6,7 @@ use ftp_client_model::Near;
 use ftp_facts::Text;
 use ftp_operation::{How, Op};
 use std::alloc::Global;
-use tool_status::Span;
+use tool_terminal::Span;
 
 /// The most entries of a listing that are taken (own choice).
 pub const MOST_ENTRIES: usize = 1_000_000;

@@ -2,7 +2,7 @@
 use std::fmt::Display;
 use std::io;
 use std::io::Eprint;
-use tool_status::Status;
+use tool_terminal::Status;
 
 /// Tells on standard error, in a line: a text, what it is about, and the text behind that.
 pub fn say<R, D>(rt: &R, before: &str, what: &D, behind: &str) -> io::Result<()>

@@ -1,2 +1,4 @@
+pub mod Status
 pub mod escaped
+pub mod progress
 pub mod verbosity

@@ -12,8 +12,8 @@ use Rattle.tool_accounts.specs.field.Field.{field}
 use Rattle.tool_accounts.specs.field.Making.{Adds, Ends, Makes, Reads}
 use Rattle.tool_accounts.specs.field.Typed.{line_in, password_in}
 use Rattle.tool_accounts.specs.declared.field.fault.PasswordFault.{PasswordFault}
-use Rattle.tool_status.specs.declared.status.Status.{Status}
-use Rattle.tool_status.specs.declared.status.Status.TheVariants.{Done, BadWords, Failed}
+use Rattle.tool_terminal.specs.declared.status.Status.{Status}
+use Rattle.tool_terminal.specs.declared.status.Status.TheVariants.{Done, BadWords, Failed}
 
 -- one read more
 pub reads_more : (a b c : Option (List ℕ)) (old new : List ℕ) (count : ℕ) → Consumes a b old → Adds b c old new count → Consumes a c new

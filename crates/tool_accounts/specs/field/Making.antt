@@ -6,8 +6,8 @@ use Rattle.tool_accounts.specs.field.Field.{field}
 use Rattle.tool_accounts.specs.field.Opened.{OpensBy}
 use Rattle.tool_accounts.specs.field.Typed.{password_in}
 use Rattle.tool_accounts.specs.declared.field.fault.PasswordFault.{PasswordFault}
-use Rattle.tool_status.specs.declared.status.Status.{Status}
-use Rattle.tool_status.specs.declared.status.Status.TheVariants.{Done, Refused, BadWords, Failed}
+use Rattle.tool_terminal.specs.declared.status.Status.{Status}
+use Rattle.tool_terminal.specs.declared.status.Status.TheVariants.{Done, Refused, BadWords, Failed}
 
 -- the most octets that are read: those of a password, CR LF, and one by which it is too long
 abbrev pub most_read : ℕ

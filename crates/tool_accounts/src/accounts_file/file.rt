@@ -8,7 +8,7 @@ use crate::accounts_file::reading::read_accounts;
 use ftp_operation::Accounts;
 use std::alloc::Global;
 use std::fs::Files;
-use tool_words::{NotPrivate, read_private};
+use tool_login::{NotPrivate, read_private};
 
 /// The most octets of a file of accounts (own choice).
 const FILE_LIMIT: u64 = 1_048_576;

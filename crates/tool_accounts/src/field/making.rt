@@ -1,14 +1,14 @@
 // A password is read, and its field is written.
 ghost use Rattle.std.specs.Prelude.{◌≡◌};
 ghost use Rattle.tool_accounts.specs.field.Making.{Ends};
-ghost use Rattle.tool_status.specs.declared.status.Status.TheVariants.{BadWords};
+ghost use Rattle.tool_terminal.specs.declared.status.Status.TheVariants.{BadWords};
 
 use crate::field::fault::PasswordFault;
 use crate::field::field::field_of;
 use crate::field::reading::read_all;
 use ftp_ports::put;
 use std::io::{Read, Write};
-use tool_status::Status;
+use tool_terminal::Status;
 
 /// Writes the field of the password that a reader gives, and LF, and gives the exit status.
 ///

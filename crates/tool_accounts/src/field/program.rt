@@ -4,7 +4,7 @@ use crate::field::salt::salt_of;
 use std::io;
 use std::io::Write;
 use std::random::RandomSource;
-use tool_status::Status;
+use tool_terminal::Status;
 
 /// Why nothing is read at a terminal, and what does.
 const SHOWN: &str =

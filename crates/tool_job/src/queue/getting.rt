@@ -11,7 +11,7 @@ use std::io::{Eprint, Error, Print};
 use tool_files::LocalFiles;
 use tool_resume::{Downloading, limit_held};
 use tool_session::{ClientSession, LastReply, SessionFault};
-use tool_status::Status;
+use tool_terminal::Status;
 
 /// How files are fetched.
 #[derive(Clone, Copy)]

@@ -6,8 +6,7 @@ use std::io;
 use std::io::{Eprint, Error};
 use tool_connect::{Converses, Logins, ask, converse_as};
 use tool_session::{ClientSession, LastReply, Phase, SessionFault, SessionTask, at};
-use tool_status::Status;
-use tool_terminal::Shown;
+use tool_terminal::{Shown, Status};
 
 /// How often it goes on that got further over the control connections before.
 const ROUNDS: u32 = 1_000_000;

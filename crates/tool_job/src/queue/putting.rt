@@ -8,7 +8,7 @@ use std::io::Eprint;
 use tool_files::LocalFiles;
 use tool_resume::{Sending, Uploading, tell_too_large};
 use tool_session::{ClientSession, LastReply, Phase, SessionFault, SessionTask, Ticket, at};
-use tool_status::Status;
+use tool_terminal::Status;
 
 /// How files are sent.
 #[derive(Clone, Copy)]

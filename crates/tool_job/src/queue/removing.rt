@@ -7,7 +7,7 @@ use std::alloc::{AllocError, Global};
 use std::io;
 use std::io::{Eprint, Print};
 use tool_session::{ClientSession, LastReply, Request, SessionFault};
-use tool_status::Status;
+use tool_terminal::Status;
 
 /// A file that is one of several which are removed: it is asked once.
 pub struct Removed<'a, R> {

@@ -10,9 +10,11 @@ use std::io;
 use std::io::{Eprint, Error, Print, Write};
 use tool_connect::{Converses, Logins};
 use tool_files::{Beside, Flush, Kept, LocalFiles, OpenPart};
-use tool_resume::{Came, Downloading, Part, Stamp, is_counted, limit_held, tell, tell_too_large};
+use tool_resume::{
+    Arrival, Came, Downloading, Part, Stamp, is_counted, limit_held, tell, tell_too_large,
+};
 use tool_session::{LastReply, Phase, SessionFault, at, say, told};
-use tool_status::{Arrival, Status};
+use tool_terminal::Status;
 
 /// The file that stands for standard output.
 pub const OUTPUT: &str = "-";

@@ -10,7 +10,7 @@ use std::alloc::Global;
 use std::io::{Eprint, Print};
 use tool_connect::{Converses, Logins, converse_as};
 use tool_session::{ClientSession, LastReply, Phase, Request, SessionFault, SessionTask, at};
-use tool_status::Status;
+use tool_terminal::Status;
 
 /// Makes the directory at a path and those above it, over one control connection, and gives the exit status. One that stands is as well; whether the
 /// last does is asked first, and why it can't be made is told.

@@ -12,7 +12,7 @@ use std::io::{Eprint, Print};
 use tool_connect::{Converses, Logins};
 use tool_resume::tell;
 use tool_session::{LastReply, Phase, SessionFault, at};
-use tool_status::Status;
+use tool_terminal::Status;
 
 /// What is done at a path without a data connection.
 #[derive(Clone, Copy)]

@@ -12,7 +12,7 @@ use tool_listing::lists_nothing;
 use tool_session::{
     ClientSession, Ending, LastReply, Openings, Phase, Request, SessionFault, SessionTask, at,
 };
-use tool_words::{last_part, says_directory};
+use tool_location::{last_part, says_directory};
 
 /// What is wished for at a place.
 #[derive(Clone, Copy)]

@@ -1,7 +1,8 @@
 // Which file of which server is meant, and who asks.
 use ftp_operation::How;
 use tool_session::{Openings, ServerAddress, Stranger, Subject};
-use tool_words::{Location, User};
+use tool_location::Location;
+use tool_login::User;
 
 /// What is asked of which server, by whom.
 #[derive(Clone, Copy)]

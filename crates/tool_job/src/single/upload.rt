@@ -9,7 +9,7 @@ use tool_connect::{Converses, Logins};
 use tool_files::{LocalFiles, Reading, read_most};
 use tool_resume::{Source, Uploading, limit_held, tell_too_large};
 use tool_session::{LastReply, Phase, SessionFault, at};
-use tool_status::Status;
+use tool_terminal::Status;
 
 /// The file that stands for standard input.
 const INPUT: &str = "-";

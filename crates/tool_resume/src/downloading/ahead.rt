@@ -10,7 +10,7 @@ use std::cell::Cell;
 use std::io::Eprint;
 use tool_files::LocalFiles;
 use tool_session::{ClientSession, Request, Ticket};
-use tool_status::Size;
+use crate::version::Size;
 
 impl<'a, R: LocalFiles + Eprint> Downloading<'a, R> {
     /// Asks ahead of its turn what its first try asks, where a control connection is free for that: which file the server has, all of it, and again which file

@@ -1,6 +1,6 @@
 use Rattle.std.proofs.Common.{◌∙◌, ap}
-use Rattle.tool_status.specs.Status.{worse}
-use Rattle.tool_status.specs.declared.status.Status.TheVariants.{Done}
+use Rattle.tool_terminal.specs.Status.{worse}
+use Rattle.tool_terminal.specs.declared.status.Status.TheVariants.{Done}
 use Rattle.tool_script.proofs.Reporting.{one_more, worst_one_more}
 use Rattle.tool_script.proofs.reports.write_reports.Goals as goal
 

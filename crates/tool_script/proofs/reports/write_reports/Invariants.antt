@@ -1,7 +1,7 @@
 use Rattle.std.proofs.Common.{◌≡◌, take, flat_map}
 use Rattle.std.specs.Io.KnownBytes.{Appends}
 use Rattle.tool_script.specs.Report.{report}
-use Rattle.tool_status.specs.declared.status.Status.TheVariants.{Done}
+use Rattle.tool_terminal.specs.declared.status.Status.TheVariants.{Done}
 use Rattle.tool_script.specs.Status.{worst_after}
 use Rattle.tool_script.proofs.reports.write_reports.Given as goal
 

@@ -4,7 +4,7 @@ use Rattle.ftp_ports.specs.Beginning.{AppendsFront}
 use Rattle.tool_accounts.proofs.field.Ending.{ends_done, ends_failed, ends_refused}
 use Rattle.tool_accounts.proofs.field.Opening.{field_is}
 use Rattle.tool_accounts.specs.field.Making.{Reads}
-use Rattle.tool_status.specs.declared.status.Status.TheVariants.{Failed}
+use Rattle.tool_terminal.specs.declared.status.Status.TheVariants.{Failed}
 use Rattle.tool_accounts.proofs.field.making.make.Goals as goal
 
 -- there is no such password

@@ -1,0 +1,33 @@
+-- What the values of options of `serve` and `run` say (own choice).
+use Rattle.std.specs.Prelude.{◌≡◌, ◌==◌, ◌<◌, ◌≤◌, ◌^◌, ℕ, Bool, List, codes, length}
+use Rattle.std.specs.List.{after_first, before_first, position_or_len}
+use Rattle.std.specs.Str.Parse.{IsNumeral, digits_value}
+use Rattle.tool_serve.specs.declared.sessions.Sessions.{Sessions}
+use Rattle.tool_serve.specs.declared.sessions.Sessions.TheVariants.{Count, Forever}
+
+-- a decimal number below this one: digits alone, leading zeros too
+abbrev pub SaysBelow : ℕ → List ℕ → ℕ → Type 0
+SaysBelow limit word n = IsNumeral 10 word × (n ≡ digits_value 10 word) × (n < limit)
+
+-- a port, where 0 stands for one that the system chooses
+abbrev pub SaysPort : List ℕ → ℕ → Type 0
+SaysPort word port = SaysBelow (2 ^ 16) word port
+
+-- the port of a server, from 1 on
+abbrev pub SaysServerPort : List ℕ → ℕ → Type 0
+SaysServerPort word port = SaysPort word port × (1 ≤ port)
+
+abbrev pub is_hyphen : ℕ → Bool
+is_hyphen octet = octet == 45
+
+-- A-B: a first port before the first hyphen, and behind it a last one, which is not before the first
+abbrev pub SaysPorts : List ℕ → ℕ → ℕ → Type 0
+SaysPorts word first last =
+    (position_or_len is_hyphen word < length word)
+    × SaysServerPort (before_first is_hyphen word) first × SaysServerPort (after_first is_hyphen word) last
+    × (first ≤ last)
+
+-- a number below 2 ^ 32, or `forever`
+abbrev pub SaysSessions : List ℕ → Sessions → Type 0
+SaysSessions word (Count n) = SaysBelow (2 ^ 32) word n
+SaysSessions word Forever = word ≡ codes "forever"

@@ -1,0 +1,52 @@
+// Ports, and how many sessions, as words of a command line say them.
+ghost use Rattle.std.specs.Prelude.{◌≡◌, ℕ, List, IfSome, IfNone};
+ghost use Rattle.tool_command.specs.Numbers.{SaysPort, SaysPorts, SaysServerPort, SaysSessions};
+ghost use Rattle.tool_serve.specs.declared.sessions.Sessions.{Sessions};
+
+use tool_codec::number_of;
+use tool_serve::Sessions;
+
+/// A port, or 0 for one that the system chooses.
+pub(crate) fn port_of(word: &str) -> Option<u16>
+    ensures some { IfSome result (λ port. SaysPort word.now port) }
+    ensures none { IfNone result ((port : ℕ) → ¬ SaysPort word.now port) }
+{
+    let number = number_of(word)?;
+    u16::try_from(number).ok()
+}
+
+/// The port that a server listens at, from 1 on.
+pub(crate) fn server_port_of(word: &str) -> Option<u16>
+    ensures some { IfSome result (λ port. SaysServerPort word.now port) }
+    ensures none { IfNone result ((port : ℕ) → ¬ SaysServerPort word.now port) }
+{
+    match port_of(word)? {
+        0 => None,
+        port => Some(port),
+    }
+}
+
+/// The first port and the last, from 1 on; none where the last is before the first.
+pub(crate) fn ports_of(word: &str) -> Option<(u16, u16)>
+    ensures some { IfSome result (λ ports. SaysPorts word.now ports.0 ports.1) }
+    ensures none { IfNone result ((first last : ℕ) → ¬ SaysPorts word.now first last) }
+{
+    let (first, last) = word.split_once('-')?;
+    let first = server_port_of(first)?;
+    let last = server_port_of(last)?;
+    if last < first {
+        return None;
+    }
+    Some((first, last))
+}
+
+/// How many control connections a word says.
+pub(crate) fn sessions_of(word: &str) -> Option<Sessions>
+    ensures some { IfSome result (λ sessions. SaysSessions word.now sessions) }
+    ensures none { IfNone result ((sessions : Sessions) → ¬ SaysSessions word.now sessions) }
+{
+    if word == "forever" {
+        return Some(Sessions::Forever);
+    }
+    Some(Sessions::Count(number_of(word)?))
+}

@@ -1,0 +1,4 @@
+pub mod Location
+pub mod Placing
+pub mod Rows
+pub mod UrlPlace

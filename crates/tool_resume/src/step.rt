@@ -1,0 +1,203 @@
+// What follows a try of an upload, by values alone.
+ghost use Rattle.std.specs.Prelude.{◌≡◌};
+ghost use Rattle.tool_resume.specs.Steps.{behind_broken, behind_done, behind_failed, behind_front, behind_unended, follows, front_from, is_own};
+
+/// What is there of a file: what a server tells by SIZE (RFC 3659, section 4), or what came to this end.
+#[derive(Clone, Copy)]
+pub enum There {
+    /// So many octets.
+    Octets(u64),
+    /// There is no such file.
+    Nothing,
+    /// The server does not tell it.
+    Untold,
+    /// Nothing more is answered over this control connection.
+    Lost,
+}
+
+/// How a try of a transfer ended.
+#[derive(Clone, Copy)]
+pub enum Ended {
+    /// The server says that all is done.
+    Done,
+    /// Its data connection broke.
+    Broken,
+    /// It was refused by 451 although its data connection was opened.
+    Failed,
+    /// No data connection was opened.
+    Unopened,
+    /// The server says that all is done, and its data connection did not end.
+    Unended,
+}
+
+/// How far a transfer is.
+#[derive(Clone, Copy)]
+pub struct Transfer {
+    /// How many octets the file has.
+    pub total: u64,
+    /// How many tries may still begin.
+    pub left: u64,
+    /// What stood where the file goes to before the first try, and may stand there still: `Nothing` once it is known not to.
+    pub older: There,
+}
+
+/// What follows a try.
+#[derive(Clone, Copy)]
+pub enum Step {
+    /// A try from this octet of the file on.
+    From(u64),
+    /// The same try once more.
+    Again,
+    /// All is done.
+    Done,
+    /// The answer of the try is told.
+    Tell,
+    /// It is told that so many octets are there.
+    Wrong(u64),
+    /// It is told that the server says that all is done, and then that there is no such file.
+    Missing,
+    /// All is asked anew over another control connection.
+    Lost,
+}
+
+/// How many octets of a front are read back, and those before them not (own choice).
+const READ_BACK: u64 = 65_536;
+
+/// What the last octets are of the front that a server has of an upload, which are read back before the upload goes on behind it.
+#[derive(Clone, Copy)]
+pub enum Front {
+    /// The source's own at that place.
+    Own,
+    /// Others, or the server does not give them.
+    Other,
+    /// The control connection ended before they came.
+    Lost,
+}
+
+/// From which octet on a front of so many octets is read back.
+pub fn front_from(count: u64) -> u64
+    ensures { result ≡ front_from count }
+{
+    count.saturating_sub(READ_BACK)
+}
+
+/// What follows where a try would go on behind so many octets, of which the last are these: it goes on behind the source's own alone, and else begins anew.
+pub fn behind_front(count: u64, front: Front) -> Step
+    ensures { result ≡ behind_front count front }
+{
+    match front {
+        Front::Own => Step::From(count),
+        Front::Other => Step::From(0),
+        Front::Lost => Step::Lost,
+    }
+}
+
+/// What follows a try that ended so, where this is there then.
+///
+/// A 226 is believed only where the size is the file's, or is not told. A try goes on behind the octets that are there only where these are known to
+/// be of this transfer, and else begins anew.
+pub fn follows(transfer: Transfer, ended: Ended, there: There) -> Step
+    ensures { result ≡ follows transfer ended there }
+{
+    match ended {
+        Ended::Done => behind_done(transfer, there),
+        Ended::Broken => behind_broken(transfer, there),
+        Ended::Failed => behind_failed(transfer, there),
+        Ended::Unopened => {
+            if transfer.left == 0 {
+                Step::Tell
+            } else {
+                Step::Again
+            }
+        }
+        Ended::Unended => behind_unended(transfer, there),
+    }
+}
+
+/// Behind a try that the server says is done, whose data connection did not end.
+fn behind_unended(transfer: Transfer, there: There) -> Step
+    ensures { result ≡ behind_unended transfer there }
+{
+    match there {
+        There::Octets(count) if count == transfer.total => Step::Done,
+        _ => Step::Tell,
+    }
+}
+
+/// Behind a try that the server says is done.
+fn behind_done(transfer: Transfer, there: There) -> Step
+    ensures { result ≡ behind_done transfer there }
+{
+    match there {
+        There::Octets(count) => behind_octets(transfer, count),
+        There::Nothing => Step::Missing,
+        There::Untold | There::Lost => Step::Done,
+    }
+}
+
+/// Behind a try that the server says is done, where so many octets are there.
+fn behind_octets(transfer: Transfer, count: u64) -> Step
+    ensures { result ≡ behind_done transfer (There.Octets count) }
+{
+    if count == transfer.total {
+        Step::Done
+    } else if count > transfer.total || transfer.left == 0 {
+        Step::Wrong(count)
+    } else if is_own(transfer.older, count) {
+        Step::From(count)
+    } else {
+        Step::From(0)
+    }
+}
+
+/// Behind a try whose data connection broke.
+fn behind_broken(transfer: Transfer, there: There) -> Step
+    ensures { result ≡ behind_broken transfer there }
+{
+    if transfer.left == 0 {
+        return Step::Tell;
+    }
+    match there {
+        There::Octets(count) => {
+            if count <= transfer.total && is_own(transfer.older, count) {
+                Step::From(count)
+            } else {
+                Step::From(0)
+            }
+        }
+        There::Nothing => Step::From(0),
+        There::Untold => Step::Tell,
+        There::Lost => Step::Lost,
+    }
+}
+
+/// Behind a try that was refused by 451: it was given up in its middle only where the server is seen to have octets of it.
+fn behind_failed(transfer: Transfer, there: There) -> Step
+    ensures { result ≡ behind_failed transfer there }
+{
+    if transfer.left == 0 {
+        return Step::Tell;
+    }
+    match there {
+        There::Octets(count) => {
+            if count <= transfer.total && is_own(transfer.older, count) {
+                Step::From(count)
+            } else {
+                Step::Tell
+            }
+        }
+        There::Nothing | There::Untold => Step::Tell,
+        There::Lost => Step::Lost,
+    }
+}
+
+/// Whether so many octets are known to be of this transfer, and not what stood there before.
+fn is_own(older: There, count: u64) -> bool
+    ensures { result ≡ is_own older count }
+{
+    match older {
+        There::Nothing => true,
+        There::Octets(size) => size != count,
+        There::Untold | There::Lost => false,
+    }
+}

@@ -1,0 +1,8 @@
+// How many sessions are served.
+
+/// How many control connections are served, one after another.
+#[derive(Clone, Copy, Debug, PartialEq, Eq)]
+pub enum Sessions {
+    Count(u32),
+    Forever,
+}

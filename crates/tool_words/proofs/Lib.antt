@@ -1,5 +1,0 @@
-mod CutLemmas
-mod LocationLemmas
-mod WordLemmas
-mod NetrcLemmas
-mod UrlLemmas

@@ -1,5 +1,0 @@
-use Rattle.std.proofs.Common.{refl}
-use Rattle.tool_words.proofs.rows.entries.Goals as goal
-
-pub returns : goal.returns
-returns c = (refl, refl, refl, refl, refl, refl, refl, refl, refl, refl)
