@@ -40,7 +40,10 @@ where
     R: Read + Drop,
     W: Write + Drop,
     P: Ports,
+    // Witness of drives: `edits/a_broken_connection_is_not_told.edit`, `an_operation_under_way_has_no_report`, `another_cause_is_told`,
+    // `its_report_is_never_asked_for`, `no_octet_is_heard`, `no_octet_of_a_download_is_taken`, and those of `ftp_driver`.
     ensures drives { HasNone P.Stream.remaining P.Stream.contents data.old → Drives control.new.failed (beside R.remaining W.contents (held (N.client client.old) (no_channel (P.history ports.old))) control.old) (beside R.remaining W.contents (held (N.client client.new) (no_channel (P.history ports.new))) control.new) result.off (option_map said_of result.report) }
+    // Witness of none: `answer` of `tool_connect`: the next drive begins where none stands.
     ensures none { HasNone P.Stream.remaining P.Stream.contents data.new }
 {
     let ended = drive_end::<Asks<A>, N, R, W, P>(client, control, ports, data);

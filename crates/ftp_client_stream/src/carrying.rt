@@ -19,10 +19,12 @@ use std::io::{Error, ErrorKind, Read, Write};
 pub trait Carries {
     /// One read for a client.
     fn hear<L: Read>(&mut self, link: &mut L, room: &mut [u8]) -> io::Result<usize>
+        // Witness: bounds alone, whatever they carry.
         ensures { ReadsAtMost result room.new };
 
     /// One write for a client.
     fn give<L: Write>(&mut self, link: &mut L, octets: &[u8]) -> io::Result<usize>
+        // Witness: bounds alone, whatever they carry.
         ensures { WritesAtMost result octets.now };
 }
 
@@ -31,9 +33,11 @@ pub trait Carries {
 impl<S: Sink> Carries for SinkTransfer<S> {
     #[tactic(auto, using(crate::proofs::GivingLemmas::pours_none))]
     fn hear<L: Read>(&mut self, link: &mut L, room: &mut [u8]) -> io::Result<usize>
+        // Witness of bound: the clause of their trait.
         ensures bound { ReadsAtMost result room.new }
 
         // What came, and nothing else, went to the sink, which took it.
+        // Witness of poured, end, same, whole: equations of what came; `edits/a_piece_is_left_out`.
         ensures poured { IfErr result (λ error. error_kind error ≡ ErrorKind.Interrupted →
             Pours (L.remaining link.old) (L.remaining link.new) self.old.decoder.decoder self.new.decoder.decoder) }
 
@@ -66,9 +70,11 @@ impl<D: Source, A: Allocator + Copy> Carries for SourceTransfer<D, A> {
 
     #[tactic(auto, using(crate::proofs::GivingLemmas::gives_none, crate::proofs::GivingLemmas::gives_stays, crate::proofs::GivingLemmas::gives_read, crate::proofs::GivingLemmas::gives_sent))]
     fn give<L: Write>(&mut self, link: &mut L, octets: &[u8]) -> io::Result<usize>
+        // Witness of bound: the clause of their trait.
         ensures bound { WritesAtMost result octets.now }
 
         // What went, and nothing else, is what was next of the one text of the file.
+        // Witness of gives, done, same: equations of what went; `edits/an_upload_counts_as_gone_at_once`.
         ensures gives { Gives D.gave D.left (L.contents link.old) (L.contents link.new) self.old self.new }
 
         // What a client gives counts as gone only where the whole file went, and then nothing moves.

@@ -92,8 +92,10 @@ impl<R: Read + Drop> Source for ReaderSource<R> {
         ensures err { OnErr result (self.new.gave.octets ≡ self.old.gave.octets) }
 
         // Where it fails it says why, and what it gives is what the reader gave.
+        // Witness of told, sound: a fault just where it failed; `edits/a_reader_that_failed_is_not_told`.
         ensures told { OnErr result (IsSome self.new.fault) }
         ensures sound { OnOk result (self.new.fault ≡ None) }
+        // Witness of taken: an equation of what the reader has left.
         ensures taken { IfOk result (λ count. Consumes (R.remaining self.old.reader) (R.remaining self.new.reader) (take count room.new)) }
     {
         if self.fault.is_some() {

@@ -28,6 +28,7 @@ impl<S: Sink> SinkTransfer<S> {
 
     /// Takes octets of the data connection, all of them, and says whether the sink took what they say. One that refused some is to be given no more.
     pub fn hear(&mut self, piece: &[u8]) -> bool
+        // Witness: an equation where the sink took all; `edits/a_sink_that_refuses_is_not_told`, `a_piece_is_poured_twice`.
         ensures { IsTrue result → self.new.decoder.decoder ≡ decoded self.old.decoder.decoder piece.now }
     {
         let mut rest = piece;
@@ -59,6 +60,7 @@ impl<S: Sink> SinkTransfer<S> {
 
     /// What whoever waits for the file is given at its end, an octet of an empty file after the other: nothing of one that is not whole. Says how many.
     pub fn rest(&mut self, room: &mut [u8]) -> usize
+        // Witness: a bound, octets after a whole file alone, and that nothing of the download changes.
         ensures within { result ≤ length room.new }
         ensures whole { 0 < result → IsTrue (is_whole self.old.decoder.decoder) }
         ensures decoder { self.new.decoder ≡ self.old.decoder }

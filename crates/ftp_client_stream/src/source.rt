@@ -15,6 +15,7 @@ pub trait Source: Drop {
 
     /// Gives its next octets, and says how many; none to a room that has some is the end of the file. Where it fails it gives none.
     fn draw(&mut self, room: &mut [u8]) -> Result<usize, Unread>
+        // Witness: equations of what was given and of what is still to come; `edits/what_was_read_is_not_told`, `a_source_is_read_past_its_end`.
         ensures within { IfOk result (λ count. count ≤ length room.new) }
         ensures ok { IfOk result (λ count. gave self.new ≡ gave self.old ++ take count room.new) }
         ensures count { IfOk result (λ count. left self.old ≡ count + left self.new) }

@@ -47,6 +47,7 @@ impl<D: Source, A: Allocator + Copy> SourceTransfer<D, A> {
         source: D,
         alloc: A,
     ) -> Result<SourceTransfer<D, A>, AllocError>
+        // Witness: equations; `edits/an_upload_has_no_markers`.
         ensures text { IfOk result (λ source_transfer. (file : List ℕ) → CanBeMarked start file → left_to_go source_transfer file ≡ text_of start settings file) }
         ensures source { IfOk result (λ source_transfer. source_transfer.source ≡ source) }
         ensures going { IfOk result (λ source_transfer. source_transfer.is_last ≡ false) }
@@ -90,6 +91,7 @@ impl<D: Source, A: Allocator + Copy> SourceTransfer<D, A> {
 
     /// Whether all that was made went.
     pub fn is_sent(&self) -> bool
+        // Witness: what is so where it says yes.
         ensures { IsTrue result → self.now.sent ≡ self.now.made }
     {
         self.sent == self.made
@@ -98,6 +100,7 @@ impl<D: Source, A: Allocator + Copy> SourceTransfer<D, A> {
     /// Whether the last octet of the wire went.
     #[tactic(auto, using(crate::proofs::SourceTransferLemmas::over))]
     pub fn is_over(&self) -> bool
+        // Witness: what is so where it says yes; that no upload ends too late is said by none.
         ensures none { IsTrue result → left_to_go self.now [] ≡ [] }
         ensures last { IsTrue result → IsTrue self.now.is_last }
     {
@@ -109,6 +112,7 @@ impl<D: Source, A: Allocator + Copy> SourceTransfer<D, A> {
 
     /// Reads the next octets of the source where none is at hand, and makes their wire; not before all that was made went.
     pub fn fill(&mut self) -> Result<(), Unread>
+        // Witness: equations of what is still to go, whatever comes; `edits/what_was_read_goes_twice`, `an_upload_ends_before_its_source`.
         ensures ok { OnOk result (Reads D.gave D.left self.old self.new) }
         ensures err { OnErr result (Stays D.gave self.old self.new) }
     {
@@ -159,6 +163,7 @@ impl<D: Source, A: Allocator + Copy> SourceTransfer<D, A> {
 
     /// One write of octets that are to go, where there are some.
     pub fn send<L: Write>(&mut self, link: &mut L) -> io::Result<()>
+        // Witness: equations of what went; `edits/what_did_not_go_counts_as_gone`.
         ensures ok { OnOk result (Sends (L.contents link.old) (L.contents link.new) self.old self.new) }
         ensures err { OnErr result (Keeps (L.contents link.old) (L.contents link.new)) }
         ensures same { OnErr result (self.new ≡ self.old) }

@@ -57,8 +57,10 @@ impl<W: Write + Drop> Sink for WriterSink<W> {
 
     /// Writes octets behind those that went. A writer that fails, and one that failed before, refuses them.
     fn push(&mut self, more: &[u8]) -> Result<(), AllocError>
+        // Witness of went, kept, written: equations; `edits/what_a_writer_refuses_counts_as_gone`.
         ensures went { OnOk result (self.new.went.octets ≡ self.old.went.octets ++ more.now) }
         ensures kept { OnErr result (self.new.went.octets ≡ self.old.went.octets) }
+        // Witness of told, sound: a fault just where it refused; `edits/a_writer_that_failed_is_not_told`.
         ensures told { OnErr result (IsSome self.new.fault) }
         ensures sound { OnOk result (self.new.fault ≡ None) }
         ensures written { OnOk result (Appends (W.contents self.old.writer) (W.contents self.new.writer) more.now) }

@@ -10,8 +10,12 @@ use std::alloc::Allocator;
 impl Upload {
     /// How many octets it stores: what its encoder does; beside it it is numbers, since its file is its operation's.
     pub fn stored(&self) -> usize
+        // Witness of sum: equations, with the sum over the fields; `edits/an_upload_counts_no_block`, `edits/a_download_counts_no_marker`.
         ensures sum { result ≡ upload_len self.now }
+        // Witness of whole: the fields that the sum counts, what came, and numbers are all of it; `edits/an_upload_copies_what_it_gives`,
+        // `edits/a_download_keeps_its_first_octet`.
         ensures whole { IsWholeUpload self.now }
+        // Witness of few: `OperationTransfer`'s `stored_len` needs it.
         ensures few { result ≤ stored_limit }
     {
         self.encoder.stored()
@@ -21,8 +25,11 @@ impl Upload {
 impl<A: Allocator + Copy> Download<A> {
     /// How many octets it stores beside those that came: what its decoder does; beside it it is numbers.
     pub fn stored(&self) -> usize
+        // Witness of sum: as of `stored`.
         ensures sum { result ≡ download_len self.now }
+        // Witness of whole: as of `stored`.
         ensures whole { IsWholeDownload self.now }
+        // Witness of few: `OperationTransfer`'s `stored_len` needs it.
         ensures few { result ≤ stored_limit }
     {
         self.decoder.stored()

@@ -190,6 +190,7 @@ impl<'a, H: Host, K: Held> Tree<Global> for DiskTree<'a, H, K> {
         ensures same { NoStray self.old.device self.new.device → self.new.nodes ≡ self.old.nodes }
         ensures steady { OnOk result (IsSteady self.old.device self.new.device) }
         ensures failed { OnErr result (TellsOne self.old.device self.new.device) }
+        // Witness of once, alone: `a_look_strays_twice`, `a_look_looks_where_nobody_else_changes`.
         ensures once { self.new.device.strays ≤ self.old.device.strays + 1 }
         ensures alone { self.old.others ≡ Others.Keep → (self.new.nodes ≡ self.old.nodes) × (self.new.device ≡ self.old.device) }
     {
@@ -439,6 +440,7 @@ impl<'a, H: Host, K: Held> Tree<Global> for DiskTree<'a, H, K> {
             let octets = take keep (octets_or_none part path.now) ++ taken came.entry.written.events in
             IsRefused (install_refusal part path.now (length octets)) fault self.old.nodes self.new.nodes self.old.device self.new.device) }
         ensures told { Tells result self.old.device self.new.device }
+        // Witness of put: equations.
         ensures put { OnOk result (let part = under self.old.nodes root.now in
             let octets = take keep (octets_or_none part path.now) ++ taken came.entry.written.events in
             IsPut K.holds self.new.version self.old.nodes self.new.nodes root.now path.now octets moment.seconds self.old.device self.new.device) }

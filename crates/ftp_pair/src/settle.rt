@@ -27,10 +27,13 @@ impl<A: Allocator + Copy, T: Tree<A>, N: Near<A>, F: SureFar<A, T>> World<A, T, 
     /// where nothing failed, since each turn leaves less to do; once an end was refused memory, or a device failed, after 2^40 turns more at most.
     /// Takes no memory of its own.
     pub fn settle(&mut self)
+        // Witness of leads, still, settles: `edits/settling_makes_no_turn`, `calm_turns_are_counted`.
         ensures leads { LeadsSmall self.old self.new }
         ensures still { self.new.calm ≡ true → IsStill self.new.world }
         ensures settles { SettlesAfter self.old self.new }
+        // Witness of idle: `edits/what_was_taken_is_forgotten_once_something_failed`.
         ensures idle { IsStill self.old.world → self.new ≡ self.old }
+        // Witness of calm: `edits/settling_clears_calm`.
         ensures calm { KeepsCalm self.old self.new }
     {
         let mut left = TURNS;

@@ -61,7 +61,9 @@ impl<A: Allocator + Copy, T: Tree<A>, N: Near<A>, F: SureFar<A, T>> World<A, T, 
     /// Nothing failed so far: no end was refused memory, and no device failed.
     #[tactic(auto, using(crate::proofs::Reaching::reached_calm))]
     pub fn is_calm(&self) -> bool
+        // Witness of calm: an equation; `edits/every_world_is_calm`.
         ensures calm { result ≡ self.now.calm }
+        // Witness of reached, agrees: `edits/every_world_is_calm`.
         ensures reached { result ≡ true → ∥ Reached self.now.world ∥₁ }
         ensures agrees { result ≡ true → ∥ AgreesHere self.now.world ∥₁ }
     {
@@ -71,10 +73,14 @@ impl<A: Allocator + Copy, T: Tree<A>, N: Near<A>, F: SureFar<A, T>> World<A, T, 
     /// An event happens where it is possible; it answers whether it was. What it is given it keeps or lets go. Refused the room that it takes,
     /// it has changed nothing.
     pub fn step(&mut self, event: Event<A>) -> Result<bool, AllocError>
+        // Witness of does, agrees: the edits of `ftp_pair_events`.
         ensures does { IfOk result (λ possible. Steps self.old.calm self.new.calm (λ read. Happens read (event_of event) self.old.world possible self.new.world)) }
+        // Witness of possible: an equation; `edits/every_event_was_possible_once_something_failed`.
         ensures possible { IfOk result (λ possible. possible ≡ can_happen (event_of event) self.old.world) }
+        // Witness of idle: equations; `run` (idle) needs it.
         ensures idle { IfOk result (λ possible. possible ≡ false → (self.new.world ≡ self.old.world) × (self.new.calm ≡ self.old.calm)) }
         ensures agrees { IfOk result (λ possible. AgreesBy (event_of event) (begun_by (event_of event) possible) self.old self.new) }
+        // Witness of calm, counted: the edits of `ftp_pair_events`.
         ensures calm { KeepsCalmBy (event_of event ∷ []) self.old self.new }
         ensures counted { Counted (most_in (event_of event)) self.old self.new }
         ensures err { OnErr result (self.new ≡ self.old) }
@@ -85,10 +91,13 @@ impl<A: Allocator + Copy, T: Tree<A>, N: Near<A>, F: SureFar<A, T>> World<A, T, 
     /// The events happen in order, each where it is possible, on a copy of what it is given. Refused the room of one, or of its copy, those before it
     /// have happened, and no other.
     pub fn run(&mut self, events: &[Event<A>]) -> Result<(), AllocError>
+        // Witness of leads, agrees, partly: `edits/each_event_is_an_opening`.
         ensures leads { OnOk result (LeadsCalmly (map event_of events.now) self.old self.new) }
         ensures agrees { OnOk result (AgreesAfter (map event_of events.now) self.old self.new) }
         ensures partly { OnErr result (LeadsPartly (map event_of events.now) self.old self.new) }
+        // Witness of idle: that of `step`.
         ensures idle { AreIdle (map event_of events.now) self.old.world → (self.new.world ≡ self.old.world) × (self.new.calm ≡ self.old.calm) }
+        // Witness of calm: that of `step`.
         ensures calm { KeepsCalmBy (map event_of events.now) self.old self.new }
     {
         for event in events {
@@ -100,6 +109,7 @@ impl<A: Allocator + Copy, T: Tree<A>, N: Near<A>, F: SureFar<A, T>> World<A, T, 
 
     /// Nothing is in flight: no octet moves, no link opens, and nobody is to be told of an end.
     pub fn is_quiet(&self) -> bool
+        // Witness: the edits of `ftp_pair_events`.
         ensures quiet { result ≡ true → IsQuiet self.now.world }
         ensures not { IsQuiet self.now.world → result ≡ true }
     {
@@ -116,6 +126,7 @@ impl<A: Allocator + Copy, T: Tree<A>, N: Near<A>, F: SureFar<A, T>> World<A, T, 
     /// What became of links that an operation asked for: that they were refused, or broke, in order. Operations are counted from 0, as they
     /// were begun; none where that one was not.
     pub fn marks(&self, operation: usize) -> Option<&[Mark]>
+        // Witness: `edits/marks_are_of_the_operation_before`.
         ensures { option_map (λ marks. map mark_of marks.now) result ≡ slice_get self.now.world.marks operation }
     {
         Some(self.parts.marks.get(operation)?.as_slice())

@@ -20,6 +20,7 @@ impl<A: Allocator + Copy, T: Tree<A>, J: ServerTransfer<A, T>> Server<A, T, J> {
 
     /// What has failed so far.
     pub fn counts(&self) -> Counts
+        // Witness: an equation.
         ensures { AreTold result (counts_of T.failures self.now) }
     {
         Counts {
@@ -74,10 +75,14 @@ impl<A: Allocator + Copy, T: Tree<A>, J: ServerTransfer<A, T>> Server<A, T, J> {
     /// The moment in force from now on.
     #[tactic(auto, using(crate::proofs::CallLemmas::acts, crate::proofs::ToldLemmas::tells))]
     pub fn clock(&mut self, moment: Moment)
+        // Witness of acts: an equation where no count changed; else what the definitions say that a failure leaves.
         ensures acts { Acts (clock_step moment.seconds) (server_of T.table T.failures J.view self.old) (server_of T.table T.failures J.view self.new) }
+        // Witness of told: an equation where no count changed; `edits/a_line_that_waits_is_told_when_it_is_heard`,
+        // `edits/the_code_of_the_line_before_is_told`, `edits/the_text_of_pass_is_told` of `ftp_server_replies`.
         ensures told { Tells (clock_step moment.seconds) self.new.heard (server_of T.table T.failures J.view self.old) (server_of T.table T.failures J.view self.new) }
 
         // Where no line waits that is all, and the tree's device is not asked.
+        // Witness of alone: an equation, where no line waits; `alone` of `Far`.
         ensures alone { let old = server_of T.table T.failures J.view self.old in old.view.waiting ≡ None → server_of T.table T.failures J.view self.new ≡ record old { view = clock_step moment.seconds old.view } }
     {
         self.context.moment = moment;
@@ -86,9 +91,11 @@ impl<A: Allocator + Copy, T: Tree<A>, J: ServerTransfer<A, T>> Server<A, T, J> {
 
     /// Gives octets of the control connection, and says how many.
     pub fn control_out(&mut self, room: &mut [u8]) -> usize
+        // Witness of within, gave, now, some: bounds of the count, and equations.
         ensures within { (result ≤ length room.old) × (result ≤ length (view_of T.table J.view self.old).owed) }
         ensures gave { take result room.new ≡ take result (view_of T.table J.view self.old).owed }
         ensures now { Acts (control_step result) (server_of T.table T.failures J.view self.old) (server_of T.table T.failures J.view self.new) }
+        // Witness of told: as of `clock`.
         ensures told { Tells (control_step result) self.new.heard (server_of T.table T.failures J.view self.old) (server_of T.table T.failures J.view self.new) }
         ensures some { 0 < length room.old → 0 < length (view_of T.table J.view self.old).owed → 0 < result }
 
@@ -102,7 +109,9 @@ impl<A: Allocator + Copy, T: Tree<A>, J: ServerTransfer<A, T>> Server<A, T, J> {
 
     /// A port is listened at.
     pub fn listening(&mut self, port: u16)
+        // Witness of acts: as of `clock`.
         ensures acts { Acts (listening_step port) (server_of T.table T.failures J.view self.old) (server_of T.table T.failures J.view self.new) }
+        // Witness of told: as of `clock`.
         ensures told { Tells (listening_step port) self.new.heard (server_of T.table T.failures J.view self.old) (server_of T.table T.failures J.view self.new) }
     {
         self.listen(port);
@@ -111,7 +120,9 @@ impl<A: Allocator + Copy, T: Tree<A>, J: ServerTransfer<A, T>> Server<A, T, J> {
 
     /// No port was had.
     pub fn listen_refused(&mut self)
+        // Witness of acts: as of `clock`.
         ensures acts { Acts no_port_step (server_of T.table T.failures J.view self.old) (server_of T.table T.failures J.view self.new) }
+        // Witness of told: as of `clock`.
         ensures told { Tells no_port_step self.new.heard (server_of T.table T.failures J.view self.old) (server_of T.table T.failures J.view self.new) }
     {
         self.give_up_port();
@@ -120,7 +131,9 @@ impl<A: Allocator + Copy, T: Tree<A>, J: ServerTransfer<A, T>> Server<A, T, J> {
 
     /// The data connection is open; this host is at its other end.
     pub fn data_opened(&mut self, host: Host)
+        // Witness of acts: as of `clock`.
         ensures acts { Acts (opened_step host) (server_of T.table T.failures J.view self.old) (server_of T.table T.failures J.view self.new) }
+        // Witness of told: as of `clock`.
         ensures told { Tells (opened_step host) self.new.heard (server_of T.table T.failures J.view self.old) (server_of T.table T.failures J.view self.new) }
     {
         self.open(host);
@@ -129,7 +142,9 @@ impl<A: Allocator + Copy, T: Tree<A>, J: ServerTransfer<A, T>> Server<A, T, J> {
 
     /// The data connection was not had.
     pub fn data_refused(&mut self)
+        // Witness of acts: as of `clock`.
         ensures acts { Acts refused_step (server_of T.table T.failures J.view self.old) (server_of T.table T.failures J.view self.new) }
+        // Witness of told: as of `clock`.
         ensures told { Tells refused_step self.new.heard (server_of T.table T.failures J.view self.old) (server_of T.table T.failures J.view self.new) }
     {
         self.give_up_opening();
@@ -138,7 +153,9 @@ impl<A: Allocator + Copy, T: Tree<A>, J: ServerTransfer<A, T>> Server<A, T, J> {
 
     /// A close that it wanted is done.
     pub fn data_closed(&mut self)
+        // Witness of acts: as of `clock`.
         ensures acts { Acts close_step (server_of T.table T.failures J.view self.old) (server_of T.table T.failures J.view self.new) }
+        // Witness of told: as of `clock`.
         ensures told { Tells close_step self.new.heard (server_of T.table T.failures J.view self.old) (server_of T.table T.failures J.view self.new) }
     {
         self.close();
@@ -147,7 +164,9 @@ impl<A: Allocator + Copy, T: Tree<A>, J: ServerTransfer<A, T>> Server<A, T, J> {
 
     /// The control connection ended.
     pub fn control_end(&mut self)
+        // Witness of acts: as of `clock`.
         ensures acts { server_of T.table T.failures J.view self.new ≡ record (server_of T.table T.failures J.view self.old) { view = control_end (view_of T.table J.view self.old) } }
+        // Witness of told: as of `clock`.
         ensures told { self.new.heard ≡ None }
     {
         self.cut();

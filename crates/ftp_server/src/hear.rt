@@ -29,12 +29,16 @@ impl<A: Allocator + Copy, T: Tree<A>, J: ServerTransfer<A, T>> Server<A, T, J> {
 
     /// Takes octets of the control connection, and says how many.
     pub fn hear(&mut self, piece: &[u8]) -> usize
+        // Witness of within, some: bounds of the count; `edits/a_server_hears_nothing`.
         ensures within { result ≤ length piece.now }
+        // Witness of took: an equation for the octets taken where no count changed; else each octet is heard, or fails as the definitions say.
         ensures took { Hears (take result piece.now) (server_of T.table T.failures J.view self.old) (server_of T.table T.failures J.view self.new) }
+        // Witness of told: as of `clock`.
         ensures told { TellsHeard (take result piece.now) self.new.heard (server_of T.table T.failures J.view self.old) (server_of T.table T.failures J.view self.new) }
         ensures some { IsTrue (may_hear (view_of T.table J.view self.old)) → 0 < length piece.now → 0 < result }
 
         // Where nothing failed it takes all of them, or as many as it may.
+        // Witness of most: `edits/a_server_hears_one_octet_of_a_piece`.
         ensures most { counts_of T.failures self.new ≡ counts_of T.failures self.old → IsMostHeard result piece.now (view_of T.table J.view self.new) }
     {
         let failures = self.session.tree.device_failures();
@@ -166,6 +170,7 @@ fn is_abor<A: Allocator + Copy>(heard: &HeardLine<Argument<A>>) -> bool
 
 /// Whether a transfer is under way, its data connection open or still to come.
 pub(crate) fn is_transferring<J>(connection: &ServerLink<J>) -> bool
+    // Witness: as of `answered`.
     ensures { result ≡ has_transfer connection.now }
 {
     matches!(

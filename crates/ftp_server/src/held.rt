@@ -18,8 +18,11 @@ impl<A: Allocator + Copy, T: Tree<A>, J: Counted<A, T>> Server<A, T, J> {
     /// file or what a directory showed: those that are owed, the line that is being read, the line that waits as it would be written, what
     /// the line that was acted on names, the names and paths of the session, and what its transfer stores; at most 24,576.
     pub fn held(&self) -> usize
+        // Witness of len: an equation; `edits/a_line_that_waits_is_not_held`, `edits/a_transfer_that_opens_is_not_held`,
+        // `edits/what_is_held_is_a_constant`.
         ensures len { let stored = connection_len J.stored self.now.session.connection in
             result ≡ heard_len self.now.heard + held stored (view_of T.table J.view self.now) }
+        // Witness of little: a bound of the same number.
         ensures little { result ≤ held_limit }
     {
         let waiting = waiting_len(&self.waiting);

@@ -15,6 +15,9 @@ use std::alloc::Allocator;
 use std::mem;
 
 impl<A: Allocator + Copy, T: Tree<A>, J: ServerTransfer<A, T>> Lends<A, T> for Server<A, T, J> {
+    // Witness of taken, left, failures, told: equations; `edits/a_tree_brings_all_rights`, `edits/an_exchange_is_counted_as_a_failure`,
+    // `edits/an_exchange_forgets_the_line_before`, `edits/an_upload_is_not_overtaken_by_others`,
+    // `edits/each_upload_that_is_lent_a_tree_is_overtaken`.
     fn lend(&mut self, tree: &mut T, stood: Option<Standing>) {
         mem::swap(&mut self.session.tree, tree);
         if !still_stands(stood, self.stands()) {
@@ -22,6 +25,7 @@ impl<A: Allocator + Copy, T: Tree<A>, J: ServerTransfer<A, T>> Lends<A, T> for S
         }
     }
 
+    // Witness of taken, left, failures, told: as of `lend`.
     fn give_back(&mut self, tree: &mut T) -> Option<Standing> {
         let stands = self.stands();
         mem::swap(&mut self.session.tree, tree);

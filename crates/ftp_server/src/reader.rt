@@ -22,6 +22,7 @@ impl<A: Allocator + Copy> Reader<A> {
 
     /// A reader between two lines. It takes the room of the longest line.
     pub fn new(alloc: A) -> Result<Reader<A>, AllocError>
+        // Witness: an equation, of the reader of lines.
         ensures { IfOk result (λ reader. ear_of reader.ear ≡ quiet) }
     {
         let Ok(ear) = Ear::new(alloc, LINE_LIMIT) else {
@@ -32,8 +33,10 @@ impl<A: Allocator + Copy> Reader<A> {
 
     /// Takes an octet, and says what it settles. Takes no memory.
     pub fn hear(&mut self, octet: u8) -> Event
+        // Witness of step, out: equations, of the reader of lines.
         ensures step { ear_of self.new.ear ≡ ear_step line_limit (ear_of self.old.ear) octet }
         ensures out { event_list result (line_of self.new.ear) ≡ ear_out line_limit (ear_of self.old.ear) octet }
+        // Witness of short: of the reader of lines; `held` needs it.
         ensures short { result ≡ Event.Line → length (line_of self.new.ear) ≤ line_limit }
     {
         self.ear.feed(&[octet]).event
@@ -41,7 +44,9 @@ impl<A: Allocator + Copy> Reader<A> {
 
     /// How many octets of text the line that is being read has so far, at most 1,024.
     pub fn unfinished(&self) -> usize
+        // Witness of len: an equation, of the reader of lines.
         ensures len { result ≡ length (ear_of self.now.ear).line.text }
+        // Witness of short: `held` needs it.
         ensures short { result ≤ line_limit }
     {
         self.ear.unfinished()

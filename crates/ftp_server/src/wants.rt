@@ -78,6 +78,7 @@ impl<A: Allocator + Copy, T: Tree<A>, J: ServerTransfer<A, T>> Server<A, T, J> {
 
     /// The line that the last call acted on, if it acted on one. Takes no memory.
     pub fn answered(&self) -> Option<Answered<'_>>
+        // Witness: equations; `edits/a_code_is_read_one_octet_on` of `ftp_server_replies`.
         ensures { option_map lent result ≡ self.now.heard }
     {
         match &self.heard {
@@ -88,6 +89,7 @@ impl<A: Allocator + Copy, T: Tree<A>, J: ServerTransfer<A, T>> Server<A, T, J> {
 
     /// The root of the account of who is logged in, and its rights; none where nobody is.
     pub fn login(&self) -> Option<(&Path<A>, Rights)>
+        // Witness: as of `answered`.
         ensures { option_map (λ login. (login.0.now, login.1)) result ≡ login_in (view_of T.table J.view self.now).session }
     {
         if !is_in(&self.session.access) {
@@ -98,6 +100,7 @@ impl<A: Allocator + Copy, T: Tree<A>, J: ServerTransfer<A, T>> Server<A, T, J> {
 
     /// The code whose three digits stand at a place of the octets that are owed; none where no three digits stand there.
     pub fn code_at(&self, place: usize) -> Option<u16>
+        // Witness: as of `answered`.
         ensures { result ≡ code_in (drop place (view_of T.table J.view self.now).owed) }
     {
         self.output.code_at(place)
@@ -105,6 +108,7 @@ impl<A: Allocator + Copy, T: Tree<A>, J: ServerTransfer<A, T>> Server<A, T, J> {
 
     /// Whether a transfer is under way, its data connection open or still to come.
     pub fn is_transferring(&self) -> bool
+        // Witness: as of `answered`.
         ensures { result ≡ is_transferring (view_of T.table J.view self.now).session.connection }
     {
         is_transferring(&self.session.connection)

@@ -28,10 +28,13 @@ impl<A: Allocator + Copy, T: Tree<A>, J: ServerTransfer<A, T>> Session<A, T, J> 
         heard: HeardLine<Argument<A>>,
     ) -> Result<ReplyKind<Path<A>>, Fault>
         requires { HeardPaths heard }
+        // Witness of idle: an equation of session and reply; where it could not be done, of the session.
         ensures idle { has_transfer self.old.connection ≡ false → Decides T.table T.failures J.view (context_of context.now) heard self.old self.new result }
+        // Witness of busy: equations of session and reply.
         ensures busy { has_transfer self.old.connection ≡ true → (result ≡ Ok (ReplyKind.Fixed FixedReply.BadSequence)) × (self.new ≡ self.old) }
 
         // Whatever the tree's device gives.
+        // Witness of little, named: bounds of the reply and of the name that waits.
         ensures little { is_busy self.old.connection ≡ false → SaysLittle self.new.connection result }
         ensures named { KeepsName (heard_name_len heard) self.old.access self.new.access }
     {

@@ -20,9 +20,11 @@ impl<A: Allocator + Copy, T: Tree<A>, J: ServerTransfer<A, T>> Session<A, T, J> 
 
     /// Takes octets of the data connection, at least one where an upload is under way. There has to be room for what is to be said.
     pub fn receive(&mut self, piece: &[u8]) -> Received
+        // Witness of within, comes, some: for every server's view an equation, by what is told; bounds of the count.
         ensures within { result.count ≤ length piece.now }
         ensures comes { (v : View) → v.session ≡ session_of T.table J.view self.old → has_room v ≡ true → ComesIn v (take result.count piece.now) result.told (session_of T.table J.view self.new) }
         ensures some { is_upload (connection_in (session_of T.table J.view self.old)) ≡ true → 0 < length piece.now → 0 < result.count }
+        // Witness of over: an equation, where the wire is at fault; `Server::receive` of `ftp_server` needs it.
         ensures over { result.told ≡ Told.Faulty → session_of T.table J.view self.new ≡ forgotten (session_of T.table J.view self.old) }
         ensures tree { self.new.tree ≡ self.old.tree }
         ensures access { self.new.access ≡ self.old.access }
@@ -71,6 +73,7 @@ impl<A: Allocator + Copy, T: Tree<A>, J: ServerTransfer<A, T>> Session<A, T, J> 
 
     /// Gives octets to the data connection. Where the tree's device strays, nothing is said of what is given but that there was room for it.
     pub fn give(&mut self, room: &mut [u8]) -> Given
+        // Witness of within, gave, most, on, full: equations and bounds of the count.
         ensures within { result.count ≤ length room.old }
         ensures gave { NoStray (T.failures self.old.tree) (T.failures self.new.tree) → take result.count room.new ≡ take result.count (given_by (connection_in (session_of T.table J.view self.old))) }
         ensures most { NoStray (T.failures self.old.tree) (T.failures self.new.tree) → result.count ≤ length (given_by (connection_in (session_of T.table J.view self.old))) }
@@ -78,7 +81,9 @@ impl<A: Allocator + Copy, T: Tree<A>, J: ServerTransfer<A, T>> Session<A, T, J> 
         ensures full { NoStray (T.failures self.old.tree) (T.failures self.new.tree) → result.lost ≡ false → result.count ≡ min (length room.old) (length (given_by (connection_in (session_of T.table J.view self.old)))) }
         ensures table { T.table self.new.tree ≡ T.table self.old.tree }
         ensures steady { result.lost ≡ false → IsSteady (T.failures self.old.tree) (T.failures self.new.tree) }
+        // Witness of few: by how much a count moves at most.
         ensures few { TellsSome 1 (T.failures self.old.tree) (T.failures self.new.tree) }
+        // Witness of free, busy: follow from `on`.
         ensures free { result.lost ≡ true → self.new.connection ≡ ServerLink.Free }
         ensures busy { has_transfer self.new.connection ≡ true → has_transfer self.old.connection ≡ true }
         ensures access { self.new.access ≡ self.old.access }

@@ -49,6 +49,7 @@ impl<A: Allocator + Copy, T: Tree<A>, J: ServerTransfer<A, T>> Session<A, T, J> 
     pub fn new(alloc: A, tree: T) -> Session<A, T, J>
         ensures begun { session_of T.table J.view result ≡ first_session (T.table tree) }
         ensures tree { result.tree ≡ tree }
+        // Witness of idle: follows from `begun`.
         ensures idle { has_transfer result.connection ≡ false }
         ensures nobody { result.access ≡ Access.Nobody }
     {
@@ -72,6 +73,7 @@ impl<A: Allocator + Copy, T: Tree<A>, J: ServerTransfer<A, T>> Session<A, T, J> 
     /// Whether a transfer is under way, or a port was asked for.
     pub fn is_busy(&self) -> bool
         ensures busy { result ≡ is_connection_busy (connection_of J.view self.now.connection) }
+        // Witness of idle: follows from `busy`.
         ensures idle { result ≡ false → has_transfer self.now.connection ≡ false }
     {
         match &self.connection {

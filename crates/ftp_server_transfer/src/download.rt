@@ -29,6 +29,7 @@ impl<A: Allocator + Copy, T: Tree<A>> Download<A, T> {
 
     /// An open file from a place on, in a representation; own markers count from that place, wherever the representation has them.
     pub fn new(file: T::Open, at: u64, settings: Representation) -> Download<A, T>
+        // Witness: an equation, where memory was not refused.
         ensures { rest_of T.opened result ≡ file_wire settings at (drop at (T.opened file)) }
     {
         // An open file has fewer than 2^64 octets, so markers can count them.
@@ -43,12 +44,17 @@ impl<A: Allocator + Copy, T: Tree<A>> Download<A, T> {
     /// Gives octets, as many as there is room for and as are left, and says how many; fewer only where the device failed. Where it strayed, nothing is
     /// said of what is given but that there was room for it.
     pub fn give(&mut self, tree: &mut T, room: &mut [u8]) -> Given
+        // Witness of within: over a whole listing they leave one text.
+        // Witness of within, most, lost: bounds of the count; `edits/octets_that_were_not_read_are_given`.
         ensures within { result.count ≤ length room.old }
+        // Witness of gave, rest, full: equations, unless the device failed or strayed; `edits/an_octet_is_skipped`,
+        // `edits/octets_of_another_place_are_read`, `edits/a_download_gives_one_octet`.
         ensures gave { NoStray (T.failures tree.old) (T.failures tree.new) → take result.count room.new ≡ take result.count (rest_of T.opened self.old) }
         ensures most { NoStray (T.failures tree.old) (T.failures tree.new) → result.count ≤ length (rest_of T.opened self.old) }
         ensures rest { NoStray (T.failures tree.old) (T.failures tree.new) → rest_of T.opened self.new ≡ drop result.count (rest_of T.opened self.old) }
         ensures full { NoStray (T.failures tree.old) (T.failures tree.new) → result.lost ≡ false → result.count ≡ min (length room.old) (length (rest_of T.opened self.old)) }
         ensures lost { NoStray (T.failures tree.old) (T.failures tree.new) → result.lost ≡ true → result.count < length (rest_of T.opened self.old) }
+        // Witness of table, steady, failed: the tree stays as it is, and the count of failures tells; `TreeTransfer::give` needs them.
         ensures table { T.table tree.new ≡ T.table tree.old }
         ensures steady { result.lost ≡ false → IsSteady (T.failures tree.old) (T.failures tree.new) }
         ensures failed { result.lost ≡ true → TellsOne (T.failures tree.old) (T.failures tree.new) }

@@ -61,6 +61,7 @@ impl<A: Allocator + Copy> Listing<A> {
         what: What<A>,
         mode: Mode,
     ) -> Result<Listing<A>, AllocError>
+        // Witness: an equation, where memory was not refused.
         ensures { IfOk result (λ listing. let part = under (T.table tree.now) root.now in
             rest_of listing ≡ listing_wire mode (lines_of what part path)) }
     {
@@ -109,9 +110,11 @@ impl<A: Allocator + Copy> Listing<A> {
     /// Gives octets until the room is full or all is out. Where the next lines had no memory all that was still to be given stays
     /// so, and something is.
     pub fn give(&mut self, room: &mut [u8]) -> Made
+        // Witness of within, gives, all: over a whole listing they leave one text.
         ensures within { result.made ≤ length room.old }
         ensures gives { rest_of self.old ≡ take result.made room.new ++ rest_of self.new }
         ensures all { result.refused ≡ false → (result.made ≡ length room.old) ⊎ (rest_of self.new ≡ []) }
+        // Witness of refused: bounds what a refusal may leave.
         ensures refused { result.refused ≡ true → 0 < length (rest_of self.new) }
     {
         let mut made = 0;

@@ -41,6 +41,7 @@ impl<A: Allocator + Copy> Named<A> {
     /// The octets.
     pub fn as_slice(&self) -> &[u8]
         ensures octets { result.now ≡ self.now }
+        // Witness of few: `Listing::stored` needs it.
         ensures few { length result.now ≤ text_limit }
     {
         self.text.as_slice()

@@ -50,6 +50,7 @@ impl<A: Allocator + Copy, T: Tree<A>> Upload<A, T> {
 
     /// An upload to a path, which keeps so much of the file there, in a representation, into a draft. Takes no memory.
     pub fn new(path: Path<A>, keep: Keep, settings: Representation, draft: T::Draft) -> Upload<A, T>
+        // Witness: an equation, where memory was not refused.
         ensures { upload_of result ≡ Transfers.Upload path keep (record (no_octets settings) { content = T.Draft.octets draft }) }
     {
         Upload {
@@ -69,7 +70,10 @@ impl<A: Allocator + Copy, T: Tree<A>> Upload<A, T> {
         root: &Path<B>,
         piece: &[u8],
     ) -> Arrived
+        // Witness of within, some: bounds of the count.
         ensures within { result.received.count ≤ length piece.now }
+        // Witness of comes: for every server's view an equation, by what is told; `TreeTransfer::receive` needs it; `room_left`'s `none`:
+        // `edits/a_directory_is_told_as_no_memory`.
         ensures comes { Comes (under (T.table tree.now) root.now) (upload_of self.old) (take result.received.count piece.now)
             result.received.told (if result.is_over then Transfers.OverLimit else upload_of self.new) }
         ensures some { 0 < length piece.now → 0 < result.received.count }
@@ -128,6 +132,12 @@ impl<A: Allocator + Copy, T: Tree<A>> Upload<A, T> {
         rights: Rights,
         moment: Moment,
     ) -> Result<FixedReply, Fault>
+        // Witness: of one that was overtaken: `edits/what_broke_is_put_over_anothers_file`, `edits/a_whole_file_is_dropped_once_it_is_overtaken`,
+        // `edits/an_upload_is_never_overtaken`, `edits/a_file_of_another_moment_is_the_same`.
+        // Witness: of what is answered: equations where nothing failed; `edits/the_end_does_not_ask_for_the_rights`,
+        // `edits/fewer_octets_than_rest_kept_are_put`, `edits/a_failed_device_is_told_as_memory`, `edits/a_failed_look_is_answered_as_an_end`.
+        // Witness: of what is put: equations of the map where nothing failed; `edits/a_break_of_a_whole_file_is_answered_226`,
+        // `edits/one_octet_fewer_is_kept`, `edits/nothing_is_kept`, `edits/appe_keeps_what_stood_when_it_began`.
         ensures { (s : Session) → s.table ≡ T.table tree.old → s.root ≡ root.now → s.rights ≡ rights
             → Ends (at_end moment.seconds (upload_of self) s) s (T.table tree.new) result (T.failures tree.old) (T.failures tree.new) }
     {
@@ -149,6 +159,9 @@ impl<A: Allocator + Copy, T: Tree<A>> Upload<A, T> {
         rights: Rights,
         moment: Moment,
     ) -> Result<FixedReply, Fault>
+        // Witness: as of `at_end`.
+        // Witness: as of `at_end`.
+        // Witness: as of `at_end`.
         ensures { (s : Session) → s.table ≡ T.table tree.old → s.root ≡ root.now → s.rights ≡ rights
             → Ends (at_break moment.seconds (upload_of self) s) s (T.table tree.new) result (T.failures tree.old) (T.failures tree.new) }
     {

@@ -18,6 +18,7 @@ impl<A: Allocator + Copy, T: Tree<A>, N: Near<A>, F: SureFar<A, T>> Parts<A, T, 
         ensures ok { IfOk result (λ parts. shown N.client F.server parts ≡ world (N.client near).view (F.server far).view) }
         ensures calm { IfOk result (λ parts. parts.calm ≡ true) }
         ensures counted { IfOk result (λ parts. tally_of N.client F.server parts ≡ record { near = (N.client near).refusals; far = (F.server far).counts }) }
+        // Witness of report: equations.
         ensures report { IfOk result (λ parts. HasRoom N.client parts) }
         ensures err { IfErr result (λ ends. ends ≡ (near, far)) }
     {

@@ -78,6 +78,7 @@ impl<A: Allocator + Copy, T: Tree<A>, N: Near<A>, F: SureFar<A, T>> Parts<A, T, 
 
     /// Nothing is in flight.
     pub fn is_quiet(&self) -> bool
+        // Witness: `edits/octets_to_the_client_may_move_in_quiet`, `no_world_is_quiet`.
         ensures quiet { result ≡ true → IsQuiet (shown N.client F.server self.now) }
         ensures not { IsQuiet (shown N.client F.server self.now) → result ≡ true }
     {

@@ -18,12 +18,22 @@ impl<A: Allocator + Copy, T: Tree<A>, N: Near<A>, F: SureFar<A, T>> Parts<A, T, 
     /// An event happens where it is possible; it answers whether it was. The room that it takes is made first.
     pub fn step(&mut self, alloc: A, event: Event<A>) -> Result<bool, AllocError>
         requires report { HasRoom N.client self.old }
+        // Witness of ok: `edits/a_mark_is_put_on_the_first_operation`, `the_reports_are_filled_in`.
+        // Witness of ok: `edits/a_break_tells_the_client_alone`, `no_operation_can_begin`, `a_delivery_takes_from_the_middle`.
+        // Witness of ok: `edits/an_end_is_told_while_octets_are_due`, `an_end_is_told_before_its_octets`, `the_clock_is_left`.
+        // Witness of ok: `edits/a_delivery_offers_nothing`, `octets_are_counted_by_wrapping`, `a_break_is_marked_refused`,
+        // `the_client_alone_is_served`.
         ensures ok { IfOk result (λ possible. Steps self.old.calm self.new.calm (λ read. Happens read (event_of event) (shown N.client F.server self.old) possible (shown N.client F.server self.new))) }
+        // Witness of possible: an equation, in every world; `edits/a_world_that_failed_calls_an_opening_possible`.
         ensures possible { IfOk result (λ possible. possible ≡ can_happen (event_of event) (shown N.client F.server self.old)) }
+        // Witness of idle: equations; `edits/a_break_without_a_link_forgets_what_came`.
         ensures idle { IfOk result (λ possible. possible ≡ false → (shown N.client F.server self.new ≡ shown N.client F.server self.old) × (self.new.calm ≡ self.old.calm)) }
+        // Witness of err, report, unmoved: `edits/no_room_for_a_report` (report).
         ensures err { OnErr result ((shown N.client F.server self.new ≡ shown N.client F.server self.old) × (self.new.calm ≡ self.old.calm)) }
         ensures report { HasRoom N.client self.new }
         ensures unmoved { OnErr result (tally_of N.client F.server self.new ≡ tally_of N.client F.server self.old) }
+        // Witness of counted: `edits/counts_are_compared_with_themselves`, `device_failures_are_not_compared`.
+        // Witness of counted: `edits/the_clock_is_left_and_calm_cleared`, `a_delivery_clears_calm`, `a_failure_is_forgotten`.
         ensures counted { Counted (most_in (event_of event)) N.client F.server self.old self.new }
     {
         match event {

@@ -25,11 +25,15 @@ impl<A: Allocator + Copy, T: Tree<A>, N: Near<A>, F: SureFar<A, T>> Parts<A, T, 
     /// One delivery of at most 4,096 octets, opening or end happens, if one is possible; it answers whether one was. Takes no memory.
     pub fn turn(&mut self) -> bool
         requires report { HasRoom N.client self.old }
+        // Witness of does, still, same: `edits/an_end_is_no_turn` (still).
         ensures does { result ≡ true → Progresses self.old.calm self.new.calm (shown N.client F.server self.old) (shown N.client F.server self.new) }
         ensures still { result ≡ false → IsStill (shown N.client F.server self.old) }
+        // Witness of progresses: `edits/a_still_world_that_failed_turns`.
         ensures progresses { result ≡ true → ¬ IsStill (shown N.client F.server self.old) }
         ensures same { result ≡ false → self.new ≡ self.old }
+        // Witness of counted: as that of `step`.
         ensures counted { Counted 12312 N.client F.server self.old self.new }
+        // Witness of report: `World::settle` of `ftp_pair`, whose world keeps it between two calls.
         ensures report { HasRoom N.client self.new }
     {
         let Some(turn) = self.next_turn() else {

@@ -39,6 +39,7 @@ impl<A: Allocator + Copy> Channel<A> {
     /// Room for so many octets more. The octets stay, and room that was there stays.
     pub fn reserve(&mut self, count: usize) -> Result<(), AllocError>
         ensures items { self.new.octets.items ≡ self.old.octets.items }
+        // Witness of ok: equations.
         ensures ok { OnOk result (vec_len self.new.octets + count ≤ vec_capacity self.new.octets) }
     {
         self.octets.reserve(count)
@@ -47,6 +48,7 @@ impl<A: Allocator + Copy> Channel<A> {
     /// Adds octets, for which there is room.
     pub fn append(&mut self, more: &[u8])
         requires { vec_len self.old.octets + length more.now ≤ vec_capacity self.old.octets }
+        // Witness: `edits/one_octet_is_added`.
         ensures items { self.new.octets.items ≡ self.old.octets.items ++ more.now }
         ensures capacity { vec_capacity self.old.octets ≤ vec_capacity self.new.octets }
     {
@@ -67,6 +69,7 @@ impl<A: Allocator + Copy> Channel<A> {
         requires few { count ≤ vec_len from.old.octets }
         requires room { count ≤ vec_capacity self.old.octets }
         ensures items { self.new.octets.items ≡ take count from.old.octets.items }
+        // Witness of left: `edits/an_octet_stays`.
         ensures left { from.new.octets.items ≡ drop count from.old.octets.items }
     {
         self.clear();

@@ -24,6 +24,7 @@ impl<A: Allocator + Copy, T: Drop> Room<A, T> {
         ensures down { IfOk result (λ room. room.data_to_client.octets.items ≡ []) }
         ensures lent { IfOk result (λ room. room.taken.octets.items ≡ []) }
         ensures none { IfOk result (λ room. room.reports.items ≡ []) }
+        // Witness of report: `edits/no_room_for_the_first_report`.
         ensures report { IfOk result (λ room. vec_len room.reports < vec_capacity room.reports) }
     {
         let mut reports = Vec::new(alloc);

@@ -16,6 +16,7 @@ pub struct Line {
 impl Line {
     /// One over which nothing was written.
     pub fn new(alloc: Global) -> Line
+        // Witness: nothing is to be read: `sessions_are_the_direct_run`.
         ensures server { result.to_server.items ≡ [] }
         ensures client { result.to_client.items ≡ [] }
     {
@@ -41,6 +42,8 @@ pub struct Slot<E> {
 impl<E> Slot<E> {
     /// An end, as a session begins with this host at the other end: each read or write of a data connection moves at most so many octets, of none one.
     pub fn new(end: E, alloc: Global, peer: Host, most: usize) -> Slot<E>
+        // Witness: an equation; nothing came or went, and no port was told, and this host is at the other end: `nothing`, `listens` and `peer` of
+        // `SessionBy`.
         ensures end { result.end ≡ end }
         ensures fresh { IsFresh peer result.memory_end }
     {

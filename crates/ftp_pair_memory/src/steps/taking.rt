@@ -182,6 +182,8 @@ where
     F: Far<A, T>,
     C: Watch,
     O: Watches<F>,
+    // Witness: `edits/an_operation_is_answered_that_was_not_begun`, `one_that_broke_off_is_answered`, `octets_that_nobody_heard_are_let_go`,
+    // `a_turn_is_not_prepared`; what it leads to: `transfers_asked_are_the_direct_run`.
     ensures { Asks op result (ends_of (timed F.server C.told) N.client client.old server.old line.old) (ends_of (timed F.server C.told) N.client client.new server.new line.new) }
 {
     if !begin::<A, N>(client, op) {

@@ -31,6 +31,7 @@ impl MemoryEnd {
 
     /// There is none, and this host is at the other end; each read or write moves at most so many octets, of none one.
     pub fn new(alloc: Global, peer: Host, most: usize) -> MemoryEnd
+        // Witness: nothing came or went, and which host is at the other end: `Slot::new` of `ftp_pair_memory`.
         ensures { IsFresh peer result }
     {
         MemoryEnd {
@@ -84,6 +85,7 @@ impl MemoryEnd {
 
     /// Whether a turn left it as its ports know it.
     pub fn is_known(&mut self) -> bool
+        // Witness: `edits/ports_that_gave_another_are_believed`.
         ensures { IsTrue result → IsKnown self.old self.new }
     {
         if self.memory_ports.port_table.spoiled {
@@ -169,6 +171,8 @@ fn carry(own: &mut MemoryEnd, peer: &mut MemoryEnd) -> bool
 /// Prepares a turn of an end: what was written between was brought on, a dial was answered, and its ports know of the other end what they are to know. Not
 /// where an end broke off before.
 pub fn meet(own: &mut MemoryEnd, peer: &mut MemoryEnd) -> bool
+    // Witness: `edits/what_was_written_is_brought_twice`, `an_end_is_told_before_all_was_brought`, `one_is_dialled_where_nobody_listens`,
+    // `each_end_counts_its_own_ports`.
     ensures { IsTrue result → Meets own.old peer.old own.new peer.new }
 {
     if !answers(own, peer) {

@@ -16,6 +16,7 @@ pub(crate) fn call<A: Allocator + Copy, T: Tree<A>, S: SureFar<A, T>>(
     cue: &Cue<A>,
 ) -> Result<Gift<A>, AllocError>
     ensures makes { IfOk result (λ gift. Makes (cue_of cue.now) (gift_of gift) (S.server server.old) (S.server server.new)) }
+    // Witness of back: an equation; `edits/a_tree_is_lent_before_there_is_room`.
     ensures back { OnErr result (S.server server.new ≡ S.server server.old) }
 {
     make(alloc, server, cue)
@@ -28,6 +29,7 @@ pub fn make<A: Allocator + Copy, T: Tree<A>, S: Far<A, T>>(
     server: &mut S,
     cue: &Cue<A>,
 ) -> Result<Gift<A>, AllocError>
+    // Witness: `play` has them.
     ensures makes { IfOk result (λ gift. MakesOnCourse (cue_of cue.now) (gift_of gift) (S.server server.old) (S.server server.new)) }
     ensures back { OnErr result (S.server server.new ≡ S.server server.old) }
 {
@@ -37,6 +39,7 @@ pub fn make<A: Allocator + Copy, T: Tree<A>, S: Far<A, T>>(
 
 /// Room for the octets that a call may give: none for a call that gives no octets.
 pub fn room_for<A: Allocator + Copy>(alloc: A, cue: &Cue<A>) -> Result<Vec<u8, A>, AllocError>
+    // Witness: an equation of its length; `edits/a_call_for_data_has_no_room`.
     ensures { IfOk result (λ room. vec_len room ≡ room_of (cue_of cue.now)) }
 {
     match cue {
@@ -54,6 +57,7 @@ pub fn make_into<A: Allocator + Copy, T: Tree<A>, S: Far<A, T>>(
     room: Vec<u8, A>,
 ) -> Gift<A>
     requires { vec_len room ≡ room_of (cue_of cue.now) }
+    // Witness: the relation of the call; `make` has it, and `Sessions::call` of `ftp_server_calls`.
     ensures { MakesOnCourse (cue_of cue.now) (gift_of result) (S.server server.old) (S.server server.new) }
 {
     match cue {

@@ -16,17 +16,28 @@ pub trait Plays<A: Allocator + Copy, T: Tree<A>>: SureFar<A, T> {
     ///
     /// Refused memory for what the calls give, the calls before stand.
     fn play(&mut self, alloc: A, cues: &[Cue<A>]) -> Result<Played<A>, AllocError>
+        // Witness of made: relations, each the clause of its call; `edits/a_failure_is_told_as_calm`, `edits/a_free_seat_takes_octets`,
+        // `edits/failures_are_those_of_a_tree_of_its_own`.
+        // Witness of made: relations, each the clause of its call; `edits/calls_end_after_a_failure`, `edits/a_failure_is_told_as_calm`,
+        // `edits/no_call_is_told_as_calm`, `edits/all_octets_are_told_as_taken`.
         ensures made { IfOk result (λ played. ArePlayed played.calm (cues_of cues.now) (gifts_of played.gifts.items) (Self.server self.old) (Self.server self.new)) }
 
         // Up to the first call in which something failed they give what the definitions say.
+        // Witness of plays: equations of gifts, map and sessions; `edits/a_turn_is_made_in_the_first_seat`.
+        // Witness of plays: equations of gifts and view; `edits/a_cue_is_skipped`, `edits/no_list_is_given`.
         ensures plays { IfOk result (λ played. PlaysAs played.calm (cues_of cues.now) (gifts_of played.gifts.items) (Self.server self.old) (Self.server self.new)) }
 
         // Where each login that succeeds is to one root, they keep the rest of the map apart.
+        // Witness of apart: an equation of the gifts, and of the map outside of the root.
         ensures apart { IfOk result (λ played. KeepsApart played.calm (cues_of cues.now) (gifts_of played.gifts.items) (Self.server self.old) (Self.server self.new)) }
 
+        // Witness of begun: the same relations, for the turns that were made.
+        // Witness of begun: the same relations, for the calls that were made.
         ensures begun { OnErr result (PlaysSome (cues_of cues.now) (Self.server self.old) (Self.server self.new)) }
 
         // Where no account has a right to change, they leave the map as it was, whatever failed in them or before one of them.
+        // Witness of looks: an equation of the map, where no account has a right to change; its law is `far` of `lookers_leave_the_map`
+        // (`laws_server`).
         ensures looks { KeepsTheMap (Self.server self.old) (Self.server self.new) };
 }
 
@@ -102,6 +113,7 @@ pub fn keep<A: Allocator + Copy>(gifts: &mut Vec<Gift<A>, A>, gift: Gift<A>)
 
 /// Whether neither count has moved.
 pub fn is_same(old: Counts, new: Counts) -> bool
+    // Witness: an equation of the counts, and what follows where they differ.
     ensures same { result ≡ true → new ≡ old }
     ensures moved { result ≡ false → new ≢ old }
 {

@@ -26,17 +26,24 @@ impl<A: Allocator + Copy, T: SureTree<A>, F: Lends<A, T>> Sessions<A, T, F> {
     ///
     /// Refused memory for what they give, the turns before stand.
     pub fn play(&mut self, turns: &[Turn<A>]) -> Result<Played<A>, AllocError>
+        // Witness of made: as of `play`.
+        // Witness of made: as of `play`.
         ensures made { IfOk result (λ played. AreTaken played.calm (turns_of turns.now) (gifts_of played.gifts.items) (slots_of T.table T.failures F.Far.server self.old) (slots_of T.table T.failures F.Far.server self.new)) }
 
         // Up to the first turn in which something failed they give what the definitions of several sessions say.
+        // Witness of plays: as of `play`.
+        // Witness of plays: as of `play`.
         ensures plays { IfOk result (λ played. PlaysSeveral played.calm (turns_of turns.now) (gifts_of played.gifts.items) (slots_of T.table T.failures F.Far.server self.old) (slots_of T.table T.failures F.Far.server self.new)) }
 
         // Each session is given what a server of its own gives, whose map is exchanged before each of its calls.
+        // Witness of own, unseen: equations of what is given.
         ensures own { IfOk result (λ played. EachIsOwn played.calm (turns_of turns.now) (gifts_of played.gifts.items) (slots_of T.table T.failures F.Far.server self.old)) }
 
         // Those below one root see nothing of others below roots that have no path with it in common.
         ensures unseen { IfOk result (λ played. KeepsCompany played.calm (turns_of turns.now) (gifts_of played.gifts.items) (slots_of T.table T.failures F.Far.server self.old)) }
 
+        // Witness of begun: the same relations, for the turns that were made.
+        // Witness of begun: the same relations, for the calls that were made.
         ensures begun { OnErr result (TakesSome (turns_of turns.now) (slots_of T.table T.failures F.Far.server self.old) (slots_of T.table T.failures F.Far.server self.new)) }
     {
         let played = self.play_all(turns)?;

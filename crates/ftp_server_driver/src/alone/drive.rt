@@ -32,6 +32,7 @@ where
     P: Ports,
     C: Watch,
     O: Watches<F>,
+    // Witness: `a_broken_connection_is_not_told`, `another_cause_is_told`, those of `ftp_driver`; each read and write failed in turn: `rows_ends`.
     ensures { Drives control.new.failed (beside R.remaining W.contents (held (timed F.server C.told clocked.old) (no_channel (P.history ports.old))) control.old) (beside R.remaining W.contents (held (timed F.server C.told clocked.new) (no_channel (P.history ports.new))) control.new) result }
 {
     let mut data = Data::new();

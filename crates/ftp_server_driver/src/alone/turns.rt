@@ -37,8 +37,11 @@ where
     P: Ports,
     C: Watch,
     O: Watches<F>,
+    // Witness of drives: `what_would_wait_counts_as_over`, `a_data_connection_is_left_between_two_turns`, `one_that_broke_off_is_not_told`.
     ensures drives { DrivesOn most control.new.failed (beside R.remaining W.contents (held (timed F.server C.told clocked.old) (channel_at P.Stream.remaining P.Stream.contents (P.history ports.old) data.old [])) control.old) (beside R.remaining W.contents (held (timed F.server C.told clocked.new) (channel_at P.Stream.remaining P.Stream.contents (P.history ports.new) data.new [])) control.new) result }
+    // Witness of made: as of `drives`; `lent_turns` of `ftp_server_driver`.
     ensures made { MakesTurns most control.new.failed (beside R.remaining W.contents (held (timed F.server C.told clocked.old) (channel_at P.Stream.remaining P.Stream.contents (P.history ports.old) data.old [])) control.old) (beside R.remaining W.contents (held (timed F.server C.told clocked.new) (channel_at P.Stream.remaining P.Stream.contents (P.history ports.new) data.new [])) control.new) result }
+    // Witness of later: as of `drive_on` of `ftp_driver`.
     ensures later { IsLater (P.waits ports.new) result }
 {
     let turned = drive_on::<Serves<A, T>, Clocked<F, C, O>, R, W, P>(

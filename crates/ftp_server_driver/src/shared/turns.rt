@@ -44,7 +44,10 @@ where
     P: Ports,
     C: Watch,
     O: Watches<F>,
+    // Witness of turn: `edits/turns_are_made_with_a_tree_of_its_own`, `a_tree_that_was_lent_is_kept`, `what_others_changed_is_not_asked`,
+    // `what_stands_is_told_as_unknown`, `what_stood_before_is_told_on`, `what_stands_is_compared_with_itself`; `turns_are_one_drive`.
     ensures turn { TakesTurn (record { most = most; lent = holding (T.table tree.old) (T.failures tree.old); stood = stood.old; stays = still_stands stood.old (standing_of (exchanged (T.table tree.old) (F.Far.server clocked.old.server).view).session); left = holding (T.table tree.new) (T.failures tree.new); stands = stood.new; failed = control.new.failed; went = result }) (beside R.remaining W.contents (held (timed F.Far.server C.told clocked.old) (channel_at P.Stream.remaining P.Stream.contents (P.history ports.old) data.old [])) control.old) (beside R.remaining W.contents (held (timed F.Far.server C.told clocked.new) (channel_at P.Stream.remaining P.Stream.contents (P.history ports.new) data.new [])) control.new) }
+    // Witness of later: as of `drive_some` of `ftp_server_driver`.
     ensures later { IsLater (P.waits ports.new) result }
 {
     clocked.server.lend(tree, *stood);
