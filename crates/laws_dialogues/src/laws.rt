@@ -5,23 +5,18 @@ ghost use Rattle.laws_dialogues.specs.Operations.{EachLeadsAsRun, EachStaysSound
 
 /// Each turn of the login, whatever it is answered, leads on to where the client has entered and nothing is under way.
 pub fn login_leads()
-    // Witness: both ends from the greeting on to the state where the direct run begins `the_last_reply_of_a_login_may_be_331`.
     ensures { LoginLeads }
 {}
 
 /// Every operation without a transfer that can be sent leads to the answer and the state of the direct run, refused or done, logged in
 /// or not, and begun while the login goes on too; and it leaves a state from which the next does so again.
 pub fn operations_lead()
-    // Witness of each: an operation's commands and replies to its answer and state in the direct run `every_operation_is_without_a_transfer`.
     ensures each { EachLeadsAsRun }
-    // Witness of turns: the same, from the login on .
     ensures turns { OperationLeads }
-    // Witness of sound: sound states to the direct run .
     ensures sound { EachStaysSound }
 {}
 
 /// What a client holds under a download does not depend on which comes first, a reply or an octet, the end or the break of the link.
 pub fn downloads_commute()
-    // Witness: replies of a download to octets and the end of its link, in either order .
     ensures { DownloadsCommute }
 {}

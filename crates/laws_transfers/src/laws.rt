@@ -8,49 +8,40 @@ ghost use Rattle.laws_transfers.specs.Refusals.{TriesAgree, TriesAreOfWorlds, Tr
 /// One server's drive and drives of one client that put and fetched whole files and listings over passive data connections, of which nothing failed, leave what
 /// a list of the world's events leads to from the beginning.
 pub fn transfers_are_of_worlds()
-    // Witness: actions of both in an order, with files put and fetched, to events of a world from the beginning.
     ensures { TransfersAreOfWorlds }
 {}
 
 /// At every moment reports and map agree with the operations that were begun, and so they do where the control connection ends then.
 pub fn transfers_agree()
-    // Witness of standing: the same actions, to agreement of reports and map with what was begun.
     ensures standing { TransfersAgree }
-    // Witness of parting: the same, to agreement where the control connection ends for both then, in the midst of a transfer or not.
     ensures parting { TransfersPartingAgree }
 {}
 
 /// Where each operation has its report, reports and map are those of the operations run directly.
 pub fn transfers_are_the_direct_run()
-    // Witness: the same actions with all reports, to the direct run.
     ensures { TransfersAreTheDirectRun }
 {}
 
 /// Where a server's drive is over since the client left, and each drive of the client gave the answer of the operation that was begun before it, these
 /// answers and the map that is left are those of the operations run directly.
 pub fn transfers_over_are_the_direct_run()
-    // Witness: drives by their contracts, over since the client left, to the direct run.
     ensures { TransfersOverAreTheDirectRun }
 {}
 
 /// Where the program of a client that is logged in wrote QUIT after its last drive, and the server's drive is over after that, the answers and the map that is
 /// left are those of the operations run directly.
 pub fn transfers_that_quit_are_the_direct_run()
-    // Witness: drives by their contracts, over since QUIT was heard, to the direct run.
     ensures { TransfersThatQuitAreTheDirectRun }
 {}
 
 /// So it is where dials of the client fail: the world has a mark of each operation whose dial failed, and no other.
 pub fn transfers_of_which_dials_fail_are_of_worlds()
-    // Witness: actions of both of which dials fail, to events of a world with just their marks.
     ensures { TriesAreOfWorlds }
 {}
 
 /// At every moment reports and map agree with the operations that were begun, with these marks: an operation is not opened only where its dial failed. So they
 /// do where the control connection ends then.
 pub fn transfers_of_which_dials_fail_agree()
-    // Witness of standing: the same actions, to agreement with these marks.
     ensures standing { TriesAgree }
-    // Witness of parting: the same, where the control connection ends for both then.
     ensures parting { TriesPartingAgree }
 {}

@@ -5,40 +5,32 @@ ghost use Rattle.laws_world.specs.Still.{BlockedIsNotQuiet, QuietIsStill, Restin
 /// Where no link was refused or broke, the control connection has not ended, no upload over breaks was begun and each operation has its
 /// report, agreement is the direct run.
 pub fn unmarked_agreement_is_the_direct_run()
-    // Witness: agreement without marks and cutoff to the answers of `ftp_direct` `what_is_unopened_has_no_mark`.
     ensures { UnmarkedIsDirect }
 {}
 
 /// The headline follows from agreement after every event, and from what holds where nothing is in flight: breaks, refusals, an end of the
 /// control connection and uploads over breaks are in both, and left out of it, since the direct run knows none of them.
 pub fn headline_follows_from_agreement()
-    // Witness: the claim at any moment and that of a quiet world to the headline `a_break_is_honest`.
     ensures { HeadlineFollows }
 {}
 
 /// A Peek that is neither Unopened nor Lost has the direct answer, unless its link broke before its octets were settled.
 pub fn peek_is_direct()
-    // Witness: how a Peek can have fared to the direct answer `a_peek_may_be_cut_behind_its_octets`.
     ensures { PeekIsDirect }
 {}
 
 /// Whatever an upload over breaks meets, it makes at most sixteen tries.
 pub fn tries_are_few()
-    // Witness: the run of an upload over breaks to how often it tries .
     ensures { TriesAreFew }
 {}
 
 /// An upload over breaks that reports Done has put exactly its octets, and changed nothing else, whatever broke.
 pub fn done_is_whole()
-    // Witness: the run of an upload over breaks that reports Done to the file that it leaves `a_cut_upload_loses_what_was_kept`;
-    // `the_rest_is_all_octets` of `ftp_client_model`.
     ensures { DoneIsWhole }
 {}
 
 /// Where nothing moves that takes no memory, a world is quiet, or a queue is full whose receiver may not take.
 pub fn still_is_quiet()
-    // Witness: where nothing moves that takes no memory to what is quiet, or has a full queue that is refused `a_delivery_leaves_room_for_one`
-    // (quiet).
     ensures quiet { StillIsQuiet }
     ensures blocked { BlockedIsNotQuiet }
     ensures back { QuietIsStill }

@@ -3,30 +3,25 @@ ghost use Rattle.laws_world.specs.Rows.{PeekReports, DownloadBreaks, CutUpload, 
 
 /// The greeting, USER, 331, PASS and 230 go from end to end, octet by octet.
 pub fn login()
-    // Witness: both ends, octet by octet, to the reports and to what an upload leaves .
     ensures { SessionLogsIn }
 {}
 
 /// A download, its end and the 226.
 pub fn whole_download()
-    // Witness: as of `login`.
     ensures { WholeDownload }
 {}
 
 /// A download that breaks behind a CR.
 pub fn broken_download()
-    // Witness: as of `login`.
     ensures { DownloadBreaks }
 {}
 
 /// What an upload leaves that is cut behind a CR.
 pub fn cut_upload()
-    // Witness: as of `login`.
     ensures { CutUpload }
 {}
 
 /// A Peek of one octet: ABOR, 426, 226 and the server's close or a break.
 pub fn peek()
-    // Witness: as of `login`.
     ensures { PeekReports }
 {}

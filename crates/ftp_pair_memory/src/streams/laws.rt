@@ -3,12 +3,10 @@ ghost use Rattle.ftp_pair_memory.specs.streams.Claims.{FarTurnsHappen, NearTurns
 
 /// What a client did in some turns beside data connections in memory can happen in that order.
 pub fn near_turns_happen()
-    // Witness: laws of definitions; `edits/one_is_accepted_that_was_not_dialled`.
     ensures { NearTurnsHappen }
 {}
 
 /// So can what a server did.
 pub fn far_turns_happen()
-    // Witness: as of `near_turns_happen`.
     ensures { FarTurnsHappen }
 {}

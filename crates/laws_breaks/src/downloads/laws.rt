@@ -6,9 +6,7 @@ ghost use Rattle.laws_breaks.specs.downloads.Over.{OverDrivesAgree};
 /// What a client of a download holds does not depend on what comes to it first: octets of the control connection, or octets of the data connection and its
 /// break.
 pub fn downloads_break_late()
-    // Witness of octets: control octets heard and then octets of a download, to those octets first.
     ensures octets { HearsLate }
-    // Witness of broken: the same and then a break, to octets and the break first.
     ensures broken { BreaksLate }
 {}
 
@@ -16,21 +14,17 @@ pub fn downloads_break_late()
 /// after it gave all, or for both, in either order, and Peeks for the client first, leave what a list of the world's events leads to from the beginning, with
 /// marks of these breaks.
 pub fn breaks_are_of_worlds()
-    // Witness: actions of both of which downloads break, to events of a world with marks of these breaks.
     ensures { BreaksAreOfWorlds }
 {}
 
 /// At every moment reports and map agree with the operations that were begun, with these marks, and so they do where the control connection ends then.
 pub fn breaks_agree()
-    // Witness of standing: the same actions, to agreement with these marks.
     ensures standing { BreaksAgree }
-    // Witness of parting: the same, where the control connection ends for both then.
     ensures parting { BreaksPartingAgree }
 {}
 
 /// Where a server's drive is over since the client left, and each drive of the client gave the answer of the operation that was begun before it, these answers
 /// and the map that is left agree with the operations, with these marks.
 pub fn over_drives_agree()
-    // Witness: drives by their contracts, over since the client left, to agreement with these marks.
     ensures { OverDrivesAgree }
 {}

@@ -3,6 +3,5 @@ ghost use Rattle.laws_drivers.specs.events.Bare.{NoneIsBare};
 
 /// Where no data connection stands, as where a call begins a drive, no octet of one is on its way or in hand.
 pub fn none_is_bare()
-    // Witness: where a call begins a drive, to what laws of both drives ask of its data connection.
     ensures { NoneIsBare }
 {}

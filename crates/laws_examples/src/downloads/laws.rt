@@ -5,24 +5,13 @@ ghost use Rattle.laws_examples.specs.downloads.Example.{ClientFirstAgrees, Clien
 /// which the server wrote one octet, was told that the data connection broke, said 426 and reset it; the client heard the 426, and only then took that octet and
 /// was told of the break. It reports `Broken` with that octet; of the file alone that and the map that is left agree with the Get, with marks of that break.
 pub fn a_server_is_told_first()
-    // Witness of over: every such map and moments, to drives that are over, of which the client was told last, and on the way stood as the server
-    // alone was told.
-    // Witness of over: every map with a root and the file, and every moments, to drives that are over, and on the way stood as the server alone was
-    // told.
     ensures over { ServerFirstIsOver }
-    // Witness of agrees: every moments of the clock, to such drives of a map of the file alone whose answer agrees.
-    // Witness of agrees: every moments of the clock, to such drives of a map of the file alone whose answer agrees.
     ensures agrees { ServerFirstAgrees }
 {}
 
 /// So they did where the client took one octet, was told of the break and reset the data connection; then the server gave the other octet, which nobody reads,
 /// and said 226, and was told of nothing. The answer is the same.
 pub fn a_client_is_told_first()
-    // Witness of over: every map with a root, the file and room, and every moments, to drives that are over, and on the way stood as the client alone
-    // was told.
-    // Witness of over: every such map and moments, to drives that are over, and on the way stood as the client alone was told.
     ensures over { ClientFirstIsOver }
-    // Witness of agrees: every moments of the clock, to such drives of a map of the file alone whose answer agrees.
-    // Witness of agrees: every moments of the clock, to such drives of a map of the file alone whose answer agrees.
     ensures agrees { ClientFirstAgrees }
 {}

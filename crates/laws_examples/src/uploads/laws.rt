@@ -6,30 +6,20 @@ ghost use Rattle.laws_examples.specs.uploads.Example.{ClientFirstAgrees, ClientF
 /// was told of the break, installed it and said 426. The client reports `Broken`; of the file alone that and the map that is left agree with the Put, with
 /// marks of that break.
 pub fn a_client_is_told_first()
-    // Witness of over: as of `a_client_is_told_first`.
-    // Witness of over: as of `a_client_is_told_first`.
     ensures over { ClientFirstIsOver }
-    // Witness of agrees: as of `a_client_is_told_first`.
-    // Witness of agrees: as of `a_client_is_told_first`.
     ensures agrees { ClientFirstAgrees }
 {}
 
 /// So they did where the client wrote both and ended the data connection, and was told of nothing; the server took one, was told of the break, installed that
 /// and said 426; nobody reads the other. The answer is the same.
 pub fn a_server_alone_is_told()
-    // Witness of over: every such map and moments, to drives that are over, of which the server alone was told, and on the way stood as none was.
     ensures over { ServerAloneIsOver }
-    // Witness of agrees: every moments of the clock, to such drives of a map of the file alone whose answer agrees.
     ensures agrees { ServerAloneAgrees }
 {}
 
 /// So they did where the client gave and wrote one octet, and the server took it, was told of the break, installed it and said 426; only then the client,
 /// which had the other to give, was told of the break too, and reset the data connection. The answer is the same.
 pub fn a_server_is_told_first()
-    // Witness of over: as of `a_server_is_told_first`.
-    // Witness of over: as of `a_server_is_told_first`.
     ensures over { ServerFirstIsOver }
-    // Witness of agrees: as of `a_server_is_told_first`.
-    // Witness of agrees: as of `a_server_is_told_first`.
     ensures agrees { ServerFirstAgrees }
 {}
