@@ -8,12 +8,14 @@ use clap::ArgMatches;
 use std::alloc::Global;
 use std::io;
 use std::io::Eprint;
-use tool_command::{PLACE_OPTION, Refusal, asked_of, fetch_task_of, openings_of, url_in, urls_in};
-use tool_get_put::{Each, Pair, Task};
+use tool_command::{
+    PLACE_OPTION, UsageError, asked_of, fetch_task_of, openings_of, url_in, urls_in,
+};
+use tool_get_put::{Each, FilePair, PlaceTask};
 use tool_job::{Simple, Target};
+use tool_location::UrlPlace;
 use tool_session::Openings;
 use tool_terminal::{Shown, Status};
-use tool_location::UrlPlace;
 
 /// Does what a subcommand asks for at one place, where standard error may be a terminal.
 pub(crate) fn ask<R>(
@@ -46,7 +48,7 @@ fn ask_at<R: Programs + Eprint>(
 ) -> io::Result<u8> {
     match fetch_task_of(name, words) {
         Some(task) => number_of(rt.fetch(asked, task)),
-        None => refuse(rt, Refusal::Number),
+        None => refuse(rt, UsageError::Number),
     }
 }
 
@@ -85,11 +87,11 @@ fn ask_where<'a, R: Programs + Eprint>(
         return refuse(rt, refusal);
     }
     match fetch_task_of(name, words) {
-        Some(Task::Simple(Simple::Remove)) => {
+        Some(PlaceTask::Simple(Simple::Remove)) => {
             number_of(remove_all(rt, alloc, words, urls, openings))
         }
         Some(task) => number_of(ask_all(rt, words, urls, openings, task)),
-        None => refuse(rt, Refusal::Number),
+        None => refuse(rt, UsageError::Number),
     }
 }
 
@@ -99,7 +101,7 @@ fn ask_all<'a, R: Programs + Eprint>(
     words: &'a ArgMatches<'_>,
     urls: &'a [Option<UrlPlace>],
     openings: &'a Openings,
-    task: Task<'_>,
+    task: PlaceTask<'_>,
 ) -> io::Result<Status> {
     let mut worst = Status::Done;
     let mut until = None;
@@ -132,9 +134,9 @@ fn remove_all<'a, R: Programs + Eprint>(
             return Ok(Status::BadWords);
         };
         if asked.at_once < 2 || places.len() < 2 {
-            return ask_all(rt, words, urls, openings, Task::Simple(Simple::Remove));
+            return ask_all(rt, words, urls, openings, PlaceTask::Simple(Simple::Remove));
         }
-        let pair = Pair {
+        let pair = FilePair {
             path: String::from_str(alloc, asked.place.path)?,
             file: String::new(alloc),
         };

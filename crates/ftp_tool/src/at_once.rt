@@ -2,7 +2,7 @@
 use crate::programs::Programs;
 use std::alloc::Global;
 use std::io;
-use tool_get_put::{Each, Pair};
+use tool_get_put::{Each, FilePair};
 use tool_job::Target;
 use tool_terminal::Status;
 
@@ -11,7 +11,7 @@ pub(crate) struct Batch<'a> {
     each: Each<'a>,
     /// What is asked, but for the path of a file; none while there are no files.
     asked: Option<Target<'a>>,
-    pairs: Vec<Pair, Global>,
+    pairs: Vec<FilePair, Global>,
 }
 
 /// By hand: a derived drop is proved again, part by part, wherever one is let go.
@@ -40,7 +40,7 @@ impl<'a> Batch<'a> {
         &mut self,
         rt: &R,
         asked: Target<'a>,
-        pair: Pair,
+        pair: FilePair,
     ) -> io::Result<Status> {
         let is_other = match &self.asked {
             Some(before) => !is_same(before, &asked),

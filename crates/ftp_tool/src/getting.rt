@@ -10,9 +10,9 @@ use std::alloc::Global;
 use std::io;
 use std::io::Eprint;
 use tool_command::{
-    PLACE_OPTION, Refusal, asked_of, each_got, get_task_of, is_matched, openings_of, urls_in,
+    PLACE_OPTION, UsageError, asked_of, each_got, get_task_of, is_matched, openings_of, urls_in,
 };
-use tool_get_put::Pair;
+use tool_get_put::FilePair;
 use tool_job::{Target, Targets};
 use tool_location::{UrlPlace, place_for, says_directory};
 use tool_session::Openings;
@@ -71,7 +71,7 @@ fn claim_all<'a>(
     places: &[&'a str],
     urls: &'a [Option<UrlPlace>],
     goal: Goal<'a>,
-) -> Result<(), Refusal<'a>> {
+) -> Result<(), UsageError<'a>> {
     if goal.is_alone {
         return Ok(());
     }
@@ -166,7 +166,7 @@ fn get_at_once<'a, R: Programs + Eprint>(
         let before = batch.done(rt)?;
         return Ok(before.worse(get_told(rt, alloc, words, &asked, goal, 2)?));
     }
-    let pair = Pair {
+    let pair = FilePair {
         path: String::from_str(alloc, asked.place.path)?,
         file: place_for(alloc, goal.into, goal.target, asked.place.path)?,
     };

@@ -23,7 +23,7 @@ use std::random::RandomSource;
 use std::time::Clock;
 use std::{env, io};
 use tool_command::{command, told_of};
-use tool_terminal::{QuietHandle, Status, Told};
+use tool_terminal::{QuietHandle, Status, Verbosity};
 
 fn main(rt: HostRuntime) -> ExitCode {
     ExitCode::from(run(&rt, &mut rt.stderr()).unwrap_or(Status::Failed.number()))
@@ -32,7 +32,12 @@ fn main(rt: HostRuntime) -> ExitCode {
 /// Who does what a command line asks for.
 trait Machine: Env + Print + Eprint + AllocGlobal {
     /// Does what these words ask for, and tells of it on standard error what is to be told.
-    fn obey_words<F>(&self, words: &ArgMatches<'_>, told: Told, faults: &mut F) -> io::Result<u8>
+    fn obey_words<F>(
+        &self,
+        words: &ArgMatches<'_>,
+        told: Verbosity,
+        faults: &mut F,
+    ) -> io::Result<u8>
     where
         F: Write + IsTerminal;
 }
@@ -51,7 +56,12 @@ where
         + Clone
         + Drop,
 {
-    fn obey_words<F>(&self, words: &ArgMatches<'_>, told: Told, faults: &mut F) -> io::Result<u8>
+    fn obey_words<F>(
+        &self,
+        words: &ArgMatches<'_>,
+        told: Verbosity,
+        faults: &mut F,
+    ) -> io::Result<u8>
     where
         F: Write + IsTerminal,
     {

@@ -9,12 +9,12 @@ use std::alloc::Global;
 use std::io;
 use std::io::{Eprint, IsTerminal, Write};
 use tool_command::{
-    Program, Refusal, mirror_of, openings_of, program_of, rounds_of, script_server_of,
+    Program, UsageError, mirror_of, openings_of, program_of, rounds_of, script_server_of,
     script_user_of, serving_of, settings_of, task_of, url_in,
 };
+use tool_location::UrlPlace;
 use tool_session::Openings;
 use tool_terminal::Status;
-use tool_location::UrlPlace;
 
 /// Does what the words of a command line ask for.
 pub(crate) fn obey<R, F>(
@@ -28,7 +28,7 @@ where
     F: Write + IsTerminal,
 {
     let Some((name, inner)) = words.subcommand() else {
-        return refuse(rt, Refusal::Number);
+        return refuse(rt, UsageError::Number);
     };
     match program_of(name) {
         Program::Serve => serve(rt, inner),
@@ -61,7 +61,7 @@ where
 {
     match task_of(words) {
         Some(task) => Ok(rt.perform(task, faults)),
-        None => refuse(rt, Refusal::Number),
+        None => refuse(rt, UsageError::Number),
     }
 }
 
@@ -73,7 +73,7 @@ where
 {
     match settings_of(words) {
         Some(settings) => Ok(rt.play_pair(settings, faults).number()),
-        None => refuse(rt, Refusal::Number),
+        None => refuse(rt, UsageError::Number),
     }
 }
 

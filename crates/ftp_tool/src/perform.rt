@@ -5,13 +5,13 @@ ghost use Rattle.ftp_tool.specs.Perform.{Does, BreaksOff};
 use std::alloc::Allocator;
 use std::io::{Read, Write};
 use tool_codec::{facts, frame};
-use tool_command::Task;
+use tool_command::CommandTask;
 use tool_dialogue::dialogue;
 
 /// Does a task and gives the exit status; `faults` is told the fault of a wire, and nothing else.
 pub fn perform<A, R, W, F>(
     alloc: A,
-    task: Task,
+    task: CommandTask,
     reader: &mut R,
     writer: &mut W,
     faults: &mut F,
@@ -27,8 +27,10 @@ where
         (F.contents faults.old) (F.contents faults.new) }
 {
     match task {
-        Task::Dialogue { piece } => dialogue(alloc, reader, writer, piece),
-        Task::Facts => facts(alloc, reader, writer),
-        Task::Frame { form, direction } => frame(alloc, form, direction, reader, writer, faults),
+        CommandTask::Dialogue { piece } => dialogue(alloc, reader, writer, piece),
+        CommandTask::Facts => facts(alloc, reader, writer),
+        CommandTask::Frame { form, direction } => frame(
+            alloc, form, direction, reader, writer, faults,
+        ),
     }
 }

@@ -8,11 +8,11 @@ use std::net::{Net, TcpListener, TcpStream};
 use std::random::RandomSource;
 use std::time::Clock;
 use std::{fs, io};
-use tool_command::Task;
-use tool_get_put::{Each, Pair};
+use tool_command::CommandTask;
+use tool_get_put::{Each, FilePair};
 use tool_job::Target;
 use tool_login::User;
-use tool_mirror_copy::Mirror;
+use tool_mirror_copy::MirrorRequest;
 use tool_pair::PairSettings;
 use tool_serve::Serving;
 use tool_session::ServerAddress;
@@ -32,15 +32,20 @@ pub(crate) trait Programs {
     /// A user is named where the script says none.
     fn run(&self, server: ServerAddress<'_>, user: Option<User<'_>>) -> io::Result<Status>;
 
-    fn mirror(&self, asked: Mirror<'_>) -> io::Result<Status>;
+    fn mirror(&self, asked: MirrorRequest<'_>) -> io::Result<Status>;
 
-    fn fetch(&self, asked: &Target<'_>, task: tool_get_put::Task<'_>) -> io::Result<Status>;
+    fn fetch(&self, asked: &Target<'_>, task: tool_get_put::PlaceTask<'_>) -> io::Result<Status>;
 
     /// Of several files of one server.
-    fn fetch_each(&self, asked: &Target<'_>, each: Each<'_>, pairs: &[Pair]) -> io::Result<Status>;
+    fn fetch_each(
+        &self,
+        asked: &Target<'_>,
+        each: Each<'_>,
+        pairs: &[FilePair],
+    ) -> io::Result<Status>;
 
     /// Between the standard streams.
-    fn perform<F: Write>(&self, task: Task, faults: &mut F) -> u8;
+    fn perform<F: Write>(&self, task: CommandTask, faults: &mut F) -> u8;
 
     /// Whether a folder of this machine has this name; `-` is standard output.
     fn is_folder(&self, name: &str) -> bool;
@@ -91,19 +96,24 @@ where
         }
     }
 
-    fn mirror(&self, asked: Mirror<'_>) -> io::Result<Status> {
+    fn mirror(&self, asked: MirrorRequest<'_>) -> io::Result<Status> {
         tool_mirror::mirror(self, asked)
     }
 
-    fn fetch(&self, asked: &Target<'_>, task: tool_get_put::Task<'_>) -> io::Result<Status> {
+    fn fetch(&self, asked: &Target<'_>, task: tool_get_put::PlaceTask<'_>) -> io::Result<Status> {
         tool_get_put::fetch(self, asked, task)
     }
 
-    fn fetch_each(&self, asked: &Target<'_>, each: Each<'_>, pairs: &[Pair]) -> io::Result<Status> {
+    fn fetch_each(
+        &self,
+        asked: &Target<'_>,
+        each: Each<'_>,
+        pairs: &[FilePair],
+    ) -> io::Result<Status> {
         tool_get_put::fetch_each(self, asked, each, pairs)
     }
 
-    fn perform<F: Write>(&self, task: Task, faults: &mut F) -> u8 {
+    fn perform<F: Write>(&self, task: CommandTask, faults: &mut F) -> u8 {
         let mut reader = self.rt.reader();
         perform(
             self.rt.alloc(),

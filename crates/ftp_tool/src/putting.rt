@@ -10,10 +10,10 @@ use std::alloc::Global;
 use std::io;
 use std::io::Eprint;
 use tool_command::{PLACE_OPTION, asked_of, openings_of, url_in};
-use tool_get_put::{Each, Pair, Task};
+use tool_get_put::{Each, FilePair, PlaceTask};
 use tool_job::Target;
-use tool_terminal::Status;
 use tool_location::{Location, place_for};
+use tool_terminal::Status;
 
 /// Does what `put` asks for, file by file, each over a control connection of its own; the status is the worst.
 pub(crate) fn put<R>(
@@ -85,7 +85,7 @@ fn put_at_once<R: Programs>(
     let mut batch = Batch::new(alloc, Each::Put);
     let mut worst = Status::Done;
     for file in files {
-        let pair = Pair {
+        let pair = FilePair {
             path: place_for(alloc, into, asked.place.path, *file)?,
             file: String::from_str(alloc, *file)?,
         };
@@ -110,5 +110,5 @@ fn put_one<R: Programs>(
         },
         ..*asked
     };
-    rt.fetch(&asked, Task::Put(file))
+    rt.fetch(&asked, PlaceTask::Put(file))
 }

@@ -2,15 +2,15 @@
 use std::alloc::AllocError;
 use std::io;
 use std::io::Eprint;
-use tool_command::{BadValue, Refusal};
+use tool_command::{BadValue, UsageError};
 use tool_terminal::{Shown, Status};
 
 /// Tells why the words of a command line ask for nothing.
-pub(crate) fn refuse<R: Eprint>(rt: &R, refusal: Refusal<'_>) -> io::Result<u8> {
+pub(crate) fn refuse<R: Eprint>(rt: &R, refusal: UsageError<'_>) -> io::Result<u8> {
     match refusal {
-        Refusal::Memory => return Err(AllocError.into()),
-        Refusal::Value(bad) => tell_value(rt, bad)?,
-        Refusal::Number => rt.eprintln("error: a number is decimal digits alone")?,
+        UsageError::Memory => return Err(AllocError.into()),
+        UsageError::Value(bad) => tell_value(rt, bad)?,
+        UsageError::Number => rt.eprintln("error: a number is decimal digits alone")?,
     }
     Ok(Status::BadWords.number())
 }

@@ -5,7 +5,7 @@ ghost use Rattle.tool_location.specs.Placing.{says_directory};
 use clap::ArgMatches;
 use std::alloc::{AllocError, Global};
 use std::io;
-use tool_command::{BadValue, PLACE_OPTION, Refusal, asked_of, is_matched};
+use tool_command::{BadValue, PLACE_OPTION, UsageError, asked_of, is_matched};
 use tool_job::{Target, Targets, source_of};
 use tool_location::{Location, UrlPlace, is_url, last_part, place_for, says_directory};
 use tool_session::Openings;
@@ -22,12 +22,12 @@ pub(crate) fn sources_of<'a, 'b>(words: &'b [&'a str]) -> (&'b [&'a str], &'a st
 /// The files that `put` reads, and the place where they go: the last word. Fails where there are not both.
 pub(crate) fn uploads_of<'a, 'b>(
     words: &'b [&'a str],
-) -> Result<(&'b [&'a str], &'a str), Refusal<'a>>
+) -> Result<(&'b [&'a str], &'a str), UsageError<'a>>
     ensures { IfOk result (λ said. (words.entry.now ≡ said.0.now ++ (said.1 ∷ [])) × (0 < length said.0.now)) }
 {
     match words {
         [files @ .., place] if !files.is_empty() => Ok((files, *place)),
-        _ => Err(Refusal::Value(BadValue {
+        _ => Err(UsageError::Value(BadValue {
             option: PLACE_OPTION,
             value: words.first().copied().unwrap_or(""),
             wanted: "files are wanted, and after them the place where they go",
@@ -59,7 +59,7 @@ pub(crate) fn check_places<'a>(
     urls: &'a [Option<UrlPlace>],
     openings: &'a Openings,
     into: bool,
-) -> Result<(), Refusal<'a>> {
+) -> Result<(), UsageError<'a>> {
     for (place, url) in places.iter().zip(urls.iter()) {
         let asked = asked_of(words, *place, url.as_ref(), openings, false)?;
         if into {
@@ -78,7 +78,7 @@ pub(crate) fn check_targets<'a>(
     openings: &'a Openings,
     folder: &str,
     targets: &Targets,
-) -> Result<(), Refusal<'a>> {
+) -> Result<(), UsageError<'a>> {
     for (place, url) in places.iter().zip(urls.iter()) {
         let asked = asked_of(words, *place, url.as_ref(), openings, false)?;
         if is_matched(words, asked.place) {
@@ -87,7 +87,7 @@ pub(crate) fn check_targets<'a>(
         match claims(alloc, &asked, folder, targets) {
             Ok(true) => {}
             Ok(false) => return Err(overwrites(PLACE_OPTION, *place)),
-            Err(_) => return Err(Refusal::Memory),
+            Err(_) => return Err(UsageError::Memory),
         }
     }
     Ok(())
@@ -101,30 +101,30 @@ fn claims(alloc: Global, asked: &Target<'_>, folder: &str, targets: &Targets) ->
 }
 
 /// Fails where two files are different ones that would go under one name.
-pub(crate) fn check_uploads<'a>(alloc: Global, files: &[&'a str]) -> Result<(), Refusal<'a>> {
+pub(crate) fn check_uploads<'a>(alloc: Global, files: &[&'a str]) -> Result<(), UsageError<'a>> {
     let targets = Targets::new(alloc);
     for file in files {
         match targets.claim(last_part(*file), *file) {
             Ok(true) => {}
             Ok(false) => return Err(overwrites("<FILE>...", *file)),
-            Err(AllocError) => return Err(Refusal::Memory),
+            Err(AllocError) => return Err(UsageError::Memory),
         }
     }
     Ok(())
 }
 
 /// A word ends in the name in which one before it ends.
-fn overwrites<'a>(option: &'a str, word: &'a str) -> Refusal<'a> {
-    Refusal::Value(BadValue {
+fn overwrites<'a>(option: &'a str, word: &'a str) -> UsageError<'a> {
+    UsageError::Value(BadValue {
         option,
         value: word,
         wanted: "a word before it ends in the same name; will not overwrite just-created",
     })
 }
 
-fn check_name<'a>(word: &'a str, place: Location<'_>) -> Result<(), Refusal<'a>> {
+fn check_name<'a>(word: &'a str, place: Location<'_>) -> Result<(), UsageError<'a>> {
     if place.name().is_empty() {
-        return Err(Refusal::Value(BadValue {
+        return Err(UsageError::Value(BadValue {
             option: PLACE_OPTION,
             value: word,
             wanted: "a file's name is wanted, where the path ends in none",
@@ -134,13 +134,13 @@ fn check_name<'a>(word: &'a str, place: Location<'_>) -> Result<(), Refusal<'a>>
 }
 
 /// Whether uploads go into the directory of a path, each by its file's name; fails where they have none there, or are several and that is no directory.
-pub(crate) fn goes_into<'a>(path: &'a str, files: &[&'a str]) -> Result<bool, Refusal<'a>>
+pub(crate) fn goes_into<'a>(path: &'a str, files: &[&'a str]) -> Result<bool, UsageError<'a>>
     ensures { IfOk result (λ into. into ≡ says_directory path.entry.now) }
 {
     let into = says_directory(path);
     for file in files {
         if into && (*file == "-" || last_part(*file).is_empty()) {
-            return Err(Refusal::Value(BadValue {
+            return Err(UsageError::Value(BadValue {
                 option: "<FILE>...",
                 value: *file,
                 wanted: "a file's name is wanted, where the path is a directory's",
@@ -150,7 +150,7 @@ pub(crate) fn goes_into<'a>(path: &'a str, files: &[&'a str]) -> Result<bool, Re
     if into || files.len() < 2 {
         return Ok(into);
     }
-    Err(Refusal::Value(BadValue {
+    Err(UsageError::Value(BadValue {
         option: PLACE_OPTION,
         value: path,
         wanted: "several files go into a directory: a path that ends in / is wanted",

@@ -1,5 +1,5 @@
 // What a line says that is done by another hand, or that goes wrong from there on.
-use crate::memory_host::{MemoryHost, Trouble};
+use crate::memory_host::{HostTrouble, MemoryHost};
 use ftp_facts::Moment;
 use rows_base::{Paper, found, number, octets_of, split};
 use std::alloc::Global;
@@ -9,7 +9,7 @@ use std::io;
 const LAST_SECOND: u64 = 253_402_300_799;
 
 #[derive(Clone, Copy)]
-enum Action {
+enum HandAction {
     Write,
     Replace,
     Decay,
@@ -27,27 +27,27 @@ enum Action {
     Unknown,
 }
 
-const ACTIONS: &[(&'static [u8], Action)] = &[
-    (b"write", Action::Write),
-    (b"replace", Action::Replace),
-    (b"decay", Action::Decay),
-    (b"stamp", Action::Stamp),
-    (b"take", Action::Take),
-    (b"dir", Action::Dir),
-    (b"odd", Action::Odd),
-    (b"move", Action::Move),
-    (b"pass", Action::Pass),
-    (b"slow", Action::Slow),
-    (b"fails", Action::Fails),
-    (b"fails-late", Action::FailsLate),
-    (b"strays", Action::Strays),
-    (b"well", Action::GoesWell),
+const ACTIONS: &[(&'static [u8], HandAction)] = &[
+    (b"write", HandAction::Write),
+    (b"replace", HandAction::Replace),
+    (b"decay", HandAction::Decay),
+    (b"stamp", HandAction::Stamp),
+    (b"take", HandAction::Take),
+    (b"dir", HandAction::Dir),
+    (b"odd", HandAction::Odd),
+    (b"move", HandAction::Move),
+    (b"pass", HandAction::Pass),
+    (b"slow", HandAction::Slow),
+    (b"fails", HandAction::Fails),
+    (b"fails-late", HandAction::FailsLate),
+    (b"strays", HandAction::Strays),
+    (b"well", HandAction::GoesWell),
 ];
 
 /// Does in a folder what a line says, `write /f abc` or `fails 3`; where that fails, it is written why.
 pub fn do_so(alloc: Global, host: &MemoryHost, line: &[u8], paper: &mut Paper) {
     let (word, rest) = split(line);
-    let action = found(ACTIONS, word, Action::Unknown);
+    let action = found(ACTIONS, word, HandAction::Unknown);
     if let Some(trouble) = trouble_of(action, rest) {
         host.meet(trouble);
         return;
@@ -62,44 +62,47 @@ pub fn do_so(alloc: Global, host: &MemoryHost, line: &[u8], paper: &mut Paper) {
 }
 
 /// What goes wrong, if a action is to say that.
-fn trouble_of(action: Action, rest: &[u8]) -> Option<Trouble> {
+fn trouble_of(action: HandAction, rest: &[u8]) -> Option<HostTrouble> {
     match action {
-        Action::Fails => Some(Trouble::Fails(number(rest))),
-        Action::FailsLate => Some(Trouble::FailsLate(number(rest))),
-        Action::Strays => Some(Trouble::Strays(number(rest))),
-        Action::GoesWell => Some(Trouble::Nothing),
+        HandAction::Fails => Some(HostTrouble::Fails(number(rest))),
+        HandAction::FailsLate => Some(HostTrouble::FailsLate(number(rest))),
+        HandAction::Strays => Some(HostTrouble::Strays(number(rest))),
+        HandAction::GoesWell => Some(HostTrouble::Nothing),
         _ => None,
     }
 }
 
-fn done(alloc: Global, host: &MemoryHost, action: Action, rest: &[u8]) -> io::Result<()> {
+fn done(alloc: Global, host: &MemoryHost, action: HandAction, rest: &[u8]) -> io::Result<()> {
     let (place, rest) = split(rest);
     let place = octets_of(alloc, place)?;
     let place = text_of(place.as_slice())?;
     match action {
-        Action::Write => host.write_file(place, octets_of(alloc, rest)?.as_slice()),
-        Action::Replace => host.replace_file(place, octets_of(alloc, rest)?.as_slice()),
-        Action::Decay => host.decay(place, octets_of(alloc, rest)?.as_slice()),
-        Action::Stamp => host.stamp(
+        HandAction::Write => host.write_file(place, octets_of(alloc, rest)?.as_slice()),
+        HandAction::Replace => host.replace_file(place, octets_of(alloc, rest)?.as_slice()),
+        HandAction::Decay => host.decay(place, octets_of(alloc, rest)?.as_slice()),
+        HandAction::Stamp => host.stamp(
             place,
             Moment {
                 seconds: number(rest).min(LAST_SECOND),
             },
         ),
-        Action::Take => host.take(place),
-        Action::Dir => host.put_dir(place),
-        Action::Odd => host.put_odd(place),
-        Action::Move => host.move_to(place, text_of(rest)?),
-        Action::Pass => {
+        HandAction::Take => host.take(place),
+        HandAction::Dir => host.put_dir(place),
+        HandAction::Odd => host.put_odd(place),
+        HandAction::Move => host.move_to(place, text_of(rest)?),
+        HandAction::Pass => {
             host.pass(number(place.as_bytes()));
             Ok(())
         }
-        Action::Slow => {
+        HandAction::Slow => {
             host.slow(number(place.as_bytes()));
             Ok(())
         }
-        Action::Fails | Action::FailsLate | Action::Strays | Action::GoesWell | Action::Unknown =>
-            Err(io::Error::from(io::ErrorKind::InvalidInput)),
+        HandAction::Fails
+        | HandAction::FailsLate
+        | HandAction::Strays
+        | HandAction::GoesWell
+        | HandAction::Unknown => Err(io::Error::from(io::ErrorKind::InvalidInput)),
     }
 }
 

@@ -7,5 +7,5 @@ mod memory_host;
 mod memory_shelf;
 mod row;
 
-pub use memory_host::{MemoryFile, MemoryHost, MemoryPart, Trouble};
+pub use memory_host::{HostTrouble, MemoryFile, MemoryHost, MemoryPart};
 pub use row::play_all;

@@ -1,7 +1,7 @@
 // A folder in memory as a tree of a disk asks it: a call of it may fail or stray, and others change what stands there.
 ghost use Rattle.std.specs.Prelude.{◌≤◌, ◌<◌, IfOk, length};
 
-use crate::memory_shelf::{Kind, Shelf, above};
+use crate::memory_shelf::{Shelf, StoredKind, above};
 use ftp_disk_host::{Found, Host, Look, Stamp};
 use ftp_facts::Moment;
 use std::alloc::{AllocError, Global};
@@ -11,7 +11,7 @@ use std::io::{Error, ErrorKind};
 
 /// What goes wrong, and at which call of all that a tree makes, counted from 1.
 #[derive(Clone, Copy, PartialEq, Eq)]
-pub enum Trouble {
+pub enum HostTrouble {
     Nothing,
     /// The call fails, and nothing has happened.
     Fails(u64),
@@ -27,7 +27,7 @@ pub enum Trouble {
 pub struct MemoryHost {
     alloc: Global,
     shelf: RefCell<Shelf>,
-    trouble: Cell<Trouble>,
+    trouble: Cell<HostTrouble>,
     calls: Cell<u64>,
     parts: Cell<u64>,
     /// How many milliseconds it takes to list names.
@@ -62,7 +62,7 @@ impl MemoryHost {
         Ok(MemoryHost {
             alloc,
             shelf: RefCell::new(shelf),
-            trouble: Cell::new(Trouble::Nothing),
+            trouble: Cell::new(HostTrouble::Nothing),
             calls: Cell::new(0),
             parts: Cell::new(0),
             slow: Cell::new(0),
@@ -71,7 +71,7 @@ impl MemoryHost {
     }
 
     /// From here on calls are counted anew, and this goes wrong.
-    pub fn meet(&self, trouble: Trouble) {
+    pub fn meet(&self, trouble: HostTrouble) {
         self.calls.set(0);
         self.trouble.set(trouble);
     }
@@ -101,7 +101,7 @@ impl MemoryHost {
             Ok(inode) => shelf.write_over(inode, copy),
             Err(_) => {
                 shelf.check_free(place)?;
-                let inode = shelf.make(Kind::File)?;
+                let inode = shelf.make(StoredKind::File)?;
                 shelf.write_over(inode, copy);
                 shelf.name(place, inode)?;
             }
@@ -114,7 +114,7 @@ impl MemoryHost {
         let copy = Vec::from_slice(self.alloc, octets)?;
         let mut shelf = self.shelf()?;
         shelf.dir_at(above(place))?;
-        let inode = shelf.make(Kind::File)?;
+        let inode = shelf.make(StoredKind::File)?;
         shelf.write_over(inode, copy);
         Ok(shelf.name(place, inode)?)
     }
@@ -138,15 +138,15 @@ impl MemoryHost {
 
     /// Another hand makes a directory.
     pub fn put_dir(&self, place: &str) -> io::Result<()> {
-        self.put(place, Kind::Dir)
+        self.put(place, StoredKind::Dir)
     }
 
     /// Another hand makes a link, a pipe or a device.
     pub fn put_odd(&self, place: &str) -> io::Result<()> {
-        self.put(place, Kind::Other)
+        self.put(place, StoredKind::Other)
     }
 
-    fn put(&self, place: &str, kind: Kind) -> io::Result<()> {
+    fn put(&self, place: &str, kind: StoredKind) -> io::Result<()> {
         let mut shelf = self.shelf()?;
         shelf.check_free(place)?;
         let inode = shelf.make(kind)?;
@@ -196,8 +196,8 @@ impl MemoryHost {
     fn begins(&self) -> io::Result<RefMut<'_, Shelf>> {
         self.count();
         let at = self.calls.get();
-        if self.trouble.get() == Trouble::Fails(at)
-            || self.trouble.get() == Trouble::FailsLate(at)
+        if self.trouble.get() == HostTrouble::Fails(at)
+            || self.trouble.get() == HostTrouble::FailsLate(at)
         {
             return Err(failure());
         }
@@ -207,7 +207,7 @@ impl MemoryHost {
     /// Counts a call which may fail after it is done.
     fn begins_lasting(&self) -> io::Result<RefMut<'_, Shelf>> {
         self.count();
-        if self.trouble.get() == Trouble::Fails(self.calls.get()) {
+        if self.trouble.get() == HostTrouble::Fails(self.calls.get()) {
             return Err(failure());
         }
         self.shelf()
@@ -215,7 +215,7 @@ impl MemoryHost {
 
     /// The end of such a call.
     fn ends(&self) -> io::Result<()> {
-        if self.trouble.get() == Trouble::FailsLate(self.calls.get()) {
+        if self.trouble.get() == HostTrouble::FailsLate(self.calls.get()) {
             return Err(failure());
         }
         Ok(())
@@ -223,7 +223,7 @@ impl MemoryHost {
 
     /// Whether the call strays.
     fn strays(&self) -> bool {
-        self.trouble.get() == Trouble::Strays(self.calls.get())
+        self.trouble.get() == HostTrouble::Strays(self.calls.get())
     }
 }
 
@@ -319,7 +319,7 @@ impl Host for MemoryHost {
         let number = self.parts.get().wrapping_add(1);
         self.parts.set(number);
         let beside = format!(in self.alloc; "{dir}/.ftp-writing-{number}\x7f")?;
-        let inode = shelf.make(Kind::File)?;
+        let inode = shelf.make(StoredKind::File)?;
         shelf.name(beside.as_str(), inode)?;
         Ok(MemoryPart {
             inode,
@@ -380,7 +380,7 @@ impl Host for MemoryHost {
     fn make_dir(&self, below: &str) -> io::Result<()> {
         let mut shelf = self.begins()?;
         shelf.check_free(below)?;
-        let inode = shelf.make(Kind::Dir)?;
+        let inode = shelf.make(StoredKind::Dir)?;
         Ok(shelf.name(below, inode)?)
     }
 

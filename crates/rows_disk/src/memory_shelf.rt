@@ -7,7 +7,7 @@ use std::io::{Error, ErrorKind};
 
 /// What something is, by a place or by an open file.
 #[derive(Clone, Copy, PartialEq, Eq)]
-pub(crate) enum Kind {
+pub(crate) enum StoredKind {
     Dir,
     File,
     /// A link, or what else is neither.
@@ -17,7 +17,7 @@ pub(crate) enum Kind {
 /// What stands under one name or several, or under none any more while it is open: an inode.
 #[derive(Drop)]
 struct Body {
-    kind: Kind,
+    kind: StoredKind,
     octets: Vec<u8, Global>,
     modified: Stamp,
     touched: Stamp,
@@ -25,7 +25,7 @@ struct Body {
 
 /// A place, and the number of what stands there.
 #[derive(Drop)]
-struct Placed {
+struct PlacedNode {
     place: String<Global>,
     inode: usize,
 }
@@ -34,7 +34,7 @@ struct Placed {
 #[derive(Drop)]
 pub(crate) struct Shelf {
     alloc: Global,
-    placed: Vec<Placed, Global>,
+    placed: Vec<PlacedNode, Global>,
     bodies: Vec<Body, Global>,
     now: Stamp,
 }
@@ -51,7 +51,7 @@ impl Shelf {
                 nanos: 0,
             },
         };
-        let inode = shelf.make(Kind::Dir)?;
+        let inode = shelf.make(StoredKind::Dir)?;
         shelf.name("", inode)?;
         Ok(shelf)
     }
@@ -87,7 +87,7 @@ impl Shelf {
         None
     }
 
-    pub(crate) fn kind_of(&self, inode: usize) -> Option<Kind> {
+    pub(crate) fn kind_of(&self, inode: usize) -> Option<StoredKind> {
         Some(self.bodies.get(inode)?.kind)
     }
 
@@ -117,25 +117,25 @@ impl Shelf {
         };
         let look = self.look_of(inode)?;
         Ok(match self.kind_of(inode) {
-            Some(Kind::Dir) => Found::Dir(look),
-            Some(Kind::File) => Found::File(look),
-            Some(Kind::Other) => Found::Other,
+            Some(StoredKind::Dir) => Found::Dir(look),
+            Some(StoredKind::File) => Found::File(look),
+            Some(StoredKind::Other) => Found::Other,
             None => Found::Nothing,
         })
     }
 
     /// The number of a file at a place.
     pub(crate) fn file_at(&self, place: &str) -> io::Result<usize> {
-        self.at(place, Kind::File, ErrorKind::IsADirectory)
+        self.at(place, StoredKind::File, ErrorKind::IsADirectory)
     }
 
     /// The number of a directory at a place.
     pub(crate) fn dir_at(&self, place: &str) -> io::Result<usize> {
-        self.at(place, Kind::Dir, ErrorKind::NotADirectory)
+        self.at(place, StoredKind::Dir, ErrorKind::NotADirectory)
     }
 
     /// The number of what stands at a place, where it is of this kind.
-    fn at(&self, place: &str, kind: Kind, wrong: ErrorKind) -> io::Result<usize> {
+    fn at(&self, place: &str, kind: StoredKind, wrong: ErrorKind) -> io::Result<usize> {
         match self.inode_at(place) {
             Some(inode) if self.kind_of(inode) == Some(kind) => Ok(inode),
             Some(_) => Err(Error::from(wrong)),
@@ -168,7 +168,7 @@ impl Shelf {
     }
 
     /// Makes what has no name yet.
-    pub(crate) fn make(&mut self, kind: Kind) -> Result<usize, AllocError> {
+    pub(crate) fn make(&mut self, kind: StoredKind) -> Result<usize, AllocError> {
         let inode = self.bodies.len();
         self.bodies.push(Body {
             kind,
@@ -182,7 +182,7 @@ impl Shelf {
     /// Gives what has this number the name of a place, from which the name of what stands there is taken.
     pub(crate) fn name(&mut self, place: &str, inode: usize) -> Result<(), AllocError> {
         let text = String::from_str(self.alloc, place)?;
-        self.placed.push(Placed { place: text, inode })?;
+        self.placed.push(PlacedNode { place: text, inode })?;
         let last = self.placed.len();
         let mut at = 0usize;
         self.placed.retain(|placed| {
@@ -205,7 +205,7 @@ impl Shelf {
         let mut moved = Vec::new(self.alloc);
         for placed in self.placed.iter() {
             let text = moved_text(self.alloc, placed.place.as_str(), from, to)?;
-            moved.push(Placed {
+            moved.push(PlacedNode {
                 place: text,
                 inode: placed.inode,
             })?;

@@ -1,11 +1,11 @@
 // A row: what others do, what goes wrong, and operations, line by line, on one tree over one folder.
 use crate::hand::{do_so, show_error, text_of};
-use crate::memory_host::{MemoryHost, Trouble};
+use crate::memory_host::{HostTrouble, MemoryHost};
 use ftp_disk_tree::{DiskTree, Explains, LeftOut, LoadFault, Odd, Others, Unknown, open};
 use ftp_path::Path;
 use ftp_tree::{Limits, Tree};
 use rows_base::{Paper, cut, number, octets_of, row_in_front, said, split};
-use rows_tree::{Told, cut_before, play_user};
+use rows_tree::{TreeReport, cut_before, play_user};
 use std::alloc::Global;
 use std::io;
 
@@ -86,7 +86,7 @@ fn play_action<'a>(
     match split(action) {
         (b"start", how) => started(alloc, host, how, paper),
         (b"here", _) => {
-            host.meet(Trouble::Fails(call));
+            host.meet(HostTrouble::Fails(call));
             tree
         }
         _ => {
@@ -156,7 +156,7 @@ fn play_group<'r>(
     let Some(tree) = tree else {
         return after_line(behind);
     };
-    let mut told = Told::new(alloc);
+    let mut told = TreeReport::new(alloc);
     play_user(alloc, alloc, alloc, tree, group, &mut told);
     paper.put(told.paper.text());
     after_line(behind)

@@ -2,11 +2,11 @@
 use Rattle.std.specs.Prelude.{◌≡◌, ℕ, Bool, true, false, ⊤, List, [], ◌∷◌, map, Option, None, Some, Vec}
 use Rattle.ftp_ports.specs.Asking.{Asked}
 use Rattle.ftp_ports.specs.Asking as Asks
-use Rattle.rows_ends.specs.declared.history.Action.{Action}
-use Rattle.rows_ends.specs.declared.history.Action.TheVariants as Actions
+use Rattle.rows_ends.specs.declared.history.PortCall.{PortCall}
+use Rattle.rows_ends.specs.declared.history.PortCall.TheVariants as Actions
 
 -- a action, and the octets that were written by then; what is left to be read is not told
-abbrev pub asked_by : Action → List ℕ → Asked
+abbrev pub asked_by : PortCall → List ℕ → Asked
 asked_by (Actions.Listened port) written = Asks.Listened port
 asked_by (Actions.Came host) written = Asks.Came host None (Some written)
 asked_by (Actions.Connected endpoint) written = Asks.Connected endpoint None (Some written)
@@ -18,13 +18,13 @@ asked_by Actions.Shut written = Asks.Shut
 asked_by Actions.Lost written = Asks.Lost
 
 -- the actions of a log, the last one first, before those of earlier
-abbrev pub asked_after : {A : Type 0} → List Asked → List (Action × Vec ℕ A) → List Asked
+abbrev pub asked_after : {A : Type 0} → List Asked → List (PortCall × Vec ℕ A) → List Asked
 asked_after before [] = before
 asked_after before (action ∷ actions) = asked_after (asked_by action.0 action.1.items ∷ before) actions
 
-abbrev pub asked_in : {A : Type 0} → List (Action × Vec ℕ A) → List Asked
+abbrev pub asked_in : {A : Type 0} → List (PortCall × Vec ℕ A) → List Asked
 asked_in actions = asked_after [] actions
 
 -- the rows' list has the actions of the log, unless memory was refused for one
-abbrev pub IsSaid : {A : Type 0} → (is_short : Bool) → List Action → List (Action × Vec ℕ A) → Type 0
+abbrev pub IsSaid : {A : Type 0} → (is_short : Bool) → List PortCall → List (PortCall × Vec ℕ A) → Type 0
 IsSaid is_short said actions = is_short ≡ false → said ≡ map (λ action. action.0) actions

@@ -1,6 +1,6 @@
 // The control octets of a row, how its end is played on, and what it writes.
-use crate::driven::{Drive, Try};
-use crate::turn::{Manner, Side, Turn};
+use crate::driven::{ConnectionPlan, Try};
+use crate::turn::{RowSettings, RowTurn, Side};
 use ftp_ends::Wants;
 use rows_base::{Paper, octets_of, quoted};
 use std::alloc::Global;
@@ -28,7 +28,7 @@ pub struct Desk {
     /// Whether it is told what each call acted on; then control octets are heard one by one, and all that is owed is given at once.
     pub tells: bool,
     /// How connections go that drive the end: then the control octets wait for that.
-    pub drive: Option<Drive>,
+    pub drive: Option<ConnectionPlan>,
     /// What is tried of these.
     pub tried: Try,
     /// Whether that broke off.
@@ -37,7 +37,7 @@ pub struct Desk {
 
 /// What a row wrote.
 #[derive(Drop)]
-pub struct Seen {
+pub struct WrittenRow {
     pub paper: Paper,
     /// The tree behind each line.
     pub trees: Vec<Paper>,
@@ -48,7 +48,7 @@ pub struct Seen {
 }
 
 impl Desk {
-    pub fn new(turn: Turn<'_>, manner: Manner) -> Desk {
+    pub fn new(turn: RowTurn<'_>, manner: RowSettings) -> Desk {
         Desk {
             alloc: turn.alloc,
             side: turn.side,
@@ -68,8 +68,8 @@ impl Desk {
     }
 
     /// What was written, where so many growths were asked for.
-    pub fn seen(self, growths: u64) -> Seen {
-        Seen {
+    pub fn seen(self, growths: u64) -> WrittenRow {
+        WrittenRow {
             paper: self.paper,
             trees: self.trees,
             growths,

@@ -2,9 +2,9 @@
 // takes few, and each read or each write may fail.
 use crate::desk::Desk;
 use crate::peer::Peer;
-use crate::plays::Plays;
+use crate::plays::EndpointCalls;
 use crate::row::played;
-use crate::turn::{Manner, Turn};
+use crate::turn::{RowSettings, RowTurn};
 use rows_base::{FailingReader, FailingWriter, Paper, number, said, split};
 
 /// The number of no call, and more waits than there are.
@@ -12,7 +12,7 @@ const NEVER: u32 = 4_000_000_000;
 
 /// How connections go that drive an end.
 #[derive(Clone, Copy)]
-pub struct Drive {
+pub struct ConnectionPlan {
     /// The most octets of the control connection that one call moves.
     pub moves: usize,
     /// How many octets come over each data connection; none where it can't be read.
@@ -65,8 +65,8 @@ pub enum Owner<'a> {
 }
 
 /// What is said of connections: `moves 7 sends 3 silent 7 full 1000 breaks 2`, `fixed 1000 takes 7 fails 3 ticks 1 asked 1`.
-pub fn drive_of(text: &[u8]) -> Drive {
-    Drive {
+pub fn drive_of(text: &[u8]) -> ConnectionPlan {
+    ConnectionPlan {
         moves: value(text, b"moves").unwrap_or(1) as usize,
         sends: value(text, b"sends").or(value(text, b"fixed")),
         silent: value(text, b"silent").unwrap_or(NEVER as u64),
@@ -94,7 +94,7 @@ fn value(text: &[u8], name: &[u8]) -> Option<u64> {
 }
 
 /// The most octets of a call, and the read and the write that fail.
-fn limits(drive: Drive, tried: Try) -> (usize, u32, u32) {
+fn limits(drive: ConnectionPlan, tried: Try) -> (usize, u32, u32) {
     match tried {
         Try::Whole | Try::Waits(_) => (drive.moves, NEVER, NEVER),
         Try::Moves(moves) => (moves, NEVER, NEVER),
@@ -105,14 +105,14 @@ fn limits(drive: Drive, tried: Try) -> (usize, u32, u32) {
 
 /// Drives an end by the control octets so far, and writes the lines that it sends; where it was not broken off, what it reports and what came
 /// over data connections too.
-pub fn run<P: Plays>(end: &mut P, desk: &mut Desk, owner: Owner<'_>) {
+pub fn run<P: EndpointCalls>(end: &mut P, desk: &mut Desk, owner: Owner<'_>) {
     match desk.drive {
         Some(drive) => run_by(drive, end, desk, owner),
         None => desk.paper.line(b"= nothing drives it"),
     }
 }
 
-fn run_by<P: Plays>(drive: Drive, end: &mut P, desk: &mut Desk, owner: Owner<'_>) {
+fn run_by<P: EndpointCalls>(drive: ConnectionPlan, end: &mut P, desk: &mut Desk, owner: Owner<'_>) {
     let (moves, read, write) = limits(drive, desk.tried);
     let writer = FailingWriter::new(desk.alloc, moves, write);
     let mut peer = Peer::new(desk.alloc, drive);
@@ -138,7 +138,7 @@ fn tell_run(desk: &mut Desk, told: &[u8], peer: &Peer) {
 
 /// What came of a try.
 #[derive(Clone, Copy)]
-enum Outcome {
+enum DriveOutcome {
     /// The same as of the whole row.
     Same,
     /// It was broken off behind a beginning of that.
@@ -146,10 +146,10 @@ enum Outcome {
     Other,
 }
 
-fn came_of(turn: Turn<'_>, whole: &[u8], tried: Try) -> Outcome {
+fn came_of(turn: RowTurn<'_>, whole: &[u8], tried: Try) -> DriveOutcome {
     let seen = played(
         turn,
-        Manner {
+        RowSettings {
             tried,
             ..turn.side.whole()
         },
@@ -157,19 +157,19 @@ fn came_of(turn: Turn<'_>, whole: &[u8], tried: Try) -> Outcome {
     outcome_of(seen.is_broken, seen.paper.text(), whole)
 }
 
-fn outcome_of(is_broken: bool, text: &[u8], whole: &[u8]) -> Outcome {
+fn outcome_of(is_broken: bool, text: &[u8], whole: &[u8]) -> DriveOutcome {
     if !is_broken && text == whole {
-        Outcome::Same
+        DriveOutcome::Same
     } else if is_broken && whole.starts_with(text) {
-        Outcome::Broken
+        DriveOutcome::Broken
     } else {
-        Outcome::Other
+        DriveOutcome::Other
     }
 }
 
 /// Drives a row again: a server between others; and as the row says, in calls of each size behind `also`, and with so many reads and writes failed in
 /// turn.
-pub fn again(turn: Turn<'_>, whole: &[u8], paper: &mut Paper) {
+pub fn again(turn: RowTurn<'_>, whole: &[u8], paper: &mut Paper) {
     each_wait(turn, whole, paper);
     each_size(turn, whole, paper);
     each_failed(turn, whole, (Call::Read, b"reads"), paper);
@@ -177,14 +177,14 @@ pub fn again(turn: Turn<'_>, whole: &[u8], paper: &mut Paper) {
 }
 
 /// Where a server that is driven would wait at each third look, and at each seventh, all is as where it never would.
-fn each_wait(turn: Turn<'_>, whole: &[u8], paper: &mut Paper) {
+fn each_wait(turn: RowTurn<'_>, whole: &[u8], paper: &mut Paper) {
     if turn.side.is_client || said(turn.row, b"drive").is_none() {
         return;
     }
     for each in [3, 7] {
         let seen = played(
             turn,
-            Manner {
+            RowSettings {
                 tried: Try::Waits(each),
                 ..turn.side.whole()
             },
@@ -195,7 +195,7 @@ fn each_wait(turn: Turn<'_>, whole: &[u8], paper: &mut Paper) {
     }
 }
 
-fn each_size(turn: Turn<'_>, whole: &[u8], paper: &mut Paper) {
+fn each_size(turn: RowTurn<'_>, whole: &[u8], paper: &mut Paper) {
     let mut rest = said(turn.row, b"also").unwrap_or(b"");
     for _ in 0..rest.len() {
         let (word, behind) = split(rest);
@@ -204,7 +204,7 @@ fn each_size(turn: Turn<'_>, whole: &[u8], paper: &mut Paper) {
         }
         let tried = Try::Moves(number(word).min(NEVER as u64) as usize);
         match came_of(turn, whole, tried) {
-            Outcome::Same => {}
+            DriveOutcome::Same => {}
             _ => paper.line(b"= otherwise in calls of another size"),
         }
         rest = behind;
@@ -212,15 +212,15 @@ fn each_size(turn: Turn<'_>, whole: &[u8], paper: &mut Paper) {
 }
 
 /// The first calls that fail break the row off, and those behind them are not made: how many are the first ones.
-fn each_failed(turn: Turn<'_>, whole: &[u8], (call, word): (Call, &[u8]), paper: &mut Paper) {
+fn each_failed(turn: RowTurn<'_>, whole: &[u8], (call, word): (Call, &[u8]), paper: &mut Paper) {
     let Some(count) = said(turn.row, word) else {
         return;
     };
     let mut broken = 0;
     for at in 0..number(count).min(1_000) {
         match came_of(turn, whole, Try::Fails(call, at as u32)) {
-            Outcome::Broken if broken == at => broken += 1,
-            Outcome::Same => {}
+            DriveOutcome::Broken if broken == at => broken += 1,
+            DriveOutcome::Same => {}
             _ => paper.line(b"= otherwise where a call fails"),
         }
     }

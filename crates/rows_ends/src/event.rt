@@ -10,7 +10,7 @@ pub const YEAR_2000: Moment = Moment {
 
 /// What happens.
 #[derive(Clone, Copy)]
-pub enum Event {
+pub enum EndEvent {
     Listening,
     Portless,
     Opened,
@@ -24,15 +24,15 @@ pub enum Event {
 
 /// What is said of an event, where it has that.
 #[derive(Clone, Copy)]
-pub struct Told {
+pub struct EventDetails {
     pub port: u16,
     pub host: Host,
     pub moment: Moment,
 }
 
 /// What stands behind the word of an event; this host is at the other end where nothing else is said.
-pub fn told_of(rest: &[u8], peer: Host) -> Told {
-    Told {
+pub fn told_of(rest: &[u8], peer: Host) -> EventDetails {
+    EventDetails {
         port: (number(rest) % 65_536) as u16,
         host: host_or(rest, peer),
         moment: moment_of_text(rest).unwrap_or(YEAR_2000),

@@ -9,7 +9,7 @@ use std::alloc::Global;
 
 /// What was asked and answered.
 #[derive(Clone, Copy)]
-pub enum Action {
+pub enum PortCall {
     /// A port was asked for, and had or not.
     Listened(Option<u16>),
     /// A data connection came from this host.
@@ -30,10 +30,10 @@ pub enum Action {
 #[derive(Drop)]
 pub struct History {
     alloc: Global,
-    actions: Vec<Action>,
+    actions: Vec<PortCall>,
     is_short: bool,
     /// Each action, with the octets that were written to its data connection by then.
-    pub(crate) log: Log<Action, Vec<u8>>,
+    pub(crate) log: Log<PortCall, Vec<u8>>,
     ghost said: { IsSaid is_short actions.items log.items },
 }
 
@@ -50,7 +50,7 @@ impl History {
     }
 
     /// This was asked too, of no data connection that stands.
-    pub fn note(&mut self, action: Action)
+    pub fn note(&mut self, action: PortCall)
         ensures { asked_in self.new.log.items ≡ asked_by action [] ∷ asked_in self.old.log.items }
     {
         let none = Vec::new(self.alloc);
@@ -58,7 +58,7 @@ impl History {
     }
 
     /// This was asked too, of a data connection to which these octets were written by then.
-    pub fn note_of(&mut self, action: Action, written: &Vec<u8>)
+    pub fn note_of(&mut self, action: PortCall, written: &Vec<u8>)
         ensures { asked_in self.new.log.items ≡ asked_by action written.now.items ∷ asked_in self.old.log.items }
     {
         let log = self.log.and(&action, written);
@@ -82,21 +82,21 @@ impl History {
     }
 }
 
-fn show_action(action: Action, paper: &mut Paper) {
+fn show_action(action: PortCall, paper: &mut Paper) {
     match action {
-        Action::Listened(Some(port)) => {
+        PortCall::Listened(Some(port)) => {
             paper.put(b", listened ");
             paper.number(port as u64);
         }
-        Action::Listened(None) => paper.put(b", no port"),
-        Action::Came(host) => show_endpoint(b", came ", Endpoint { host, port: 0 }, paper),
-        Action::Connected(endpoint) => show_endpoint(b", connected ", endpoint, paper),
-        Action::NotCame => paper.put(b", did not come"),
-        Action::NotConnected(endpoint) => show_endpoint(b", not connected ", endpoint, paper),
-        Action::Ended => paper.put(b", ended"),
-        Action::Reset => paper.put(b", reset"),
-        Action::Shut => paper.put(b", shut"),
-        Action::Lost => paper.put(b", lost"),
+        PortCall::Listened(None) => paper.put(b", no port"),
+        PortCall::Came(host) => show_endpoint(b", came ", Endpoint { host, port: 0 }, paper),
+        PortCall::Connected(endpoint) => show_endpoint(b", connected ", endpoint, paper),
+        PortCall::NotCame => paper.put(b", did not come"),
+        PortCall::NotConnected(endpoint) => show_endpoint(b", not connected ", endpoint, paper),
+        PortCall::Ended => paper.put(b", ended"),
+        PortCall::Reset => paper.put(b", reset"),
+        PortCall::Shut => paper.put(b", shut"),
+        PortCall::Lost => paper.put(b", lost"),
     }
 }
 

@@ -2,17 +2,17 @@
 use crate::desk::Desk;
 use crate::driven::{Owner, drive_of, run};
 use crate::event::told_of;
-use crate::plays::Plays;
+use crate::plays::EndpointCalls;
 use crate::stage::{called, come, come_to_rest, give, settle};
-use crate::turn::Turn;
-use crate::verb::{Verb, verb_of};
+use crate::turn::RowTurn;
+use crate::verb::{LineVerb, verb_of};
 use rows_base::{Paper, cut, number, split};
 
 /// The login that is accepted.
 const LOGIN: &[u8] = b"220 Ready\\r\\n331 Password\\r\\n230 Known";
 
 /// Plays the lines of a row, and tells what comes of each.
-pub fn play<P: Plays>(end: &mut P, desk: &mut Desk, turn: Turn<'_>) {
+pub fn play<P: EndpointCalls>(end: &mut P, desk: &mut Desk, turn: RowTurn<'_>) {
     let mut rest = turn.row;
     for _ in 0..turn.row.len() {
         if rest.is_empty() {
@@ -28,7 +28,7 @@ pub fn play<P: Plays>(end: &mut P, desk: &mut Desk, turn: Turn<'_>) {
 }
 
 /// Whether what was written is that of the whole row, where that was seen; then the tree is kept.
-fn goes_on<P: Plays>(end: &P, desk: &mut Desk, turn: Turn<'_>) -> bool {
+fn goes_on<P: EndpointCalls>(end: &P, desk: &mut Desk, turn: RowTurn<'_>) -> bool {
     let Some(whole) = turn.whole else {
         return true;
     };
@@ -38,15 +38,15 @@ fn goes_on<P: Plays>(end: &P, desk: &mut Desk, turn: Turn<'_>) -> bool {
     whole.starts_with(desk.paper.text())
 }
 
-fn play_line<P: Plays>(end: &mut P, desk: &mut Desk, line: &[u8]) {
+fn play_line<P: EndpointCalls>(end: &mut P, desk: &mut Desk, line: &[u8]) {
     let (times, turn) = repeated(line);
     let (word, rest) = split(turn);
     let verb = verb_of(word);
-    if let Verb::Heading = verb {
+    if let LineVerb::Heading = verb {
         desk.paper.line(line);
         return;
     }
-    if let Verb::Drive = verb {
+    if let LineVerb::Drive = verb {
         desk.drive = Some(drive_of(rest));
     }
     settle(end, desk);
@@ -71,7 +71,7 @@ fn repeated(line: &[u8]) -> (u64, &[u8]) {
 }
 
 /// A line so many times; what comes of it is written once, where it is the same each time.
-fn repeat<P: Plays>(end: &mut P, desk: &mut Desk, verb: Verb, rest: &[u8], times: u64) {
+fn repeat<P: EndpointCalls>(end: &mut P, desk: &mut Desk, verb: LineVerb, rest: &[u8], times: u64) {
     let paper = desk.turn_over();
     for _ in 0..times {
         act(end, desk, verb, rest, rest);
@@ -80,34 +80,34 @@ fn repeat<P: Plays>(end: &mut P, desk: &mut Desk, verb: Verb, rest: &[u8], times
     desk.turn_back(paper, times);
 }
 
-fn act<P: Plays>(end: &mut P, desk: &mut Desk, verb: Verb, line: &[u8], rest: &[u8]) {
+fn act<P: EndpointCalls>(end: &mut P, desk: &mut Desk, verb: LineVerb, line: &[u8], rest: &[u8]) {
     match verb {
-        Verb::Heading | Verb::Drive | Verb::Owed => {}
-        Verb::Says => desk.say(rest, b"\r\n"),
-        Verb::Octets => desk.say(rest, b""),
-        Verb::Login => {
+        LineVerb::Heading | LineVerb::Drive | LineVerb::Owed => {}
+        LineVerb::Says => desk.say(rest, b"\r\n"),
+        LineVerb::Octets => desk.say(rest, b""),
+        LineVerb::Login => {
             desk.say(LOGIN, b"\r\n");
             settle(end, desk);
         }
-        Verb::Happens(event) => {
+        LineVerb::Happens(event) => {
             end.happens(event, told_of(rest, desk.side.peer));
             called(end, desk);
         }
-        Verb::Data => come_text(end, desk, rest),
-        Verb::Give => give(end, desk, number(rest), u64::MAX),
-        Verb::Out => give(end, desk, u64::MAX, number(rest)),
-        Verb::Tree => end.show_tree(desk.alloc, &mut desk.paper),
-        Verb::Told => end.show_told(&mut desk.paper),
-        Verb::Held => desk.put_number(b"held ", end.held() as u64),
-        Verb::Weigh => desk.weighs = true,
-        Verb::Tells => desk.tells = true,
-        Verb::Run => run(end, desk, Owner::Drive),
-        Verb::Page => run(end, desk, Owner::Page(rest)),
-        Verb::Order => end.begin(desk.alloc, line, &mut desk.paper),
+        LineVerb::Data => come_text(end, desk, rest),
+        LineVerb::Give => give(end, desk, number(rest), u64::MAX),
+        LineVerb::Out => give(end, desk, u64::MAX, number(rest)),
+        LineVerb::Tree => end.show_tree(desk.alloc, &mut desk.paper),
+        LineVerb::Told => end.show_told(&mut desk.paper),
+        LineVerb::Held => desk.put_number(b"held ", end.held() as u64),
+        LineVerb::Weigh => desk.weighs = true,
+        LineVerb::Tells => desk.tells = true,
+        LineVerb::Run => run(end, desk, Owner::Drive),
+        LineVerb::Page => run(end, desk, Owner::Page(rest)),
+        LineVerb::Order => end.begin(desk.alloc, line, &mut desk.paper),
     }
 }
 
-fn come_text<P: Plays>(end: &mut P, desk: &mut Desk, text: &[u8]) {
+fn come_text<P: EndpointCalls>(end: &mut P, desk: &mut Desk, text: &[u8]) {
     let octets = desk.octets_of(text);
     come(end, desk, octets.as_slice());
 }

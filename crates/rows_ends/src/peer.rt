@@ -4,10 +4,10 @@ ghost use Rattle.std.specs.Prelude.{◌≡◌, None, Some};
 ghost use Rattle.ftp_ports.specs.Asking.{Closes};
 ghost use Rattle.rows_ends.specs.History.{asked_in};
 
-use crate::driven::Drive;
-use crate::embedded::sockets::Sockets;
+use crate::driven::ConnectionPlan;
+use crate::embedded::sockets::EmbeddedSockets;
 use crate::event::YEAR_2000;
-use crate::history::{Action, History};
+use crate::history::{History, PortCall};
 use ftp_endpoint::{Endpoint, Host};
 use ftp_ends::Wants;
 use ftp_facts::Moment;
@@ -31,7 +31,7 @@ const AMPLE: usize = 1 << 40;
 
 /// A data connection that gives so many octets, if it can be read, and takes so many behind so many writes that find no room; a call may fail.
 #[derive(Drop)]
-pub struct Link {
+pub struct PeerLink {
     rest: Option<u64>,
     given: u64,
     full: u64,
@@ -39,10 +39,10 @@ pub struct Link {
     taken: Vec<u8>,
     /// How many calls go before one that fails.
     calls: u64,
-    drive: Drive,
+    drive: ConnectionPlan,
 }
 
-impl Link {
+impl PeerLink {
     /// Counts a call; whether it fails.
     fn fails(&mut self) -> bool
         ensures { self.new.taken ≡ self.old.taken }
@@ -56,7 +56,7 @@ impl Link {
 }
 
 /// Fills a room with the octets that come next, of which so many came before, and says how many came then.
-fn fill(drive: Drive, before: u64, room: &mut [u8]) -> u64 {
+fn fill(drive: ConnectionPlan, before: u64, room: &mut [u8]) -> u64 {
     let mut given = before;
     for octet in room {
         *octet = if drive.is_fixed { fixed(given) } else { b'x' };
@@ -65,13 +65,13 @@ fn fill(drive: Drive, before: u64, room: &mut [u8]) -> u64 {
     given
 }
 
-impl Read for Link {
+impl Read for PeerLink {
     fn read(&mut self, room: &mut [u8]) -> io::Result<usize> {
         self.receive(room)
     }
 }
 
-impl Write for Link {
+impl Write for PeerLink {
     ghost contents = { λ link. Some link.taken.items };
 
     fn write(&mut self, octets: &[u8]) -> io::Result<usize> {
@@ -83,7 +83,7 @@ impl Write for Link {
     }
 }
 
-impl Duplex for Link {
+impl Duplex for PeerLink {
     fn receive(&mut self, room: &mut [u8]) -> io::Result<usize> {
         let Some(rest) = self.rest else {
             return Err(Error::from(ErrorKind::ConnectionReset));
@@ -123,13 +123,13 @@ impl Duplex for Link {
 #[derive(Drop)]
 pub struct Peer {
     alloc: Global,
-    drive: Drive,
+    drive: ConnectionPlan,
     /// What came over data connections that are closed.
     taken: Tally,
     /// How many data connections were reset.
     resets: u64,
     /// The one that is open for the program of a page.
-    opened: Option<Link>,
+    opened: Option<PeerLink>,
     /// Where turns are made between those of others: how many looks find what they look for before one that doesn't.
     finds: Option<u64>,
     /// How many looks were made since.
@@ -138,7 +138,7 @@ pub struct Peer {
 }
 
 impl Peer {
-    pub fn new(alloc: Global, drive: Drive) -> Peer {
+    pub fn new(alloc: Global, drive: ConnectionPlan) -> Peer {
         Peer {
             alloc,
             drive,
@@ -162,7 +162,7 @@ impl Peer {
     }
 
     /// A data connection that is closed is let go, and nothing of it is noted.
-    pub fn let_go(&self, data: Data<Link>) {
+    pub fn let_go(&self, data: Data<PeerLink>) {
         let mut nobody = Peer::new(self.alloc, self.drive);
         data.finish(&mut nobody);
     }
@@ -201,11 +201,11 @@ impl Peer {
         }
     }
 
-    fn link(&mut self) -> Link
+    fn link(&mut self) -> PeerLink
         ensures { self.new.history ≡ self.old.history }
     {
         let room = self.room();
-        Link {
+        PeerLink {
             rest: self.drive.sends,
             given: 0,
             full: self.drive.full,
@@ -229,30 +229,30 @@ impl Peer {
 }
 
 impl Ports for Peer {
-    type Stream = Link;
+    type Stream = PeerLink;
 
     ghost history = { λ peer. Some (asked_in peer.history.log.items) };
 
     fn listen(&mut self) -> Option<u16> {
         let port = Some(1930);
-        self.history.note(Action::Listened(port));
+        self.history.note(PortCall::Listened(port));
         port
     }
 
-    fn accept(&mut self, _hears: bool) -> Accepted<Link> {
+    fn accept(&mut self, _hears: bool) -> Accepted<PeerLink> {
         let link = self.link();
-        self.history.note_of(Action::Came(PEER), &link.taken);
+        self.history.note_of(PortCall::Came(PEER), &link.taken);
         Accepted::Came(link, PEER)
     }
 
-    fn connect(&mut self, endpoint: Endpoint) -> Option<Link> {
+    fn connect(&mut self, endpoint: Endpoint) -> Option<PeerLink> {
         let link = self.link();
         self.history
-            .note_of(Action::Connected(endpoint), &link.taken);
+            .note_of(PortCall::Connected(endpoint), &link.taken);
         Some(link)
     }
 
-    fn wait(&mut self, _stream: &mut Link, _what: For, hears: bool) -> Ready {
+    fn wait(&mut self, _stream: &mut PeerLink, _what: For, hears: bool) -> Ready {
         if !hears {
             return Ready::Data;
         }
@@ -267,7 +267,7 @@ impl Ports for Peer {
         self.finds()
     }
 
-    fn looks_at(&mut self, _stream: &mut Link, _what: For, _beside: Beside) -> bool {
+    fn looks_at(&mut self, _stream: &mut PeerLink, _what: For, _beside: Beside) -> bool {
         self.finds()
     }
 
@@ -275,28 +275,28 @@ impl Ports for Peer {
         Spoken::Nothing
     }
 
-    fn close(&mut self, stream: Option<Whole<Link>>)
+    fn close(&mut self, stream: Option<Whole<PeerLink>>)
         ensures { Closes (λ link. None) (λ link. Some link.taken.items) stream
             (Some (asked_in self.old.history.log.items)) (Some (asked_in self.new.history.log.items)) }
     {
         match stream {
             Some(whole) => {
                 let link = whole.into_stream();
-                self.history.note_of(Action::Ended, &link.taken);
+                self.history.note_of(PortCall::Ended, &link.taken);
                 self.taken.take(link.taken.as_slice());
             }
-            None => self.history.note(Action::Shut),
+            None => self.history.note(PortCall::Shut),
         }
     }
 
-    fn reset(&mut self, stream: Link) {
-        self.history.note_of(Action::Reset, &stream.taken);
+    fn reset(&mut self, stream: PeerLink) {
+        self.history.note_of(PortCall::Reset, &stream.taken);
         self.taken.take(stream.taken.as_slice());
         self.resets = self.resets.wrapping_add(1);
     }
 }
 
-impl Sockets for Peer {
+impl EmbeddedSockets for Peer {
     fn listen(&mut self) -> Option<u16> {
         Some(1930)
     }

@@ -1,6 +1,6 @@
 // What rows are played on.
 use crate::driven::Owner;
-use crate::event::{Event, Told};
+use crate::event::{EndEvent, EventDetails};
 use crate::peer::Peer;
 use ftp_client::Client;
 use ftp_client_steps::CountedTransfer;
@@ -29,7 +29,7 @@ impl<A: Allocator + Copy, T: Tree<A>, J: Counted<A, T>> Holds for Server<A, T, J
 }
 
 /// The calls of an end, of which nothing is said here, so that what plays rows on it is proved without the clauses of both.
-pub trait Plays: Drop {
+pub trait EndpointCalls: Drop {
     fn hear(&mut self, piece: &[u8]) -> usize;
 
     fn control_out(&mut self, room: &mut [u8]) -> usize;
@@ -38,7 +38,7 @@ pub trait Plays: Drop {
 
     fn data_out(&mut self, room: &mut [u8]) -> usize;
 
-    fn happens(&mut self, event: Event, told: Told);
+    fn happens(&mut self, event: EndEvent, told: EventDetails);
 
     fn wants(&self) -> Wants;
 

@@ -1,13 +1,13 @@
 // A row: played whole, in pieces, and with each of its growths refused in turn.
-use crate::desk::{Desk, Seen};
+use crate::desk::{Desk, WrittenRow};
 use crate::driven::again;
-use crate::turn::{Manner, Side, Turn};
+use crate::turn::{RowSettings, RowTurn, Side};
 use crate::{client, server};
 use rows_base::{Paper, cut, first_other, found, number, said};
 use std::alloc::Global;
 
 /// Plays a row on its end in this manner.
-pub fn played(turn: Turn<'_>, manner: Manner) -> Seen {
+pub fn played(turn: RowTurn<'_>, manner: RowSettings) -> WrittenRow {
     let mut desk = Desk::new(turn, manner);
     let growths = if turn.side.is_client {
         client::run(turn, manner.refused, &mut desk)
@@ -18,10 +18,10 @@ pub fn played(turn: Turn<'_>, manner: Manner) -> Seen {
 }
 
 /// With this growth refused, none at 0.
-fn refused(turn: Turn<'_>, growth: u64) -> Seen {
+fn refused(turn: RowTurn<'_>, growth: u64) -> WrittenRow {
     played(
         turn,
-        Manner {
+        RowSettings {
             refused: growth,
             ..turn.side.whole()
         },
@@ -30,7 +30,7 @@ fn refused(turn: Turn<'_>, growth: u64) -> Seen {
 
 /// What a row writes; behind it stands where it goes otherwise as it is played again.
 pub fn play_row(alloc: Global, side: Side, row: &[u8], paper: &mut Paper) {
-    let turn = Turn {
+    let turn = RowTurn {
         alloc,
         side,
         row,
@@ -46,7 +46,7 @@ pub fn play_row(alloc: Global, side: Side, row: &[u8], paper: &mut Paper) {
 }
 
 /// Plays a row again that wrote this and asked for so many growths, in each way that there is for it.
-fn play_again(turn: Turn<'_>, whole: &[u8], growths: u64, paper: &mut Paper) {
+fn play_again(turn: RowTurn<'_>, whole: &[u8], growths: u64, paper: &mut Paper) {
     in_pieces(turn, whole, paper);
     again(turn, whole, paper);
     if turn.side.is_client || said(turn.row, b"growths").is_some() {
@@ -58,7 +58,7 @@ fn play_again(turn: Turn<'_>, whole: &[u8], growths: u64, paper: &mut Paper) {
 }
 
 /// What is written with each of so many growths of a list's memory, or of a server's, refused.
-fn each_refusal(turn: Turn<'_>, growths: u64, paper: &mut Paper) {
+fn each_refusal(turn: RowTurn<'_>, growths: u64, paper: &mut Paper) {
     for growth in 1..=growths {
         let seen = refused(turn, growth);
         put_other(b"= at growth ", growth, seen.paper.text(), paper);
@@ -66,16 +66,16 @@ fn each_refusal(turn: Turn<'_>, growths: u64, paper: &mut Paper) {
 }
 
 /// In pieces of each size.
-fn in_pieces(turn: Turn<'_>, whole: &[u8], paper: &mut Paper) {
+fn in_pieces(turn: RowTurn<'_>, whole: &[u8], paper: &mut Paper) {
     for size in 1..=pieces(turn).min(1_000) {
         in_piece(turn, size, whole, paper);
     }
 }
 
-fn in_piece(turn: Turn<'_>, size: u64, whole: &[u8], paper: &mut Paper) {
+fn in_piece(turn: RowTurn<'_>, size: u64, whole: &[u8], paper: &mut Paper) {
     let seen = played(
         turn,
-        Manner {
+        RowSettings {
             size: size as usize,
             ..turn.side.whole()
         },
@@ -86,7 +86,7 @@ fn in_piece(turn: Turn<'_>, size: u64, whole: &[u8], paper: &mut Paper) {
 }
 
 /// The greatest size of `in pieces of 1 to 12`; where there is no such line, that of the end.
-fn pieces(turn: Turn<'_>) -> u64 {
+fn pieces(turn: RowTurn<'_>) -> u64 {
     match said(turn.row, b"in") {
         Some(said) => number(cut(said, b'1').1.strip_prefix(b" to ").unwrap_or(b"")),
         None => turn.side.pieces,
@@ -102,8 +102,8 @@ fn put_other(mark: &[u8], number: u64, text: &[u8], paper: &mut Paper) {
 }
 
 /// Says where a refused growth is not told, or leaves another tree than one of the row's.
-fn each_growth(turn: Turn<'_>, whole: &[u8], paper: &mut Paper) {
-    let turn = Turn {
+fn each_growth(turn: RowTurn<'_>, whole: &[u8], paper: &mut Paper) {
+    let turn = RowTurn {
         whole: Some(whole),
         ..turn
     };
@@ -116,7 +116,7 @@ fn each_growth(turn: Turn<'_>, whole: &[u8], paper: &mut Paper) {
     }
 }
 
-fn at_growth(turn: Turn<'_>, growth: u64, (whole, trees): (&[u8], &[Paper]), paper: &mut Paper) {
+fn at_growth(turn: RowTurn<'_>, growth: u64, (whole, trees): (&[u8], &[Paper]), paper: &mut Paper) {
     let seen = refused(turn, growth);
     let is_told = is_told(turn.side.is_client, seen.paper.text(), whole);
     if !is_told || !ends_among(seen.trees.last(), trees) {

@@ -1,7 +1,7 @@
 // Rows of several sessions over one tree: calls of the session in a slot (`ftp_server_calls`).
 use crate::server::begun::{accounts_with, plants};
 use crate::server::cued::{cue_of, show};
-use crate::turn::{SERVER, Turn};
+use crate::turn::{RowTurn, SERVER};
 use ftp_operation::Rights;
 use ftp_server::Server;
 use ftp_server_calls::several::{Played, Sessions, Turn as InSlot};
@@ -18,7 +18,7 @@ type Trees = MemTree<Global>;
 
 /// Plays a row: each line, and after it what came of it.
 pub fn play_row(alloc: Global, row: &[u8], paper: &mut Paper) {
-    let turn = Turn {
+    let turn = RowTurn {
         alloc,
         side: SERVER,
         row,
@@ -34,7 +34,7 @@ pub fn play_row(alloc: Global, row: &[u8], paper: &mut Paper) {
 }
 
 /// Slots a session for each line `session`, with such transfers, and plays the row: who names a tree's does not name these.
-fn begin<J: ServerTransfer<Global, Trees>>(turn: Turn<'_>, tree: Trees, paper: &mut Paper) {
+fn begin<J: ServerTransfer<Global, Trees>>(turn: RowTurn<'_>, tree: Trees, paper: &mut Paper) {
     let mut sessions: Sessions<Global, Trees, Server<Global, Trees, J>> = Sessions::new(
         turn.alloc, tree,
     );
@@ -61,7 +61,7 @@ fn word_of<'a>(line: &'a [u8], word: &[u8]) -> Option<&'a [u8]> {
 /// Slots a session whose accounts have this root and these rights.
 fn slot<J: ServerTransfer<Global, Trees>>(
     sessions: &mut Sessions<Global, Trees, Server<Global, Trees, J>>,
-    turn: Turn<'_>,
+    turn: RowTurn<'_>,
     root: &[u8],
     rights: Rights,
     paper: &mut Paper,
@@ -84,7 +84,7 @@ fn slot<J: ServerTransfer<Global, Trees>>(
 /// Plays the lines of a row in order. Calls that stand together are made as a list, and one that stands alone by itself.
 fn play<F: Lends<Global, Trees>>(
     sessions: &mut Sessions<Global, Trees, F>,
-    turn: Turn<'_>,
+    turn: RowTurn<'_>,
     paper: &mut Paper,
 ) {
     let mut rest = turn.row;
@@ -115,7 +115,7 @@ fn is_call(line: &[u8]) -> bool {
 /// A line that is no call; `tree` shows the tree of all.
 fn show_line<F: Lends<Global, Trees>>(
     sessions: &Sessions<Global, Trees, F>,
-    turn: Turn<'_>,
+    turn: RowTurn<'_>,
     line: &[u8],
     paper: &mut Paper,
 ) {
@@ -131,7 +131,7 @@ fn show_line<F: Lends<Global, Trees>>(
 /// Makes the first of these calls, so many.
 fn make<F: Lends<Global, Trees>>(
     sessions: &mut Sessions<Global, Trees, F>,
-    turn: Turn<'_>,
+    turn: RowTurn<'_>,
     calls: &[u8],
     count: usize,
     paper: &mut Paper,
@@ -157,7 +157,7 @@ fn make<F: Lends<Global, Trees>>(
 
 /// The first of these calls, so many.
 fn turns_of(
-    turn: Turn<'_>,
+    turn: RowTurn<'_>,
     calls: &[u8],
     count: usize,
 ) -> Result<Vec<InSlot<Global>, Global>, AllocError> {

@@ -1,6 +1,6 @@
 // An end to which something happens, and what comes of it.
 use crate::desk::Desk;
-use crate::plays::Plays;
+use crate::plays::EndpointCalls;
 use ftp_endpoint::write_extended;
 use ftp_ends::Wants;
 use rows_base::{Paper, Tally};
@@ -16,7 +16,7 @@ const HELD_LIMIT: usize = 24_576;
 
 /// Control octets are taken as long as any are, then what is owed is written, and so on until nothing moves; where connections drive the end
 /// they wait.
-pub fn settle<P: Plays>(end: &mut P, desk: &mut Desk) {
+pub fn settle<P: EndpointCalls>(end: &mut P, desk: &mut Desk) {
     if desk.drive.is_some() {
         return;
     }
@@ -29,7 +29,7 @@ pub fn settle<P: Plays>(end: &mut P, desk: &mut Desk) {
 }
 
 /// Calls with the control octets that were not taken yet, until it takes none.
-fn hear_all<P: Plays>(end: &mut P, desk: &mut Desk) {
+fn hear_all<P: EndpointCalls>(end: &mut P, desk: &mut Desk) {
     for _ in 0..TURNS {
         let count = end.hear(desk.next_piece());
         desk.heard = desk.heard.saturating_add(count);
@@ -41,7 +41,7 @@ fn hear_all<P: Plays>(end: &mut P, desk: &mut Desk) {
 }
 
 /// One call for the control octets that are owed: whether there were any.
-fn owes<P: Plays>(end: &mut P, desk: &mut Desk) -> bool {
+fn owes<P: EndpointCalls>(end: &mut P, desk: &mut Desk) -> bool {
     let mut room = [0; ROOM];
     let size = if desk.tells { ROOM } else { desk.size };
     let (room, _) = room.split_at_mut(size.min(ROOM));
@@ -52,7 +52,7 @@ fn owes<P: Plays>(end: &mut P, desk: &mut Desk) -> bool {
 }
 
 /// Behind a call: says where too much is held, and what was acted on, where the row asks for that.
-pub fn called<P: Plays>(end: &mut P, desk: &mut Desk) {
+pub fn called<P: EndpointCalls>(end: &mut P, desk: &mut Desk) {
     weigh(end, &mut desk.paper);
     if desk.tells {
         end.tell(&mut desk.paper);
@@ -60,14 +60,14 @@ pub fn called<P: Plays>(end: &mut P, desk: &mut Desk) {
 }
 
 /// Says where too much is held.
-fn weigh<P: Plays>(end: &P, paper: &mut Paper) {
+fn weigh<P: EndpointCalls>(end: &P, paper: &mut Paper) {
     if end.held() > HELD_LIMIT {
         paper.put(b"= too much is held\n");
     }
 }
 
 /// These data octets come; those that are not taken are counted.
-pub fn come<P: Plays>(end: &mut P, desk: &mut Desk, octets: &[u8]) {
+pub fn come<P: EndpointCalls>(end: &mut P, desk: &mut Desk, octets: &[u8]) {
     let mut rest = octets;
     for _ in 0..TURNS {
         let (piece, _) = rest.split_at(desk.size.min(rest.len()));
@@ -82,7 +82,7 @@ pub fn come<P: Plays>(end: &mut P, desk: &mut Desk, octets: &[u8]) {
 }
 
 /// Data octets are given as long as there are any, so many at most in a call, and so many in all.
-pub fn give<P: Plays>(end: &mut P, desk: &mut Desk, size: u64, most: u64) {
+pub fn give<P: EndpointCalls>(end: &mut P, desk: &mut Desk, size: u64, most: u64) {
     let mut tally = Tally::new();
     for _ in 0..TURNS {
         let left = most.saturating_sub(tally.count());
@@ -97,7 +97,7 @@ pub fn give<P: Plays>(end: &mut P, desk: &mut Desk, size: u64, most: u64) {
 }
 
 /// One call for data octets: whether there were any.
-fn gives<P: Plays>(end: &mut P, desk: &mut Desk, size: u64, tally: &mut Tally) -> bool {
+fn gives<P: EndpointCalls>(end: &mut P, desk: &mut Desk, size: u64, tally: &mut Tally) -> bool {
     let mut room = [0; ROOM];
     let (room, _) = room.split_at_mut(desk.size.min(size.min(ROOM as u64) as usize));
     let count = end.data_out(room).min(room.len());
@@ -107,7 +107,7 @@ fn gives<P: Plays>(end: &mut P, desk: &mut Desk, size: u64, tally: &mut Tally) -
 }
 
 /// What came of a line: how much was held before what is owed went out, a report, what is wanted now, where that was not wanted before.
-pub fn come_to_rest<P: Plays>(end: &mut P, desk: &mut Desk) {
+pub fn come_to_rest<P: EndpointCalls>(end: &mut P, desk: &mut Desk) {
     weigh(end, &mut desk.paper);
     if desk.drive.is_some() {
         return;
@@ -124,7 +124,7 @@ pub fn come_to_rest<P: Plays>(end: &mut P, desk: &mut Desk) {
     }
 }
 
-fn show_wants<P: Plays>(end: &P, desk: &mut Desk) {
+fn show_wants<P: EndpointCalls>(end: &P, desk: &mut Desk) {
     let wants = end.wants();
     if wants != desk.wanted {
         desk.wanted = wants;

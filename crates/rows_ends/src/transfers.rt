@@ -19,7 +19,7 @@ const NOW: Moment = Moment {
 
 /// What stands on the stage of a row.
 #[derive(Drop)]
-struct Stage<J: Drop> {
+struct TransferStage<J: Drop> {
     alloc: Global,
     tree: StrayingTree<Global>,
     transfer: Option<J>,
@@ -29,7 +29,7 @@ struct Stage<J: Drop> {
 
 /// What a line does.
 #[derive(Clone, Copy)]
-enum Step {
+enum TransferStep {
     Type,
     Dir,
     File,
@@ -53,27 +53,27 @@ enum Step {
     Nothing,
 }
 
-const STEPS: &[(&'static [u8], Step)] = &[
-    (b"type", Step::Type),
-    (b"dir", Step::Dir),
-    (b"file", Step::File),
-    (b"delete", Step::Delete),
-    (b"remove", Step::Remove),
-    (b"rename", Step::Rename),
-    (b"device", Step::Device),
-    (b"strays", Step::Strays),
-    (b"adds", Step::Adds),
-    (b"download", Step::Download),
-    (b"upload", Step::Upload),
-    (b"append", Step::Append),
-    (b"list", Step::List),
-    (b"names", Step::Names),
-    (b"entries", Step::Entries),
-    (b"give", Step::Give),
-    (b"data", Step::Data),
-    (b"end", Step::End),
-    (b"break", Step::Break),
-    (b"tree", Step::Tree),
+const STEPS: &[(&'static [u8], TransferStep)] = &[
+    (b"type", TransferStep::Type),
+    (b"dir", TransferStep::Dir),
+    (b"file", TransferStep::File),
+    (b"delete", TransferStep::Delete),
+    (b"remove", TransferStep::Remove),
+    (b"rename", TransferStep::Rename),
+    (b"device", TransferStep::Device),
+    (b"strays", TransferStep::Strays),
+    (b"adds", TransferStep::Adds),
+    (b"download", TransferStep::Download),
+    (b"upload", TransferStep::Upload),
+    (b"append", TransferStep::Append),
+    (b"list", TransferStep::List),
+    (b"names", TransferStep::Names),
+    (b"entries", TransferStep::Entries),
+    (b"give", TransferStep::Give),
+    (b"data", TransferStep::Data),
+    (b"end", TransferStep::End),
+    (b"break", TransferStep::Break),
+    (b"tree", TransferStep::Tree),
 ];
 
 /// The most octets of one `give`.
@@ -91,7 +91,7 @@ fn play<J: ServerTransfer<Global, StrayingTree<Global>>>(
     row: &[u8],
     paper: &mut Paper,
 ) {
-    let mut stage: Stage<J> = Stage::new(alloc);
+    let mut stage: TransferStage<J> = TransferStage::new(alloc);
     let mut rest = row;
     for _ in 0..row.len() {
         let (line, behind) = cut(rest, b'\n');
@@ -104,10 +104,10 @@ fn play<J: ServerTransfer<Global, StrayingTree<Global>>>(
     }
 }
 
-impl<J: ServerTransfer<Global, StrayingTree<Global>>> Stage<J> {
+impl<J: ServerTransfer<Global, StrayingTree<Global>>> TransferStage<J> {
     /// Nothing stands in the tree, and its device neither fails nor strays; files go in type I, file structure and stream mode.
-    fn new(alloc: Global) -> Stage<J> {
-        Stage {
+    fn new(alloc: Global) -> TransferStage<J> {
+        TransferStage {
             alloc,
             tree: StrayingTree::new(FailingTree::new(MemTree::new(alloc), 0)),
             transfer: None,
@@ -122,17 +122,17 @@ impl<J: ServerTransfer<Global, StrayingTree<Global>>> Stage<J> {
 
     fn play(&mut self, line: &[u8], paper: &mut Paper) {
         let (word, rest) = split(line);
-        match found(STEPS, word, Step::Nothing) {
-            Step::Nothing => {}
-            Step::Type => self.settings.kind = Kind::Ascii,
-            Step::Adds => self.rights.replace = false,
-            Step::Device => self.tree.fails_at(number(rest)),
-            Step::Strays => self.strays(rest, paper),
-            Step::Give => self.give(number(rest), paper),
-            Step::Data => self.data(rest, paper),
-            Step::End => self.ends(false, paper),
-            Step::Break => self.ends(true, paper),
-            Step::Tree => show_tree(self.alloc, self.tree.memory(), paper),
+        match found(STEPS, word, TransferStep::Nothing) {
+            TransferStep::Nothing => {}
+            TransferStep::Type => self.settings.kind = Kind::Ascii,
+            TransferStep::Adds => self.rights.replace = false,
+            TransferStep::Device => self.tree.fails_at(number(rest)),
+            TransferStep::Strays => self.strays(rest, paper),
+            TransferStep::Give => self.give(number(rest), paper),
+            TransferStep::Data => self.data(rest, paper),
+            TransferStep::End => self.ends(false, paper),
+            TransferStep::Break => self.ends(true, paper),
+            TransferStep::Tree => show_tree(self.alloc, self.tree.memory(), paper),
             step => self.at_path(step, rest, paper),
         }
     }
@@ -145,7 +145,7 @@ impl<J: ServerTransfer<Global, StrayingTree<Global>>> Stage<J> {
     }
 
     /// A line that names a path, and perhaps something more.
-    fn at_path(&mut self, step: Step, rest: &[u8], paper: &mut Paper) {
+    fn at_path(&mut self, step: TransferStep, rest: &[u8], paper: &mut Paper) {
         let (text, more) = split(rest);
         match place(self.alloc, text) {
             Ok(path) => self.do_at(step, path, more, paper),
@@ -153,14 +153,14 @@ impl<J: ServerTransfer<Global, StrayingTree<Global>>> Stage<J> {
         }
     }
 
-    fn do_at(&mut self, step: Step, path: Path<Global>, more: &[u8], paper: &mut Paper) {
+    fn do_at(&mut self, step: TransferStep, path: Path<Global>, more: &[u8], paper: &mut Paper) {
         let root = Path::root(self.alloc);
         let changed = match step {
-            Step::Dir => self.tree.make_dir(&root, &path),
-            Step::Delete => self.tree.delete(&root, &path),
-            Step::Remove => self.tree.remove_dir(&root, &path),
-            Step::File => self.file(&path, more),
-            Step::Rename => self.rename(&path, more),
+            TransferStep::Dir => self.tree.make_dir(&root, &path),
+            TransferStep::Delete => self.tree.delete(&root, &path),
+            TransferStep::Remove => self.tree.remove_dir(&root, &path),
+            TransferStep::File => self.file(&path, more),
+            TransferStep::Rename => self.rename(&path, more),
             _ => return self.begin(step, path, number(more), paper),
         };
         if changed.is_err() {
@@ -186,7 +186,7 @@ impl<J: ServerTransfer<Global, StrayingTree<Global>>> Stage<J> {
         self.tree.put(&root, path, 0, came, NOW)
     }
 
-    fn begin(&mut self, step: Step, path: Path<Global>, at: u64, paper: &mut Paper) {
+    fn begin(&mut self, step: TransferStep, path: Path<Global>, at: u64, paper: &mut Paper) {
         match self.begun(step, path, at) {
             Ok(transfer) => self.transfer = Some(transfer),
             Err(Fault::Memory) => paper.line(b"! no memory"),
@@ -194,12 +194,12 @@ impl<J: ServerTransfer<Global, StrayingTree<Global>>> Stage<J> {
         }
     }
 
-    fn begun(&mut self, step: Step, mut path: Path<Global>, at: u64) -> Result<J, Fault> {
+    fn begun(&mut self, step: TransferStep, mut path: Path<Global>, at: u64) -> Result<J, Fault> {
         let (alloc, settings) = (self.alloc, self.settings);
         let root = Path::root(alloc);
         match step {
-            Step::Download => J::download(&mut self.tree, &root, &path, at, settings),
-            Step::Upload | Step::Append => {
+            TransferStep::Download => J::download(&mut self.tree, &root, &path, at, settings),
+            TransferStep::Upload | TransferStep::Append => {
                 let keep = self.kept(step, &path, at);
                 J::upload(alloc, &mut self.tree, &root, &mut path, keep, settings)
             }
@@ -211,9 +211,9 @@ impl<J: ServerTransfer<Global, StrayingTree<Global>>> Stage<J> {
     }
 
     /// The octets before a place, or all that stand there.
-    fn kept(&self, step: Step, path: &Path<Global>, at: u64) -> Keep {
+    fn kept(&self, step: TransferStep, path: &Path<Global>, at: u64) -> Keep {
         match step {
-            Step::Append => {
+            TransferStep::Append => {
                 let size = self.tree.size(&Path::root(self.alloc), path);
                 Keep::All(size.unwrap_or(0))
             }
@@ -221,12 +221,12 @@ impl<J: ServerTransfer<Global, StrayingTree<Global>>> Stage<J> {
         }
     }
 
-    fn listing(&mut self, step: Step, path: &mut Path<Global>) -> Result<J, AllocError> {
+    fn listing(&mut self, step: TransferStep, path: &mut Path<Global>) -> Result<J, AllocError> {
         let (alloc, mode) = (self.alloc, self.settings.mode);
         let root = Path::root(alloc);
         match step {
-            Step::List => J::list(alloc, &self.tree, &root, path, mode),
-            Step::Names => J::names(alloc, &self.tree, &root, path, &None, mode),
+            TransferStep::List => J::list(alloc, &self.tree, &root, path, mode),
+            TransferStep::Names => J::names(alloc, &self.tree, &root, path, &None, mode),
             _ => J::entries(alloc, &self.tree, &root, path, Facts::ALL, mode),
         }
     }

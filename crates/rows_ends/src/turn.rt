@@ -40,7 +40,7 @@ pub const CLIENT: Side = Side {
 
 /// A row, and what it writes where that was seen before: then the tree is kept behind each line, up to the first that writes something else.
 #[derive(Clone, Copy)]
-pub struct Turn<'a> {
+pub struct RowTurn<'a> {
     pub alloc: Global,
     pub side: Side,
     pub row: &'a [u8],
@@ -49,7 +49,7 @@ pub struct Turn<'a> {
 
 /// How a row is played.
 #[derive(Clone, Copy)]
-pub struct Manner {
+pub struct RowSettings {
     /// The most octets of one call.
     pub size: usize,
     /// The growth that is refused; none at 0.
@@ -60,8 +60,8 @@ pub struct Manner {
 
 impl Side {
     /// How a row is played first.
-    pub fn whole(&self) -> Manner {
-        Manner {
+    pub fn whole(&self) -> RowSettings {
+        RowSettings {
             size: self.size,
             refused: 0,
             tried: Try::Whole,
@@ -69,7 +69,7 @@ impl Side {
     }
 }
 
-impl Turn<'_> {
+impl RowTurn<'_> {
     /// The hosts of both ends.
     pub fn hosts(&self) -> (Host, Host) {
         let here = said(self.row, b"here").unwrap_or(b"");

@@ -1,10 +1,10 @@
 // The words that a line begins with.
-use crate::event::Event;
+use crate::event::EndEvent;
 use rows_base::found;
 
 /// What a line is about.
 #[derive(Clone, Copy)]
-pub enum Verb {
+pub enum LineVerb {
     /// Says with what a row begins, or is for readers.
     Heading,
     /// A line of the control connection, without its CR LF.
@@ -13,7 +13,7 @@ pub enum Verb {
     Octets,
     /// The three replies to a login that is accepted.
     Login,
-    Happens(Event),
+    Happens(EndEvent),
     /// Octets of the data connection.
     Data,
     /// Data octets are given until there are none, this many at most in a call.
@@ -40,54 +40,54 @@ pub enum Verb {
     Order,
 }
 
-const VERBS: &[(&'static [u8], Verb)] = &[
-    (b"#", Verb::Heading),
-    (b"root", Verb::Heading),
-    (b"user", Verb::Heading),
-    (b"pass", Verb::Heading),
-    (b"here", Verb::Heading),
-    (b"peer", Verb::Heading),
-    (b"dir", Verb::Heading),
-    (b"dirs", Verb::Heading),
-    (b"file", Verb::Heading),
-    (b"full", Verb::Heading),
-    (b"device", Verb::Heading),
-    (b"refusals", Verb::Heading),
-    (b"failures", Verb::Heading),
-    (b"in", Verb::Heading),
-    (b"growths", Verb::Heading),
-    (b"also", Verb::Heading),
-    (b"reads", Verb::Heading),
-    (b"writes", Verb::Heading),
-    (b">", Verb::Says),
-    (b"<", Verb::Says),
-    (b">>", Verb::Octets),
-    (b"<<", Verb::Octets),
-    (b"login", Verb::Login),
-    (b"listening", Verb::Happens(Event::Listening)),
-    (b"portless", Verb::Happens(Event::Portless)),
-    (b"opened", Verb::Happens(Event::Opened)),
-    (b"refused", Verb::Happens(Event::Refused)),
-    (b"end", Verb::Happens(Event::Ended)),
-    (b"fault", Verb::Happens(Event::Broke)),
-    (b"closed", Verb::Happens(Event::Closed)),
-    (b"cut", Verb::Happens(Event::Cut)),
-    (b"clock", Verb::Happens(Event::Clock)),
-    (b"data", Verb::Data),
-    (b"give", Verb::Give),
-    (b"out", Verb::Out),
-    (b"owed", Verb::Owed),
-    (b"tree", Verb::Tree),
-    (b"told", Verb::Told),
-    (b"held", Verb::Held),
-    (b"weigh", Verb::Weigh),
-    (b"tells", Verb::Tells),
-    (b"drive", Verb::Drive),
-    (b"run", Verb::Run),
-    (b"page", Verb::Page),
+const VERBS: &[(&'static [u8], LineVerb)] = &[
+    (b"#", LineVerb::Heading),
+    (b"root", LineVerb::Heading),
+    (b"user", LineVerb::Heading),
+    (b"pass", LineVerb::Heading),
+    (b"here", LineVerb::Heading),
+    (b"peer", LineVerb::Heading),
+    (b"dir", LineVerb::Heading),
+    (b"dirs", LineVerb::Heading),
+    (b"file", LineVerb::Heading),
+    (b"full", LineVerb::Heading),
+    (b"device", LineVerb::Heading),
+    (b"refusals", LineVerb::Heading),
+    (b"failures", LineVerb::Heading),
+    (b"in", LineVerb::Heading),
+    (b"growths", LineVerb::Heading),
+    (b"also", LineVerb::Heading),
+    (b"reads", LineVerb::Heading),
+    (b"writes", LineVerb::Heading),
+    (b">", LineVerb::Says),
+    (b"<", LineVerb::Says),
+    (b">>", LineVerb::Octets),
+    (b"<<", LineVerb::Octets),
+    (b"login", LineVerb::Login),
+    (b"listening", LineVerb::Happens(EndEvent::Listening)),
+    (b"portless", LineVerb::Happens(EndEvent::Portless)),
+    (b"opened", LineVerb::Happens(EndEvent::Opened)),
+    (b"refused", LineVerb::Happens(EndEvent::Refused)),
+    (b"end", LineVerb::Happens(EndEvent::Ended)),
+    (b"fault", LineVerb::Happens(EndEvent::Broke)),
+    (b"closed", LineVerb::Happens(EndEvent::Closed)),
+    (b"cut", LineVerb::Happens(EndEvent::Cut)),
+    (b"clock", LineVerb::Happens(EndEvent::Clock)),
+    (b"data", LineVerb::Data),
+    (b"give", LineVerb::Give),
+    (b"out", LineVerb::Out),
+    (b"owed", LineVerb::Owed),
+    (b"tree", LineVerb::Tree),
+    (b"told", LineVerb::Told),
+    (b"held", LineVerb::Held),
+    (b"weigh", LineVerb::Weigh),
+    (b"tells", LineVerb::Tells),
+    (b"drive", LineVerb::Drive),
+    (b"run", LineVerb::Run),
+    (b"page", LineVerb::Page),
 ];
 
 /// What a word says.
-pub fn verb_of(word: &[u8]) -> Verb {
-    found(VERBS, word, Verb::Order)
+pub fn verb_of(word: &[u8]) -> LineVerb {
+    found(VERBS, word, LineVerb::Order)
 }

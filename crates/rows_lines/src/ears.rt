@@ -1,7 +1,7 @@
 //! What octets of a control connection say, and the memory that an ear asks for.
 use crate::caller::events_in;
 use crate::report::put_quoted;
-use crate::row::Row;
+use crate::row::LineRow;
 use ftp_nvt::{Ear, Event, NvtFault};
 use rows_base::{Paper, Refusing, number, split};
 use std::alloc::{Allocator, Global};
@@ -33,7 +33,7 @@ fn put_between(front: &[u8], text: &[u8], back: &[u8], said: &mut Paper) {
 }
 
 /// Writes what octets say to an ear of the row's limit.
-pub(crate) fn show(alloc: Global, row: &Row<'_>, paper: &mut Paper) {
+pub(crate) fn show(alloc: Global, row: &LineRow<'_>, paper: &mut Paper) {
     let mut said = Paper::new(alloc);
     match Ear::new(alloc, number(split(row.head).0) as usize) {
         Ok(mut ear) => put_events(&mut ear, row.octets, &mut said),

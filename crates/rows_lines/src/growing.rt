@@ -1,6 +1,6 @@
 //! What is answered by means of memory: once with all that is asked for, and with each growth refused in turn.
 use crate::report::put_quoted;
-use crate::row::Row;
+use crate::row::LineRow;
 use crate::{commands, entries, replies, scripts, values};
 use ftp_nvt::put_line;
 use rows_base::{Paper, Refusing, number, split};
@@ -29,7 +29,7 @@ fn put<A: Allocator + Copy>(
     heap: A,
     alloc: Global,
     asked: Asked,
-    row: &Row<'_>,
+    row: &LineRow<'_>,
     paper: &mut Paper,
 ) {
     match asked {
@@ -52,14 +52,14 @@ fn put_text<A: Allocator + Copy>(heap: A, text: &[u8], paper: &mut Paper) {
 }
 
 /// Puts what is answered where this growth is refused. Gives how many growths are left.
-fn growth(alloc: Global, asked: Asked, row: &Row<'_>, refused: u64, paper: &mut Paper) -> u64 {
+fn growth(alloc: Global, asked: Asked, row: &LineRow<'_>, refused: u64, paper: &mut Paper) -> u64 {
     let heap = Refusing::new(alloc, refused);
     put(&heap, alloc, asked, row, paper);
     heap.left()
 }
 
 /// Whether memory is wanted where this growth is refused.
-fn is_wanted(alloc: Global, asked: Asked, row: &Row<'_>, refused: u64, said: &[u8]) -> bool {
+fn is_wanted(alloc: Global, asked: Asked, row: &LineRow<'_>, refused: u64, said: &[u8]) -> bool {
     let mut paper = Paper::new(alloc);
     let _left = growth(alloc, asked, row, refused, &mut paper);
     tells_it(asked, paper.text(), said)
@@ -81,7 +81,13 @@ fn is_within(growths: u64, bounds: &[u8]) -> bool {
 }
 
 /// Whether memory is wanted wherever one of these growths is refused. What was written asks for some.
-fn each_is_wanted(alloc: Global, asked: Asked, row: &Row<'_>, growths: u64, said: &[u8]) -> bool {
+fn each_is_wanted(
+    alloc: Global,
+    asked: Asked,
+    row: &LineRow<'_>,
+    growths: u64,
+    said: &[u8],
+) -> bool {
     let mut all = growths > 0 || !said.ends_with(b"\"");
     for refused in 1..=growths {
         all &= is_wanted(alloc, asked, row, refused, said);
@@ -90,7 +96,7 @@ fn each_is_wanted(alloc: Global, asked: Asked, row: &Row<'_>, growths: u64, said
 }
 
 /// Writes what is answered, and whether it is otherwise with a growth refused. The bounds say how many growths there may be.
-pub(crate) fn show(alloc: Global, asked: Asked, row: &Row<'_>, paper: &mut Paper) {
+pub(crate) fn show(alloc: Global, asked: Asked, row: &LineRow<'_>, paper: &mut Paper) {
     let mut said = Paper::new(alloc);
     let growths = 0u64.wrapping_sub(growth(alloc, asked, row, 0, &mut said));
     paper.put(said.text());

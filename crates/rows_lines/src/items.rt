@@ -1,18 +1,18 @@
 //! Files to items, and items to files.
 use crate::report::put_quoted;
-use crate::row::{Row, kind_of, octets_in, structure_of};
+use crate::row::{LineRow, kind_of, octets_in, structure_of};
 use ftp_repr::{Item, Receiver, Sender};
 use rows_base::{Paper, quoted, split};
 use std::alloc::Global;
 
 /// Writes the items of the row's file in their least parts: each octet behind an `o`, an end of record as `R`, and that of the file as `F`.
-pub(crate) fn show_sent(alloc: Global, row: &Row<'_>, paper: &mut Paper) {
+pub(crate) fn show_sent(alloc: Global, row: &LineRow<'_>, paper: &mut Paper) {
     let mut parts = Paper::new(alloc);
     send(row, &mut parts);
     put_quoted(parts.text(), paper);
 }
 
-fn send(row: &Row<'_>, parts: &mut Paper) {
+fn send(row: &LineRow<'_>, parts: &mut Paper) {
     let mut sender = Sender::new(kind_of(row.head), structure_of(row.head));
     let mut rest = row.octets;
     for _ in 0..100 {
@@ -35,7 +35,7 @@ fn put_item(item: Item<'_>, parts: &mut Paper) {
 }
 
 /// Writes the file that the row's items give at a clean end, and at a break.
-pub(crate) fn show_received(alloc: Global, row: &Row<'_>, paper: &mut Paper) {
+pub(crate) fn show_received(alloc: Global, row: &LineRow<'_>, paper: &mut Paper) {
     put_received(alloc, row.text, false, paper);
     paper.put(b" broken ");
     put_received(alloc, row.text, true, paper);

@@ -1,13 +1,13 @@
 //! What a deframer and a decoder tell of each piece of a wire.
 use crate::report::{put_printed, put_quoted};
-use crate::row::{Row, form_of, octets_in};
+use crate::row::{LineRow, form_of, octets_in};
 use ftp_mode::{Deframer, Part};
 use ftp_wire::{Decoded, Decoder, Taken};
 use rows_base::{Paper, Refusing, number, quoted, split};
 use std::alloc::{Allocator, Global};
 
 /// Writes what a deframer gives for each piece, at a break and at the end.
-pub(crate) fn show_parts(alloc: Global, row: &Row<'_>, paper: &mut Paper) {
+pub(crate) fn show_parts(alloc: Global, row: &LineRow<'_>, paper: &mut Paper) {
     let (letters, pieces) = split(row.text);
     let form = form_of(letters);
     let mut deframer = Deframer::new(form.mode, form.structure);
@@ -78,7 +78,7 @@ fn put_part(part: Part<'_>, paper: &mut Paper) -> bool {
 }
 
 /// Writes what a decoder tells of each piece, with a room of so many octets and where this growth is refused.
-pub(crate) fn show_told(alloc: Global, row: &Row<'_>, paper: &mut Paper) {
+pub(crate) fn show_told(alloc: Global, row: &LineRow<'_>, paper: &mut Paper) {
     let (letters, words) = split(row.text);
     let (room, words) = split(words);
     let (refused, pieces) = split(words);

@@ -6,7 +6,7 @@ use std::alloc::Global;
 
 /// What stands behind the word of a line: small words, and then octets between double quotes.
 #[derive(Drop)]
-pub(crate) struct Row<'a> {
+pub(crate) struct LineRow<'a> {
     /// All of it, as it is written.
     pub text: &'a [u8],
     /// The small words.

@@ -1,6 +1,6 @@
 //! Rows of the script: a word for what is tried, and behind it small words and octets.
-use crate::row::{Row, octets_in};
-use crate::word::{FactWord, FileWord, Word, word_of};
+use crate::row::{LineRow, octets_in};
+use crate::word::{FactWord, FileWord, LineWord, word_of};
 use crate::{
     calendar, ears, endpoints, entries, growing, items, moments, pieces, replies, secrets, sizes,
     wires,
@@ -30,7 +30,7 @@ fn play(alloc: Global, line: &[u8], paper: &mut Paper) {
     };
     let (head, quoted) = cut(text, b'"');
     let octets = octets_in(alloc, cut(quoted, b'"').0);
-    let row = Row {
+    let row = LineRow {
         text,
         head,
         octets: octets.text(),
@@ -39,20 +39,20 @@ fn play(alloc: Global, line: &[u8], paper: &mut Paper) {
     answer(alloc, word, &row, paper);
 }
 
-fn answer(alloc: Global, word: Word, row: &Row<'_>, paper: &mut Paper) {
+fn answer(alloc: Global, word: LineWord, row: &LineRow<'_>, paper: &mut Paper) {
     match word {
-        Word::Ear => ears::show(alloc, row, paper),
-        Word::Growing(asked) => growing::show(alloc, asked, row, paper),
-        Word::Endpoint(asked) => endpoints::show(alloc, asked, row.octets, paper),
-        Word::ReplyLimit => replies::show_limit(alloc, row.head, paper),
-        Word::Opens => secrets::show_opened(alloc, row, paper),
-        Word::Made => secrets::show_made(alloc, row, paper),
-        Word::Fact(word) => answer_fact(alloc, word, row, paper),
-        Word::File(word) => answer_file(alloc, word, row, paper),
+        LineWord::Ear => ears::show(alloc, row, paper),
+        LineWord::Growing(asked) => growing::show(alloc, asked, row, paper),
+        LineWord::Endpoint(asked) => endpoints::show(alloc, asked, row.octets, paper),
+        LineWord::ReplyLimit => replies::show_limit(alloc, row.head, paper),
+        LineWord::Opens => secrets::show_opened(alloc, row, paper),
+        LineWord::Made => secrets::show_made(alloc, row, paper),
+        LineWord::Fact(word) => answer_fact(alloc, word, row, paper),
+        LineWord::File(word) => answer_file(alloc, word, row, paper),
     }
 }
 
-fn answer_fact(alloc: Global, word: FactWord, row: &Row<'_>, paper: &mut Paper) {
+fn answer_fact(alloc: Global, word: FactWord, row: &LineRow<'_>, paper: &mut Paper) {
     match word {
         FactWord::EntryBack => entries::show_back(alloc, row.octets, paper),
         FactWord::EntryGrowths => entries::show_growths(alloc, row.octets, paper),
@@ -62,7 +62,7 @@ fn answer_fact(alloc: Global, word: FactWord, row: &Row<'_>, paper: &mut Paper) 
     }
 }
 
-fn answer_file(alloc: Global, word: FileWord, row: &Row<'_>, paper: &mut Paper) {
+fn answer_file(alloc: Global, word: FileWord, row: &LineRow<'_>, paper: &mut Paper) {
     match word {
         FileWord::Sizes => sizes::show_sizes(row.octets, paper),
         FileWord::Run => sizes::show_run(row, paper),

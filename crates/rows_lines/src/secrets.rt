@@ -1,12 +1,12 @@
 //! Passwords, the fields that they open, and the fields that are made of them.
 use crate::report::put_printed;
-use crate::row::Row;
+use crate::row::LineRow;
 use ftp_secret::{Method, Secret, SecretFault};
 use rows_base::{Paper, number, split};
 use std::alloc::Global;
 
 /// Writes whether a password opens a field, or what is wrong with the field.
-pub(crate) fn show_opened(alloc: Global, row: &Row<'_>, paper: &mut Paper) {
+pub(crate) fn show_opened(alloc: Global, row: &LineRow<'_>, paper: &mut Paper) {
     match Secret::read(split(row.head).0) {
         Ok(secret) => put_opened(secret.opens(row.octets), paper),
         Err(fault) => put_printed(alloc, &fault, paper),
@@ -22,7 +22,7 @@ fn put_opened(opens: bool, paper: &mut Paper) {
 }
 
 /// Writes the field that is made of a password, by `5` or `6`, a salt and a number of rounds, or none.
-pub(crate) fn show_made(alloc: Global, row: &Row<'_>, paper: &mut Paper) {
+pub(crate) fn show_made(alloc: Global, row: &LineRow<'_>, paper: &mut Paper) {
     let (method, behind) = split(row.head);
     let (salt, rounds) = split(behind);
     match made(method, salt, split(rounds).0, row.octets) {

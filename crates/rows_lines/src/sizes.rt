@@ -1,5 +1,5 @@
 //! Sizes on the wire, runs, and places in a file.
-use crate::row::{Row, kind_of};
+use crate::row::{LineRow, kind_of};
 use ftp_repr::{Kind, Skipped, Structure, first_ff, plain_run, skip, wire_size};
 use rows_base::{Paper, number, split};
 
@@ -11,7 +11,7 @@ pub(crate) fn show_sizes(octets: &[u8], paper: &mut Paper) {
 }
 
 /// Writes how many octets go as they are in type A and in type I, and how many stand before an octet 255.
-pub(crate) fn show_run(row: &Row<'_>, paper: &mut Paper) {
+pub(crate) fn show_run(row: &LineRow<'_>, paper: &mut Paper) {
     let structure = match row.head {
         [b'R', ..] => Structure::Record,
         _ => Structure::File,

@@ -2,7 +2,7 @@
 use crate::endpoints::put_endpoint;
 use crate::growing::put_behind;
 use crate::report::{put_printed, put_quoted};
-use crate::row::{Row, octets_in};
+use crate::row::{LineRow, octets_in};
 use ftp_reply::{
     Lines, Reader, Reply, ReplyFault, extended_of, mark_of, moment_of, passive_of, quoted_of,
     size_of, write,
@@ -25,7 +25,7 @@ pub(crate) enum Asked {
 }
 
 /// The reply that a quoted line ends, or one of a code and quoted lines.
-fn reply_in(alloc: Global, row: &Row<'_>) -> Option<Reply<Global>> {
+fn reply_in(alloc: Global, row: &LineRow<'_>) -> Option<Reply<Global>> {
     match row.text {
         [b'"', ..] => reply_of(alloc, row.octets),
         text => reply_with(alloc, text),
@@ -78,7 +78,7 @@ pub(crate) fn put<A: Allocator + Copy>(
     heap: A,
     alloc: Global,
     asked: Asked,
-    row: &Row<'_>,
+    row: &LineRow<'_>,
     paper: &mut Paper,
 ) {
     match &reply_in(alloc, row) {

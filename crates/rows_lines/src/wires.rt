@@ -1,6 +1,6 @@
 //! Files to wires, and wires to files.
 use crate::report::{put_printed, put_quoted};
-use crate::row::{Row, form_of};
+use crate::row::{LineRow, form_of};
 use ftp_mode::FrameFault;
 use ftp_settings::Representation;
 use ftp_wire::{Decoded, Decoder, Encoder};
@@ -8,7 +8,7 @@ use rows_base::{Paper, number, split};
 use std::alloc::Global;
 
 /// Writes the wire of the row's file in a representation; markers are counted from a start where the row has one.
-pub(crate) fn show_wire(alloc: Global, row: &Row<'_>, paper: &mut Paper) {
+pub(crate) fn show_wire(alloc: Global, row: &LineRow<'_>, paper: &mut Paper) {
     let (letters, start) = split(row.head);
     let mut wire = Paper::new(alloc);
     let mut encoder = encoder(form_of(letters), split(start).0);
@@ -39,7 +39,7 @@ fn encode(encoder: &mut Encoder, file: &[u8], wire: &mut Paper) -> bool {
 }
 
 /// Writes the file that the row's wire gives once it has ended, and its fault.
-pub(crate) fn show_file(alloc: Global, row: &Row<'_>, paper: &mut Paper) {
+pub(crate) fn show_file(alloc: Global, row: &LineRow<'_>, paper: &mut Paper) {
     let mut decoder = Decoder::new(form_of(row.head), Vec::new(alloc));
     let fault = match hear(&mut decoder, row.octets) {
         None => end(&mut decoder),
@@ -53,7 +53,7 @@ pub(crate) fn show_file(alloc: Global, row: &Row<'_>, paper: &mut Paper) {
 }
 
 /// Writes the file that it gives where it broke.
-pub(crate) fn show_broken(alloc: Global, row: &Row<'_>, paper: &mut Paper) {
+pub(crate) fn show_broken(alloc: Global, row: &LineRow<'_>, paper: &mut Paper) {
     let mut decoder = Decoder::new(form_of(row.head), Vec::new(alloc));
     let _fault = hear(&mut decoder, row.octets);
     put_quoted(decoder.sink().as_slice(), paper);

@@ -4,7 +4,7 @@ use rows_base::found;
 
 /// What is tried on a line of the script.
 #[derive(Clone, Copy)]
-pub(crate) enum Word {
+pub(crate) enum LineWord {
     Ear,
     Growing(growing::Asked),
     Endpoint(endpoints::Asked),
@@ -42,87 +42,93 @@ pub(crate) enum FileWord {
     Pieces,
 }
 
-const WORDS: &[(&'static [u8], Option<Word>)] = &[
-    (b"ear", Some(Word::Ear)),
-    (b"reply-limit", Some(Word::ReplyLimit)),
-    (b"opens", Some(Word::Opens)),
-    (b"made", Some(Word::Made)),
-    (b"line", Some(Word::Growing(growing::Asked::Line))),
-    (b"command", Some(Word::Growing(growing::Asked::Command))),
+const WORDS: &[(&'static [u8], Option<LineWord>)] = &[
+    (b"ear", Some(LineWord::Ear)),
+    (b"reply-limit", Some(LineWord::ReplyLimit)),
+    (b"opens", Some(LineWord::Opens)),
+    (b"made", Some(LineWord::Made)),
+    (b"line", Some(LineWord::Growing(growing::Asked::Line))),
+    (b"command", Some(LineWord::Growing(growing::Asked::Command))),
     (
         b"command-endpoint",
-        Some(Word::Growing(growing::Asked::CommandEndpoint)),
+        Some(LineWord::Growing(growing::Asked::CommandEndpoint)),
     ),
-    (b"entry", Some(Word::Growing(growing::Asked::Entry))),
-    (b"reply", Some(Word::Growing(growing::Asked::Reply))),
-    (b"script", Some(Word::Growing(growing::Asked::Script))),
+    (b"entry", Some(LineWord::Growing(growing::Asked::Entry))),
+    (b"reply", Some(LineWord::Growing(growing::Asked::Reply))),
+    (b"script", Some(LineWord::Growing(growing::Asked::Script))),
     (
         b"endpoint-of",
-        Some(Word::Growing(growing::Asked::Value(values::Asked::Endpoint))),
+        Some(LineWord::Growing(growing::Asked::Value(values::Asked::Endpoint))),
     ),
     (
         b"port-of",
-        Some(Word::Growing(growing::Asked::Value(values::Asked::Port))),
+        Some(LineWord::Growing(growing::Asked::Value(values::Asked::Port))),
     ),
     (
         b"size-of",
-        Some(Word::Growing(growing::Asked::Value(values::Asked::Size))),
+        Some(LineWord::Growing(growing::Asked::Value(values::Asked::Size))),
     ),
     (
         b"moment-of",
-        Some(Word::Growing(growing::Asked::Value(values::Asked::Moment))),
+        Some(LineWord::Growing(growing::Asked::Value(values::Asked::Moment))),
     ),
     (
         b"mark-of",
-        Some(Word::Growing(growing::Asked::Value(values::Asked::Mark))),
+        Some(LineWord::Growing(growing::Asked::Value(values::Asked::Mark))),
     ),
     (
         b"path-of",
-        Some(Word::Growing(growing::Asked::Value(values::Asked::Path))),
+        Some(LineWord::Growing(growing::Asked::Value(values::Asked::Path))),
     ),
     (
         b"reply-written",
-        Some(Word::Growing(growing::Asked::Value(values::Asked::Written))),
+        Some(LineWord::Growing(growing::Asked::Value(values::Asked::Written))),
     ),
-    (b"number", Some(Word::Endpoint(endpoints::Asked::Number))),
-    (b"octet", Some(Word::Endpoint(endpoints::Asked::Octet))),
-    (b"port", Some(Word::Endpoint(endpoints::Asked::Port))),
+    (
+        b"number",
+        Some(LineWord::Endpoint(endpoints::Asked::Number)),
+    ),
+    (b"octet", Some(LineWord::Endpoint(endpoints::Asked::Octet))),
+    (b"port", Some(LineWord::Endpoint(endpoints::Asked::Port))),
     (
         b"port-in-front",
-        Some(Word::Endpoint(endpoints::Asked::PortInFront)),
+        Some(LineWord::Endpoint(endpoints::Asked::PortInFront)),
     ),
-    (b"six", Some(Word::Endpoint(endpoints::Asked::Six))),
+    (b"six", Some(LineWord::Endpoint(endpoints::Asked::Six))),
     (
         b"six-in-front",
-        Some(Word::Endpoint(endpoints::Asked::SixInFront)),
+        Some(LineWord::Endpoint(endpoints::Asked::SixInFront)),
     ),
     (
         b"extended",
-        Some(Word::Endpoint(endpoints::Asked::Extended)),
+        Some(LineWord::Endpoint(endpoints::Asked::Extended)),
     ),
     (
         b"extended-anew",
-        Some(Word::Endpoint(endpoints::Asked::Anew)),
+        Some(LineWord::Endpoint(endpoints::Asked::Anew)),
     ),
-    (b"entry-back", Some(Word::Fact(FactWord::EntryBack))),
-    (b"entry-growths", Some(Word::Fact(FactWord::EntryGrowths))),
-    (b"seconds", Some(Word::Fact(FactWord::Seconds))),
-    (b"moment", Some(Word::Fact(FactWord::Moment))),
-    (b"years", Some(Word::Fact(FactWord::Years))),
-    (b"sizes", Some(Word::File(FileWord::Sizes))),
-    (b"run", Some(Word::File(FileWord::Run))),
-    (b"skip", Some(Word::File(FileWord::Skip))),
-    (b"send", Some(Word::File(FileWord::Send))),
-    (b"receive", Some(Word::File(FileWord::Receive))),
-    (b"frame", Some(Word::File(FileWord::Frame))),
-    (b"deframe", Some(Word::File(FileWord::Deframe))),
-    (b"decode", Some(Word::File(FileWord::Deframe))),
-    (b"break", Some(Word::File(FileWord::Break))),
-    (b"parts", Some(Word::File(FileWord::Parts))),
-    (b"pieces", Some(Word::File(FileWord::Pieces))),
+    (b"entry-back", Some(LineWord::Fact(FactWord::EntryBack))),
+    (
+        b"entry-growths",
+        Some(LineWord::Fact(FactWord::EntryGrowths)),
+    ),
+    (b"seconds", Some(LineWord::Fact(FactWord::Seconds))),
+    (b"moment", Some(LineWord::Fact(FactWord::Moment))),
+    (b"years", Some(LineWord::Fact(FactWord::Years))),
+    (b"sizes", Some(LineWord::File(FileWord::Sizes))),
+    (b"run", Some(LineWord::File(FileWord::Run))),
+    (b"skip", Some(LineWord::File(FileWord::Skip))),
+    (b"send", Some(LineWord::File(FileWord::Send))),
+    (b"receive", Some(LineWord::File(FileWord::Receive))),
+    (b"frame", Some(LineWord::File(FileWord::Frame))),
+    (b"deframe", Some(LineWord::File(FileWord::Deframe))),
+    (b"decode", Some(LineWord::File(FileWord::Deframe))),
+    (b"break", Some(LineWord::File(FileWord::Break))),
+    (b"parts", Some(LineWord::File(FileWord::Parts))),
+    (b"pieces", Some(LineWord::File(FileWord::Pieces))),
 ];
 
 /// What a word stands for; nothing where the line is a remark.
-pub(crate) fn word_of(word: &[u8]) -> Option<Word> {
+pub(crate) fn word_of(word: &[u8]) -> Option<LineWord> {
     found(WORDS, word, None)
 }

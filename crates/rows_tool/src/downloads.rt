@@ -1,14 +1,14 @@
 // What a download of the octets 0123456789 asks of a server that answers so, and how it stands then.
 use crate::slot::played;
-use crate::tries::Row;
+use crate::tries::TransferRow;
 use ftp_facts::Moment;
 use ftp_operation::Answer;
 use rows_base::Paper;
 use std::alloc::Global;
 use std::io;
 use std::io::{Error, ErrorKind, Write};
-use tool_files::{LocalFiles, OpenPart, Reading, read_from};
-use tool_resume::{Arrival, Downloading, Stamp};
+use tool_files::{LimitedContent, LocalFiles, OpenPart, read_from};
+use tool_resume::{Arrival, Downloading, KnownMoment};
 use tool_session::{Openings, SessionFault};
 
 /// The most octets that the file may have.
@@ -25,7 +25,7 @@ const LISTED: u64 = 1_000;
 
 /// What is known of the file before.
 #[derive(Clone, Copy)]
-pub(crate) enum Known {
+pub(crate) enum KnownBefore {
     /// Nothing, and its moment is not asked for.
     Nothing,
     /// Nothing, and its moment is asked for.
@@ -36,26 +36,26 @@ pub(crate) enum Known {
     Listed,
 }
 
-fn stamp_of(known: Known) -> Stamp {
+fn stamp_of(known: KnownBefore) -> KnownMoment {
     match known {
-        Known::Nothing | Known::Listed => Stamp::Unasked,
-        Known::Untold | Known::Kept => Stamp::Untold,
+        KnownBefore::Nothing | KnownBefore::Listed => KnownMoment::Unasked,
+        KnownBefore::Untold | KnownBefore::Kept => KnownMoment::Untold,
     }
 }
 
 /// Tells a download what is known, and the part to which its octets go.
 fn tell(
     downloading: &mut Downloading<'_, HostRuntime>,
-    known: Known,
+    known: KnownBefore,
     part: OpenPart,
 ) -> io::Result<()> {
     match (known, Moment::new(5)) {
-        (Known::Kept, Some(moment)) => {
+        (KnownBefore::Kept, Some(moment)) => {
             let mut writer = part.writer();
             writer.write_all(b"0123")?;
             downloading.go_on_in(part, 4, TOTAL, Some(moment));
         }
-        (Known::Listed, Some(moment)) => {
+        (KnownBefore::Listed, Some(moment)) => {
             downloading.pour_into(part);
             downloading.expect(TOTAL, moment, LISTED);
         }
@@ -68,8 +68,8 @@ fn tell(
 pub(crate) fn put(
     rt: &HostRuntime,
     paper: &mut Paper,
-    row: Row<'_>,
-    known: Known,
+    row: TransferRow<'_>,
+    known: KnownBefore,
 ) -> io::Result<()> {
     let openings = Openings::new(row.opening);
     let mut downloading = Downloading::new(rt, rt.alloc(), "a", row.how, &openings)?;
@@ -108,7 +108,7 @@ fn put_part(
 ) -> io::Result<()> {
     if let Some(part) = downloading.came().part() {
         let name = rt.name_of_part(FILE, part)?;
-        if let Reading::Content(content) = read_from(rt, name.as_str(), 0, LIMIT)? {
+        if let LimitedContent::Content(content) = read_from(rt, name.as_str(), 0, LIMIT)? {
             paper.put(content.octets.as_slice());
         }
         rt.discard_part(FILE, part)?;

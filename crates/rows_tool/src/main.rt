@@ -33,7 +33,7 @@ fn played(rt: &HostRuntime) -> io::Result<Status> {
 
 /// Rows that lie in a file.
 #[derive(Clone, Copy)]
-enum Rows {
+enum RowFile {
     Lines,
     Trees,
     Disks,
@@ -41,12 +41,12 @@ enum Rows {
     Worlds,
 }
 
-const FILES: &[(&str, Rows)] = &[
-    ("lines", Rows::Lines),
-    ("trees", Rows::Trees),
-    ("disks", Rows::Disks),
-    ("ends", Rows::Ends),
-    ("worlds", Rows::Worlds),
+const FILES: &[(&str, RowFile)] = &[
+    ("lines", RowFile::Lines),
+    ("trees", RowFile::Trees),
+    ("disks", RowFile::Disks),
+    ("ends", RowFile::Ends),
+    ("worlds", RowFile::Worlds),
 ];
 
 /// Writes the script of turns, the rows of the crates below, and those of events.
@@ -60,13 +60,13 @@ fn others(rt: &HostRuntime) -> io::Result<()> {
     Ok(())
 }
 
-fn play_all(alloc: Global, rows: Rows, script: &[u8]) -> Paper {
+fn play_all(alloc: Global, rows: RowFile, script: &[u8]) -> Paper {
     match rows {
-        Rows::Lines => rows_lines::play_all(alloc, script),
-        Rows::Trees => rows_tree::play_all(alloc, script),
-        Rows::Disks => rows_disk::play_all(alloc, script),
-        Rows::Ends => rows_ends::play_all(alloc, script),
-        Rows::Worlds => worlds::play_all(alloc, script),
+        RowFile::Lines => rows_lines::play_all(alloc, script),
+        RowFile::Trees => rows_tree::play_all(alloc, script),
+        RowFile::Disks => rows_disk::play_all(alloc, script),
+        RowFile::Ends => rows_ends::play_all(alloc, script),
+        RowFile::Worlds => worlds::play_all(alloc, script),
     }
 }
 

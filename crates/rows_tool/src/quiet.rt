@@ -4,7 +4,7 @@ use std::cell::RefCell;
 use std::fmt::Display;
 use std::io;
 use std::io::Eprint;
-use tool_terminal::{QuietHandle, Told, is_told};
+use tool_terminal::{QuietHandle, Verbosity, is_told};
 
 /// Texts of the programs, and whether each is an error.
 const TEXTS: &[(&str, bool)] = &[
@@ -53,16 +53,16 @@ impl Listener {
 pub(crate) fn rows(rt: &HostRuntime, paper: &mut Paper) {
     let mut all = true;
     for (text, is_error) in TEXTS {
-        all &= is_told(Told::Errors, text.as_bytes()) == *is_error;
-        all &= is_told(Told::All, text.as_bytes());
-        all &= hears(rt, Told::Errors, *text) == *is_error;
-        all &= hears(rt, Told::All, *text);
+        all &= is_told(Verbosity::Errors, text.as_bytes()) == *is_error;
+        all &= is_told(Verbosity::All, text.as_bytes());
+        all &= hears(rt, Verbosity::Errors, *text) == *is_error;
+        all &= hears(rt, Verbosity::All, *text);
     }
     paper.holds("with --quiet errors alone are told", all);
 }
 
 /// Whether a listener hears a text and a line of it.
-fn hears(rt: &HostRuntime, told: Told, text: &str) -> bool {
+fn hears(rt: &HostRuntime, told: Verbosity, text: &str) -> bool {
     let listener = Listener {
         told: RefCell::new(Paper::new(rt.alloc())),
     };

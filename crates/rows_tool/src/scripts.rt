@@ -51,7 +51,13 @@ fn script_of<'a>(words: &[u8], lines: &'a [u8]) -> &'a [u8] {
 }
 
 /// Plays a script with each growth refused in turn: it ends with 3, or writes the same. Says whether so it is, and else what it writes.
-fn refuse_each(alloc: Global, words: &[u8], script: &[u8], whole: &Played, paper: &mut Paper) {
+fn refuse_each(
+    alloc: Global,
+    words: &[u8],
+    script: &[u8],
+    whole: &PlayedScript,
+    paper: &mut Paper,
+) {
     let mut fails = false;
     for refused in 1..=whole.growths {
         let again = play_with(alloc, words, script, 0, refused);
@@ -69,7 +75,7 @@ fn refuse_each(alloc: Global, words: &[u8], script: &[u8], whole: &Played, paper
 }
 
 /// Tells what a script writes with a growth refused that neither ends with 3 nor writes the same.
-fn tell_other(refused: u64, again: &Played, paper: &mut Paper) {
+fn tell_other(refused: u64, again: &PlayedScript, paper: &mut Paper) {
     paper.put(b"growth ");
     paper.number(refused);
     paper.line(b" refused: WRONG, it writes");
@@ -90,14 +96,14 @@ fn compare(piece: u32, whole: &[u8], again: &[u8], paper: &mut Paper) {
 
 /// What a script writes, how it ends, and how many growths were asked for.
 #[derive(Drop)]
-struct Played {
+struct PlayedScript {
     paper: Paper,
     status: Status,
     growths: u64,
 }
 
 /// Plays a script with this growth refused, none for 0. It is over the allocator of the rows of events, so that a world is compiled for one alone.
-fn play_with(alloc: Global, words: &[u8], script: &[u8], piece: u32, refused: u64) -> Played {
+fn play_with(alloc: Global, words: &[u8], script: &[u8], piece: u32, refused: u64) -> PlayedScript {
     let mut paper = Paper::new(alloc);
     let mut reader = FailingReader::new(script, usize::MAX, u32::MAX);
     let mut writer = FailingWriter::new(alloc, usize::MAX, u32::MAX);
@@ -108,7 +114,7 @@ fn play_with(alloc: Global, words: &[u8], script: &[u8], piece: u32, refused: u6
     paper.put(writer.taken());
     paper.put(faults.taken());
     put_status(status, &mut paper);
-    Played {
+    PlayedScript {
         paper,
         status,
         growths: refused.wrapping_sub(heap.left()),

@@ -1,5 +1,5 @@
 // Somebody who answers what a row says, and writes what was asked.
-use crate::tries::Row;
+use crate::tries::TransferRow;
 use ftp_client_stream::Carries;
 use ftp_facts::{Moment, Text};
 use ftp_operation::{Answer, How, Op};
@@ -8,14 +8,14 @@ use std::alloc::Global;
 use std::cell::Cell;
 use std::io::ErrorKind;
 use std::mem;
-use tool_session::{ClientSession, Ending, Freight, Request, SessionFault, SessionTask};
+use tool_session::{ClientSession, DataEnding, FromStreamBody, Request, SessionFault, SessionTask};
 
 /// How many reads or writes of a file are made at most.
 const MOST_WRITES: u32 = 1_000;
 
 /// What is answered.
 #[derive(Clone, Copy)]
-enum Told {
+enum ScriptedAnswer {
     Done,
     /// The data connection broke.
     Broken,
@@ -44,22 +44,22 @@ enum Told {
 
 /// Answers one after another.
 #[derive(Drop)]
-struct Slot<'a> {
+struct ScriptedSession<'a> {
     alloc: Global,
     paper: &'a mut Paper,
-    row: Row<'a>,
+    row: TransferRow<'a>,
     opened: u32,
-    ending: Ending,
+    ending: DataEnding,
     came: Text<Global>,
 }
 
-impl<'a> ClientSession for Slot<'a> {
+impl<'a> ClientSession for ScriptedSession<'a> {
     fn answer(&mut self, request: Request) -> Answer<Global> {
         put(self.paper, &request);
         self.answered(&request)
     }
 
-    fn answer_carried<T: Freight>(
+    fn answer_carried<T: FromStreamBody>(
         &mut self,
         request: Request,
         home: &Cell<Option<T>>,
@@ -88,12 +88,12 @@ impl<'a> ClientSession for Slot<'a> {
         self.opened
     }
 
-    fn ending(&self) -> Ending {
+    fn ending(&self) -> DataEnding {
         self.ending
     }
 }
 
-impl<'a> Slot<'a> {
+impl<'a> ScriptedSession<'a> {
     /// What is answered to what was put.
     fn answered(&mut self, request: &Request) -> Answer<Global> {
         let told = self.next();
@@ -106,7 +106,7 @@ impl<'a> Slot<'a> {
     }
 
     /// What is answered next.
-    fn next(&mut self) -> Told {
+    fn next(&mut self) -> ScriptedAnswer {
         if self.row.told.is_empty() {
             self.row.told = self.row.again;
         }
@@ -117,28 +117,28 @@ impl<'a> Slot<'a> {
 }
 
 /// What a word says: `size=10`. Any other word, and none, is that all is lost.
-fn told_by(word: &[u8]) -> Told {
+fn told_by(word: &[u8]) -> ScriptedAnswer {
     let (name, digits) = cut(word, b'=');
     let count = number(digits);
     let code = u16::try_from(count).unwrap_or(0);
     found(
         &[
-            (b"done", Told::Done),
-            (b"broken", Told::Broken),
-            (b"sent", Told::Sent(count)),
-            (b"cut", Told::Cut(count)),
-            (b"unopened", Told::Unopened),
-            (b"refused", Told::Refused(code)),
-            (b"behind", Told::Behind(code)),
-            (b"unended", Told::Unended(count)),
-            (b"past", Told::Past),
-            (b"size", Told::Size(count)),
-            (b"stamp", Told::Stamp(count)),
-            (b"strange", Told::Strange),
-            (b"gone", Told::Gone(count)),
+            (b"done", ScriptedAnswer::Done),
+            (b"broken", ScriptedAnswer::Broken),
+            (b"sent", ScriptedAnswer::Sent(count)),
+            (b"cut", ScriptedAnswer::Cut(count)),
+            (b"unopened", ScriptedAnswer::Unopened),
+            (b"refused", ScriptedAnswer::Refused(code)),
+            (b"behind", ScriptedAnswer::Behind(code)),
+            (b"unended", ScriptedAnswer::Unended(count)),
+            (b"past", ScriptedAnswer::Past),
+            (b"size", ScriptedAnswer::Size(count)),
+            (b"stamp", ScriptedAnswer::Stamp(count)),
+            (b"strange", ScriptedAnswer::Strange),
+            (b"gone", ScriptedAnswer::Gone(count)),
         ],
         name,
-        Told::Lost,
+        ScriptedAnswer::Lost,
     )
 }
 
@@ -146,18 +146,18 @@ fn told_by(word: &[u8]) -> Told {
 pub(crate) fn played<T>(
     alloc: Global,
     paper: &mut Paper,
-    row: Row<'_>,
+    row: TransferRow<'_>,
     task: &mut T,
 ) -> Result<Answer<Global>, SessionFault>
 where
     T: SessionTask<Result<Answer<Global>, SessionFault>>,
 {
-    let mut slot = Slot {
+    let mut slot = ScriptedSession {
         alloc,
         paper,
         row,
         opened: 0,
-        ending: Ending::Answered,
+        ending: DataEnding::Answered,
         came: octets(alloc, 0, 0),
     };
     let answered = task.play(&mut slot);
@@ -169,26 +169,26 @@ where
 }
 
 /// Whether a data connection was opened for it.
-fn is_opened(told: Told) -> bool {
+fn is_opened(told: ScriptedAnswer) -> bool {
     matches!(
         told,
-        Told::Done
-            | Told::Broken
-            | Told::Sent(_)
-            | Told::Cut(_)
-            | Told::Behind(_)
-            | Told::Unended(_)
-            | Told::Past
-            | Told::Gone(_)
+        ScriptedAnswer::Done
+            | ScriptedAnswer::Broken
+            | ScriptedAnswer::Sent(_)
+            | ScriptedAnswer::Cut(_)
+            | ScriptedAnswer::Behind(_)
+            | ScriptedAnswer::Unended(_)
+            | ScriptedAnswer::Past
+            | ScriptedAnswer::Gone(_)
     )
 }
 
 /// How its data connection ended.
-fn ending_of(told: Told) -> Ending {
+fn ending_of(told: ScriptedAnswer) -> DataEnding {
     match told {
-        Told::Unended(_) => Ending::Unended,
-        Told::Past => Ending::PastLimit,
-        _ => Ending::Answered,
+        ScriptedAnswer::Unended(_) => DataEnding::Unended,
+        ScriptedAnswer::Past => DataEnding::PastLimit,
+        _ => DataEnding::Answered,
     }
 }
 
@@ -200,26 +200,26 @@ fn start_of(request: &Request) -> u64 {
     }
 }
 
-fn answer_of(alloc: Global, told: Told, from: u64) -> Answer<Global> {
+fn answer_of(alloc: Global, told: ScriptedAnswer, from: u64) -> Answer<Global> {
     match told {
-        Told::Done => Answer::Done,
-        Told::Broken => broken(alloc, from, 0),
-        Told::Sent(count) => Answer::Octets(octets(alloc, from, count)),
-        Told::Cut(count) | Told::Unended(count) => broken(alloc, from, count),
-        Told::Past => broken(alloc, from, 0),
-        Told::Unopened => Answer::Unopened,
-        Told::Refused(code) | Told::Behind(code) => Answer::Refused(code),
-        Told::Size(count) => Answer::Number(count),
-        Told::Stamp(seconds) => stamp(seconds),
-        Told::Strange => Answer::Strange,
-        Told::Gone(_) | Told::Lost => Answer::Lost,
+        ScriptedAnswer::Done => Answer::Done,
+        ScriptedAnswer::Broken => broken(alloc, from, 0),
+        ScriptedAnswer::Sent(count) => Answer::Octets(octets(alloc, from, count)),
+        ScriptedAnswer::Cut(count) | ScriptedAnswer::Unended(count) => broken(alloc, from, count),
+        ScriptedAnswer::Past => broken(alloc, from, 0),
+        ScriptedAnswer::Unopened => Answer::Unopened,
+        ScriptedAnswer::Refused(code) | ScriptedAnswer::Behind(code) => Answer::Refused(code),
+        ScriptedAnswer::Size(count) => Answer::Number(count),
+        ScriptedAnswer::Stamp(seconds) => stamp(seconds),
+        ScriptedAnswer::Strange => Answer::Strange,
+        ScriptedAnswer::Gone(_) | ScriptedAnswer::Lost => Answer::Lost,
     }
 }
 
 /// What came of a download before its control connection ended.
-fn came_of(alloc: Global, told: Told, from: u64) -> Text<Global> {
+fn came_of(alloc: Global, told: ScriptedAnswer, from: u64) -> Text<Global> {
     match told {
-        Told::Gone(count) => octets(alloc, from, count),
+        ScriptedAnswer::Gone(count) => octets(alloc, from, count),
         _ => octets(alloc, from, 0),
     }
 }

@@ -1,5 +1,5 @@
 // Uploads and downloads of `stdin`, a line each.
-use crate::downloads::Known;
+use crate::downloads::KnownBefore;
 use crate::{downloads, uploads};
 use ftp_operation::How;
 use ftp_settings::{Kind, Mode, Representation, Structure};
@@ -20,7 +20,7 @@ const HOW: How = How {
 
 /// An upload or a download.
 #[derive(Clone, Copy)]
-pub(crate) struct Row<'a> {
+pub(crate) struct TransferRow<'a> {
     pub(crate) how: How,
     pub(crate) opening: Opening,
     /// What the server answers, a word each.
@@ -43,10 +43,10 @@ pub(crate) fn rows(rt: &HostRuntime, paper: &mut Paper, lines: &[u8]) -> io::Res
     Ok(())
 }
 
-const WORDS: &[(&'static [u8], Known)] = &[
-    (b"dated", Known::Untold),
-    (b"kept", Known::Kept),
-    (b"listed", Known::Listed),
+const WORDS: &[(&'static [u8], KnownBefore)] = &[
+    (b"dated", KnownBefore::Untold),
+    (b"kept", KnownBefore::Kept),
+    (b"listed", KnownBefore::Listed),
 ];
 
 /// A line: `put`, `get`, `dated`, `kept` or `listed`, the type, a name, and what the server answers.
@@ -56,7 +56,7 @@ fn put(rt: &HostRuntime, paper: &mut Paper, line: &[u8]) -> io::Result<()> {
     let (name, rest) = cut(rest, b':');
     let (_, words) = split(rest);
     let (told, again) = cut(words, b'|');
-    let row = Row {
+    let row = TransferRow {
         how: how_of(kind),
         opening: opening_of(kind),
         told,
@@ -67,7 +67,7 @@ fn put(rt: &HostRuntime, paper: &mut Paper, line: &[u8]) -> io::Result<()> {
     if verb == b"put".as_slice() {
         uploads::put(rt, paper, row)
     } else {
-        downloads::put(rt, paper, row, found(WORDS, verb, Known::Nothing))
+        downloads::put(rt, paper, row, found(WORDS, verb, KnownBefore::Nothing))
     }
 }
 

@@ -1,6 +1,6 @@
 // Accounts and logins as words say them.
 use crate::paths::place;
-use crate::step::{Line, Step};
+use crate::step::{TreeLine, TreeStep};
 use crate::words::split;
 use ftp_facts::Text;
 use ftp_operation::{Account, Accounts, AccountsFault, Login, Rights};
@@ -89,13 +89,13 @@ pub fn login<A: Allocator + Copy>(alloc: A, user: &[u8], pass: &[u8]) -> Option<
 }
 
 /// Which accounts are made; whether a login is, and is known.
-pub fn show_login(alloc: Global, line: &Line<'_>, paper: &mut Paper) {
+pub fn show_login(alloc: Global, line: &TreeLine<'_>, paper: &mut Paper) {
     let is_so = match line.step {
-        Step::Accounts => {
+        TreeStep::Accounts => {
             show_accounts(alloc, line.words, paper);
             return;
         }
-        Step::Login => login(alloc, line.first, line.second).is_some(),
+        TreeStep::Login => login(alloc, line.first, line.second).is_some(),
         _ => is_known(alloc, line.first, line.second),
     };
     paper.put(if is_so { b"yes".as_slice() } else { b"no" });

@@ -1,6 +1,6 @@
 // What a row has of a tree apart from it: a file that is open, and what a directory showed.
 use crate::paths::place;
-use crate::step::{Line, Step};
+use crate::step::{TreeLine, TreeStep};
 use ftp_facts::Moment;
 use ftp_path::Path;
 use ftp_tree::{DirEntries, DirEntry, Draft, Tree, TreeFault};
@@ -33,14 +33,14 @@ impl<A: Allocator + Copy, T: Tree<A>> Apart<A, T> {
         &mut self,
         alloc: A,
         tree: &mut T,
-        line: &Line<'_>,
+        line: &TreeLine<'_>,
         paper: &mut Paper,
     ) -> Result<(), TreeFault> {
         let root = place(alloc, line.root)?;
         let path = place(alloc, line.first)?;
         match line.step {
-            Step::Open => self.file = Some(tree.open(&root, &path)?),
-            Step::Entries => self.entries = Some(entries_of(tree, &root, &path)?),
+            TreeStep::Open => self.file = Some(tree.open(&root, &path)?),
+            TreeStep::Entries => self.entries = Some(entries_of(tree, &root, &path)?),
             _ => put(tree, &root, &path, line)?,
         }
         paper.put(b"done");
@@ -48,15 +48,15 @@ impl<A: Allocator + Copy, T: Tree<A>> Apart<A, T> {
     }
 
     /// Writes octets of the open file, or what a directory showed.
-    pub fn show(&mut self, alloc: Global, tree: &mut T, line: &Line<'_>, paper: &mut Paper) {
-        if matches!(line.step, Step::Shown) {
+    pub fn show(&mut self, alloc: Global, tree: &mut T, line: &TreeLine<'_>, paper: &mut Paper) {
+        if matches!(line.step, TreeStep::Shown) {
             return self.show_entries(paper);
         }
         let Some(file) = &mut self.file else {
             return paper.put(b"none is open");
         };
         match line.step {
-            Step::From => show_from(alloc, tree, file, line, paper),
+            TreeStep::From => show_from(alloc, tree, file, line, paper),
             _ => show_whole(alloc, tree, file, number(line.first) as usize, paper),
         }
     }
@@ -91,7 +91,7 @@ fn put<A: Allocator + Copy, T: Tree<A>>(
     tree: &mut T,
     root: &Path<A>,
     path: &Path<A>,
-    line: &Line<'_>,
+    line: &TreeLine<'_>,
 ) -> Result<(), TreeFault> {
     let mut draft = tree.begin(root, path)?;
     let Ok(_) = draft.push(line.third) else {
@@ -118,7 +118,7 @@ fn show_from<A: Allocator + Copy, T: Tree<A>>(
     alloc: Global,
     tree: &mut T,
     file: &mut T::Open,
-    line: &Line<'_>,
+    line: &TreeLine<'_>,
     paper: &mut Paper,
 ) {
     let mut room = room_of(alloc, number(line.second) as usize);

@@ -1,6 +1,6 @@
 // Lines that change a tree.
 use crate::paths::place;
-use crate::step::{Line, Step};
+use crate::step::{TreeLine, TreeStep};
 use ftp_facts::Moment;
 use ftp_path::Path;
 use ftp_tree::{Tree, TreeFault};
@@ -12,7 +12,7 @@ use std::alloc::Allocator;
 pub fn show_change<A: Allocator + Copy, T: HeldTree<A>>(
     alloc: A,
     tree: &mut T,
-    line: &Line<'_>,
+    line: &TreeLine<'_>,
     paper: &mut Paper,
 ) -> Result<(), TreeFault> {
     let root = place(alloc, line.root)?;
@@ -29,15 +29,15 @@ fn change<A: Allocator + Copy, T: HeldTree<A>>(
     tree: &mut T,
     root: &Path<A>,
     path: &Path<A>,
-    line: &Line<'_>,
+    line: &TreeLine<'_>,
 ) -> Result<(), TreeFault> {
     match line.step {
-        Step::Make => tree.make_dir(root, path),
-        Step::Remove => tree.remove_dir(root, path),
-        Step::Delete => tree.delete(root, path),
-        Step::Rename => rename(alloc, tree, root, path, line.second),
-        Step::Onto => rename_onto(alloc, tree, root, path, line.second),
-        Step::Install => install(alloc, tree, root, path, line),
+        TreeStep::Make => tree.make_dir(root, path),
+        TreeStep::Remove => tree.remove_dir(root, path),
+        TreeStep::Delete => tree.delete(root, path),
+        TreeStep::Rename => rename(alloc, tree, root, path, line.second),
+        TreeStep::Onto => rename_onto(alloc, tree, root, path, line.second),
+        TreeStep::Install => install(alloc, tree, root, path, line),
         _ => front(alloc, tree, root, path, line),
     }
 }
@@ -70,7 +70,7 @@ fn install<A: Allocator + Copy, T: HeldTree<A>>(
     tree: &mut T,
     root: &Path<A>,
     path: &Path<A>,
-    line: &Line<'_>,
+    line: &TreeLine<'_>,
 ) -> Result<(), TreeFault> {
     let mut content = Content::new(alloc);
     let Ok(_) = content.push(line.second) else {
@@ -100,7 +100,7 @@ fn front<A: Allocator + Copy, T: HeldTree<A>>(
     tree: &mut T,
     root: &Path<A>,
     path: &Path<A>,
-    line: &Line<'_>,
+    line: &TreeLine<'_>,
 ) -> Result<(), TreeFault> {
     let copy = place(alloc, line.third)?;
     let mut content = Content::of(alloc, tree, root, path, number(line.second))?;

@@ -3,7 +3,7 @@ use crate::accounts::{WHOLE, list_of, login};
 use crate::octets::octets_of;
 use crate::request::operation;
 use crate::said::show_answer;
-use crate::told::Told;
+use crate::told::TreeReport;
 use crate::verb::verb_of;
 use crate::words::split;
 use ftp_direct::direct;
@@ -90,7 +90,7 @@ pub fn play_user<A: Allocator + Copy, T: Tree<A>>(
     alloc: Global,
     tree: &mut T,
     group: &[u8],
-    told: &mut Told,
+    told: &mut TreeReport,
 ) {
     let (head, lines) = cut(group, b'\n');
     told.paper.line(head);

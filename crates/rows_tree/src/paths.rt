@@ -1,6 +1,6 @@
 // Lines of texts and of paths.
 use crate::keys::{show_below, show_keys, show_moved, show_order};
-use crate::step::{Line, Step};
+use crate::step::{TreeLine, TreeStep};
 use ftp_operation::is_number;
 use ftp_path::{Name, Path, is_listed_text, is_path_text};
 use ftp_tree::TreeFault;
@@ -22,11 +22,11 @@ pub fn place<A: Allocator + Copy>(alloc: A, text: &[u8]) -> Result<Path<A>, Tree
 }
 
 /// Whether octets are what a line asks for.
-pub fn show_text(line: &Line<'_>, paper: &mut Paper) {
+pub fn show_text(line: &TreeLine<'_>, paper: &mut Paper) {
     let is_so = match line.step {
-        Step::Text => is_path_text(line.first),
-        Step::Listed => is_listed_text(line.first),
-        Step::Name => Name::new(line.first).is_some(),
+        TreeStep::Text => is_path_text(line.first),
+        TreeStep::Listed => is_listed_text(line.first),
+        TreeStep::Name => Name::new(line.first).is_some(),
         _ => is_number(number(line.first)),
     };
     paper.put(if is_so { b"yes".as_slice() } else { b"no" });
@@ -35,7 +35,7 @@ pub fn show_text(line: &Line<'_>, paper: &mut Paper) {
 /// A line of one path and another text.
 pub fn show_path<A: Allocator + Copy>(
     alloc: A,
-    line: &Line<'_>,
+    line: &TreeLine<'_>,
     paper: &mut Paper,
 ) -> Result<(), TreeFault> {
     match &place(alloc, line.first) {
@@ -47,13 +47,13 @@ pub fn show_path<A: Allocator + Copy>(
 fn show_of<A: Allocator + Copy>(
     alloc: A,
     path: &Path<A>,
-    line: &Line<'_>,
+    line: &TreeLine<'_>,
     paper: &mut Paper,
 ) -> Result<(), TreeFault> {
     match line.step {
-        Step::Leads => return show_led(alloc, path, line.second, paper),
-        Step::Copy => return show_copy(alloc, path, paper),
-        Step::Keys => show_keys(path, paper),
+        TreeStep::Leads => return show_led(alloc, path, line.second, paper),
+        TreeStep::Copy => return show_copy(alloc, path, paper),
+        TreeStep::Keys => show_keys(path, paper),
         _ => return show_beside(alloc, path, line, paper),
     }
     Ok(())
@@ -86,13 +86,13 @@ fn show_copy<A: Allocator + Copy>(
 fn show_beside<A: Allocator + Copy>(
     alloc: A,
     path: &Path<A>,
-    line: &Line<'_>,
+    line: &TreeLine<'_>,
     paper: &mut Paper,
 ) -> Result<(), TreeFault> {
     let other = place(alloc, line.second)?;
     match line.step {
-        Step::Order => show_order(path, &other, paper),
-        Step::Below => show_below(path, &other, paper),
+        TreeStep::Order => show_order(path, &other, paper),
+        TreeStep::Below => show_below(path, &other, paper),
         _ => return show_move(alloc, path, &other, line.third, paper),
     }
     Ok(())

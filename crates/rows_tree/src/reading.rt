@@ -1,6 +1,6 @@
 // Lines that read a tree.
 use crate::paths::place;
-use crate::step::{Line, Step};
+use crate::step::{TreeLine, TreeStep};
 use ftp_path::Path;
 use ftp_tree::{NodeKind, Tree, TreeFault};
 use ftp_tree_memory::HeldTree;
@@ -14,7 +14,7 @@ const SHOWN: usize = 100;
 pub fn show_reading<A: Allocator + Copy, T: HeldTree<A>>(
     alloc: Global,
     tree: &T,
-    line: &Line<'_>,
+    line: &TreeLine<'_>,
     paper: &mut Paper,
 ) -> Result<(), TreeFault> {
     let root = place(alloc, line.root)?;
@@ -27,17 +27,17 @@ fn read<A: Allocator + Copy, T: HeldTree<A>>(
     tree: &T,
     root: &Path<Global>,
     path: &Path<Global>,
-    line: &Line<'_>,
+    line: &TreeLine<'_>,
     paper: &mut Paper,
 ) -> Result<(), TreeFault> {
     match line.step {
-        Step::Kind => show_kind(tree, root, path, paper),
-        Step::Size => show_number(tree.size(root, path), paper),
-        Step::Stamp => show_second(tree, root, path, paper),
-        Step::Room => paper.number(tree.room(root, path)?),
-        Step::Fits => show_fits(tree, path, paper),
-        Step::Names => show_names(tree, root, path, paper),
-        Step::Piece => paper.quote(tree.piece(
+        TreeStep::Kind => show_kind(tree, root, path, paper),
+        TreeStep::Size => show_number(tree.size(root, path), paper),
+        TreeStep::Stamp => show_second(tree, root, path, paper),
+        TreeStep::Room => paper.number(tree.room(root, path)?),
+        TreeStep::Fits => show_fits(tree, path, paper),
+        TreeStep::Names => show_names(tree, root, path, paper),
+        TreeStep::Piece => paper.quote(tree.piece(
             root,
             path,
             number(line.second),

@@ -1,6 +1,6 @@
 // The line of an operation.
 use crate::accounts::text;
-use crate::verb::Verb;
+use crate::verb::TreeVerb;
 use crate::words::split;
 use ftp_facts::Text;
 use ftp_operation::{How, ListVerb, Op};
@@ -10,14 +10,14 @@ use std::alloc::Allocator;
 
 /// What stands behind a verb: a path, a number, a second text, and how octets go.
 #[derive(Clone, Copy)]
-struct Request<'a> {
+struct VerbArguments<'a> {
     path: &'a [u8],
     number: u64,
     other: &'a [u8],
     how: How,
 }
 
-fn request_of(verb: Verb, words: &[u8]) -> Request<'_> {
+fn request_of(verb: TreeVerb, words: &[u8]) -> VerbArguments<'_> {
     let (path, rest) = split(words);
     let (count, rest) = if has_number(verb) {
         split(rest)
@@ -29,7 +29,7 @@ fn request_of(verb: Verb, words: &[u8]) -> Request<'_> {
     } else {
         (b"".as_slice(), rest)
     };
-    Request {
+    VerbArguments {
         path,
         number: number(count),
         other,
@@ -37,14 +37,14 @@ fn request_of(verb: Verb, words: &[u8]) -> Request<'_> {
     }
 }
 
-fn has_number(verb: Verb) -> bool {
-    matches!(verb, Verb::PutFrom | Verb::GetFrom | Verb::Peek)
+fn has_number(verb: TreeVerb) -> bool {
+    matches!(verb, TreeVerb::PutFrom | TreeVerb::GetFrom | TreeVerb::Peek)
 }
 
-fn has_other(verb: Verb) -> bool {
+fn has_other(verb: TreeVerb) -> bool {
     matches!(
         verb,
-        Verb::Rename | Verb::Put | Verb::Append | Verb::PutFrom
+        TreeVerb::Rename | TreeVerb::Put | TreeVerb::Append | TreeVerb::PutFrom
     )
 }
 
@@ -76,35 +76,35 @@ fn is(word: &[u8], other: &[u8]) -> bool {
 }
 
 /// The operation of a verb with the words behind it.
-pub fn operation<A: Allocator + Copy>(alloc: A, verb: Verb, words: &[u8]) -> Op<Text<A>> {
+pub fn operation<A: Allocator + Copy>(alloc: A, verb: TreeVerb, words: &[u8]) -> Op<Text<A>> {
     let asked = request_of(verb, words);
     let path = asked.path;
     match verb {
-        Verb::Where => Op::Where,
-        Verb::ChangeDir => Op::ChangeDir(text(alloc, path)),
-        Verb::Up => Op::Up,
-        Verb::MakeDir => Op::MakeDir(text(alloc, path)),
-        Verb::RemoveDir => Op::RemoveDir(text(alloc, path)),
-        Verb::Delete => Op::Delete(text(alloc, path)),
-        Verb::Rename => Op::Rename(text(alloc, path), text(alloc, asked.other)),
-        Verb::Put => Op::Put(text(alloc, path), text(alloc, asked.other), asked.how),
-        Verb::Append => Op::Append(text(alloc, path), text(alloc, asked.other), asked.how),
-        Verb::PutFrom => Op::PutFrom(
+        TreeVerb::Where => Op::Where,
+        TreeVerb::ChangeDir => Op::ChangeDir(text(alloc, path)),
+        TreeVerb::Up => Op::Up,
+        TreeVerb::MakeDir => Op::MakeDir(text(alloc, path)),
+        TreeVerb::RemoveDir => Op::RemoveDir(text(alloc, path)),
+        TreeVerb::Delete => Op::Delete(text(alloc, path)),
+        TreeVerb::Rename => Op::Rename(text(alloc, path), text(alloc, asked.other)),
+        TreeVerb::Put => Op::Put(text(alloc, path), text(alloc, asked.other), asked.how),
+        TreeVerb::Append => Op::Append(text(alloc, path), text(alloc, asked.other), asked.how),
+        TreeVerb::PutFrom => Op::PutFrom(
             text(alloc, path),
             asked.number,
             text(alloc, asked.other),
             asked.how,
         ),
-        Verb::Get => Op::Get(text(alloc, path), asked.how),
-        Verb::GetFrom => Op::GetFrom(text(alloc, path), asked.number, asked.how),
-        Verb::Peek => Op::Peek(text(alloc, path), asked.number, asked.how),
-        Verb::Size => Op::Size(text(alloc, path), asked.how),
-        Verb::Modified => Op::Modified(text(alloc, path)),
-        Verb::Facts => Op::Facts(text(alloc, path)),
-        Verb::List => Op::List(text(alloc, path), asked.how),
-        Verb::Names => Op::Names(text(alloc, path), asked.how),
-        Verb::Mlsd => Op::Text(ListVerb::Mlsd, text(alloc, path), asked.how),
-        Verb::Lines => Op::Text(ListVerb::List, text(alloc, path), asked.how),
-        Verb::Nlst => Op::Text(ListVerb::Nlst, text(alloc, path), asked.how),
+        TreeVerb::Get => Op::Get(text(alloc, path), asked.how),
+        TreeVerb::GetFrom => Op::GetFrom(text(alloc, path), asked.number, asked.how),
+        TreeVerb::Peek => Op::Peek(text(alloc, path), asked.number, asked.how),
+        TreeVerb::Size => Op::Size(text(alloc, path), asked.how),
+        TreeVerb::Modified => Op::Modified(text(alloc, path)),
+        TreeVerb::Facts => Op::Facts(text(alloc, path)),
+        TreeVerb::List => Op::List(text(alloc, path), asked.how),
+        TreeVerb::Names => Op::Names(text(alloc, path), asked.how),
+        TreeVerb::Mlsd => Op::Text(ListVerb::Mlsd, text(alloc, path), asked.how),
+        TreeVerb::Lines => Op::Text(ListVerb::List, text(alloc, path), asked.how),
+        TreeVerb::Nlst => Op::Text(ListVerb::Nlst, text(alloc, path), asked.how),
     }
 }

@@ -1,6 +1,6 @@
 // A row: played whole, and again with each of its growths refused, or each call of its folder failing, in turn.
 use crate::run::{play_over_folder, play_straying, play_tree};
-use crate::told::Told;
+use crate::told::TreeReport;
 use crate::words::heading;
 use rows_base::{Paper, Refusing, cut, number, row_in_front};
 use std::alloc::Global;
@@ -41,10 +41,10 @@ fn play_row(alloc: Global, row: &[u8], paper: &mut Paper) {
 }
 
 /// What a row writes with that growth refused and that call of a folder failing, none for 0.
-fn run(alloc: Global, row: &[u8], refused: u64, fails_at: u64) -> Told {
+fn run(alloc: Global, row: &[u8], refused: u64, fails_at: u64) -> TreeReport {
     let ample = Refusing::new(alloc, 0);
     let heap = Refusing::new(alloc, refused);
-    let mut told = Told::new(alloc);
+    let mut told = TreeReport::new(alloc);
     play(alloc, &ample, &heap, row, fails_at, &mut told);
     told.growths = refused.wrapping_sub(heap.left());
     told
@@ -56,7 +56,7 @@ fn play<'a>(
     heap: &'a Refusing<Global>,
     row: &[u8],
     fails_at: u64,
-    told: &mut Told,
+    told: &mut TreeReport,
 ) {
     let fails = heading(row, b"fails");
     let strays = heading(row, b"strays");
@@ -101,7 +101,7 @@ fn is_same(
 }
 
 /// Says which refused growth is not told just once, with all as before and then the same.
-fn compare_growths(alloc: Global, row: &[u8], whole: &Told, paper: &mut Paper) {
+fn compare_growths(alloc: Global, row: &[u8], whole: &TreeReport, paper: &mut Paper) {
     for refused in 1..=whole.growths {
         if !is_same(alloc, row, (refused, 0), whole.paper.text(), (1, 0)) {
             differs(b"growth ", refused, paper);

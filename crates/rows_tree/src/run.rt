@@ -8,10 +8,10 @@ use crate::octets::octets_of;
 use crate::operation::play_user;
 use crate::paths::{place, show_path, show_text};
 use crate::reading::{show_places, show_reading};
-use crate::step::{Line, Step, line_of};
+use crate::step::{TreeLine, TreeStep, line_of};
 use crate::straying::strays_so;
 use crate::straying_tree::StrayingTree;
-use crate::told::Told;
+use crate::told::TreeReport;
 use crate::words::{cut_before, heading};
 use ftp_tree::{Tree, TreeFault};
 use ftp_tree_memory::{HeldTree, MemTree, Mirror};
@@ -45,13 +45,19 @@ fn call<A: Allocator + Copy, T: HeldTree<A>>(
     heap: A,
     tree: &mut T,
     apart: &mut Apart<A, T>,
-    line: &Line<'_>,
+    line: &TreeLine<'_>,
     paper: &mut Paper,
 ) -> Result<(), TreeFault> {
     match line.step {
-        Step::Open | Step::Entries | Step::Put => apart.show_done(heap, tree, line, paper),
-        Step::Leads | Step::Copy | Step::Keys | Step::Order | Step::Below | Step::Moved =>
-            show_path(heap, line, paper),
+        TreeStep::Open | TreeStep::Entries | TreeStep::Put => apart.show_done(
+            heap, tree, line, paper,
+        ),
+        TreeStep::Leads
+        | TreeStep::Copy
+        | TreeStep::Keys
+        | TreeStep::Order
+        | TreeStep::Below
+        | TreeStep::Moved => show_path(heap, line, paper),
         _ => show_change(heap, tree, line, paper),
     }
 }
@@ -61,8 +67,8 @@ fn play_call<A: Allocator + Copy, T: HeldTree<A>>(
     heap: A,
     tree: &mut T,
     apart: &mut Apart<A, T>,
-    line: &Line<'_>,
-    told: &mut Told,
+    line: &TreeLine<'_>,
+    told: &mut TreeReport,
 ) -> bool {
     let answer = call(heap, tree, apart, line, &mut told.paper);
     match answer {
@@ -82,24 +88,26 @@ fn play_line<A: Allocator + Copy, T: HeldTree<A>>(
     alloc: Global,
     tree: &mut T,
     apart: &mut Apart<A, T>,
-    line: &Line<'_>,
-    told: &mut Told,
+    line: &TreeLine<'_>,
+    told: &mut TreeReport,
 ) -> bool {
     let paper = &mut told.paper;
     match line.step {
-        Step::Heading => {}
-        Step::Text | Step::Listed | Step::Name | Step::Number => show_text(line, paper),
-        Step::Login | Step::Known | Step::Accounts => show_login(alloc, line, paper),
-        Step::Kind
-        | Step::Size
-        | Step::Stamp
-        | Step::Room
-        | Step::Fits
-        | Step::Names
-        | Step::Piece
-        | Step::Read => tell(show_reading(alloc, tree, line, paper), paper),
-        Step::From | Step::Whole | Step::Shown => apart.show(alloc, tree, line, paper),
-        Step::Dirs => show_dirs(heap, tree, line, paper),
+        TreeStep::Heading => {}
+        TreeStep::Text | TreeStep::Listed | TreeStep::Name | TreeStep::Number => show_text(
+            line, paper,
+        ),
+        TreeStep::Login | TreeStep::Known | TreeStep::Accounts => show_login(alloc, line, paper),
+        TreeStep::Kind
+        | TreeStep::Size
+        | TreeStep::Stamp
+        | TreeStep::Room
+        | TreeStep::Fits
+        | TreeStep::Names
+        | TreeStep::Piece
+        | TreeStep::Read => tell(show_reading(alloc, tree, line, paper), paper),
+        TreeStep::From | TreeStep::Whole | TreeStep::Shown => apart.show(alloc, tree, line, paper),
+        TreeStep::Dirs => show_dirs(heap, tree, line, paper),
         _ => return play_call(heap, tree, apart, line, told),
     }
     false
@@ -109,7 +117,7 @@ fn play_line<A: Allocator + Copy, T: HeldTree<A>>(
 fn show_dirs<A: Allocator + Copy, T: Tree<A>>(
     heap: A,
     tree: &mut T,
-    line: &Line<'_>,
+    line: &TreeLine<'_>,
     paper: &mut Paper,
 ) {
     if let Ok(root) = place(heap, line.root) {
@@ -119,7 +127,7 @@ fn show_dirs<A: Allocator + Copy, T: Tree<A>>(
 }
 
 /// Writes a line, before its answer. A heading has none.
-fn begin(text: &[u8], line: &Line<'_>, paper: &mut Paper) {
+fn begin(text: &[u8], line: &TreeLine<'_>, paper: &mut Paper) {
     paper.put(text);
     if !line.is_heading() {
         paper.put(b" = ");
@@ -134,7 +142,7 @@ fn play_text<A: Allocator + Copy, T: HeldTree<A>>(
     apart: &mut Apart<A, T>,
     shown: &[u8],
     text: &[u8],
-    told: &mut Told,
+    told: &mut TreeReport,
 ) {
     let octets = octets_of(alloc, text);
     let line = line_of(octets.as_slice());
@@ -156,7 +164,7 @@ fn play_lines<A: Allocator + Copy, T: HeldTree<A>>(
     tree: &mut T,
     shown: &[u8],
     lines: &[u8],
-    told: &mut Told,
+    told: &mut TreeReport,
 ) {
     let mut apart = Apart::nothing();
     let mut rest = lines;
@@ -177,7 +185,7 @@ fn play_users<A: Allocator + Copy, T: Tree<A>>(
     alloc: Global,
     tree: &mut T,
     users: &[u8],
-    told: &mut Told,
+    told: &mut TreeReport,
 ) {
     let mut rest = users;
     for _ in 0..users.len() {
@@ -198,7 +206,7 @@ fn play_on<A: Allocator + Copy, T: HeldTree<A>>(
     alloc: Global,
     tree: &mut T,
     row: &[u8],
-    told: &mut Told,
+    told: &mut TreeReport,
 ) {
     let places = heading(row, b"places");
     if !heading(row, b"mirrored").is_empty() {
@@ -236,7 +244,7 @@ pub fn play_tree<A: Allocator + Copy>(
     heap: A,
     alloc: Global,
     row: &[u8],
-    told: &mut Told,
+    told: &mut TreeReport,
 ) {
     let mut tree = MemTree::new(heap);
     play_on(ample, heap, alloc, &mut tree, row, told);
@@ -249,7 +257,7 @@ pub fn play_over_folder<A: Allocator + Copy>(
     alloc: Global,
     row: &[u8],
     fails_at: u64,
-    told: &mut Told,
+    told: &mut TreeReport,
 ) {
     let mut mirror = Mirror::new(MemTree::new(heap), FailingFolder::new(alloc, fails_at));
     play_on(ample, heap, alloc, &mut mirror, row, told);
@@ -263,7 +271,7 @@ pub fn play_straying<A: Allocator + Copy>(
     alloc: Global,
     row: &[u8],
     how: &[u8],
-    told: &mut Told,
+    told: &mut TreeReport,
 ) {
     let (lines, users) = cut_before(row, b"\nas ");
     let mut tree = MemTree::new(heap);

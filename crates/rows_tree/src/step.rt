@@ -4,7 +4,7 @@ use rows_base::{cut, found};
 
 /// What a line asks for.
 #[derive(Clone, Copy)]
-pub enum Step {
+pub enum TreeStep {
     Text,
     Listed,
     Name,
@@ -44,49 +44,49 @@ pub enum Step {
     Heading,
 }
 
-const STEPS: &[(&'static [u8], Step)] = &[
-    (b"text", Step::Text),
-    (b"listed", Step::Listed),
-    (b"name", Step::Name),
-    (b"number", Step::Number),
-    (b"leads", Step::Leads),
-    (b"copy", Step::Copy),
-    (b"keys", Step::Keys),
-    (b"order", Step::Order),
-    (b"below", Step::Below),
-    (b"moved", Step::Moved),
-    (b"make", Step::Make),
-    (b"remove", Step::Remove),
-    (b"delete", Step::Delete),
-    (b"rename", Step::Rename),
-    (b"onto", Step::Onto),
-    (b"install", Step::Install),
-    (b"front", Step::Front),
-    (b"put", Step::Put),
-    (b"open", Step::Open),
-    (b"entries", Step::Entries),
-    (b"dirs", Step::Dirs),
-    (b"kind", Step::Kind),
-    (b"size", Step::Size),
-    (b"second", Step::Stamp),
-    (b"room", Step::Room),
-    (b"fits", Step::Fits),
-    (b"names", Step::Names),
-    (b"piece", Step::Piece),
-    (b"read", Step::Read),
-    (b"from", Step::From),
-    (b"whole", Step::Whole),
-    (b"shown", Step::Shown),
-    (b"login", Step::Login),
-    (b"known", Step::Known),
-    (b"accounts", Step::Accounts),
+const STEPS: &[(&'static [u8], TreeStep)] = &[
+    (b"text", TreeStep::Text),
+    (b"listed", TreeStep::Listed),
+    (b"name", TreeStep::Name),
+    (b"number", TreeStep::Number),
+    (b"leads", TreeStep::Leads),
+    (b"copy", TreeStep::Copy),
+    (b"keys", TreeStep::Keys),
+    (b"order", TreeStep::Order),
+    (b"below", TreeStep::Below),
+    (b"moved", TreeStep::Moved),
+    (b"make", TreeStep::Make),
+    (b"remove", TreeStep::Remove),
+    (b"delete", TreeStep::Delete),
+    (b"rename", TreeStep::Rename),
+    (b"onto", TreeStep::Onto),
+    (b"install", TreeStep::Install),
+    (b"front", TreeStep::Front),
+    (b"put", TreeStep::Put),
+    (b"open", TreeStep::Open),
+    (b"entries", TreeStep::Entries),
+    (b"dirs", TreeStep::Dirs),
+    (b"kind", TreeStep::Kind),
+    (b"size", TreeStep::Size),
+    (b"second", TreeStep::Stamp),
+    (b"room", TreeStep::Room),
+    (b"fits", TreeStep::Fits),
+    (b"names", TreeStep::Names),
+    (b"piece", TreeStep::Piece),
+    (b"read", TreeStep::Read),
+    (b"from", TreeStep::From),
+    (b"whole", TreeStep::Whole),
+    (b"shown", TreeStep::Shown),
+    (b"login", TreeStep::Login),
+    (b"known", TreeStep::Known),
+    (b"accounts", TreeStep::Accounts),
 ];
 
 /// A line: below which root, what it asks for, and three words.
 #[derive(Clone, Copy)]
-pub struct Line<'a> {
+pub struct TreeLine<'a> {
     pub root: &'a [u8],
-    pub step: Step,
+    pub step: TreeStep,
     pub first: &'a [u8],
     pub second: &'a [u8],
     pub third: &'a [u8],
@@ -94,14 +94,14 @@ pub struct Line<'a> {
     pub words: &'a [u8],
 }
 
-impl Line<'_> {
+impl TreeLine<'_> {
     pub fn is_heading(&self) -> bool {
-        matches!(self.step, Step::Heading)
+        matches!(self.step, TreeStep::Heading)
     }
 }
 
 /// A line whose texts are octets. It may begin with `@` and a root.
-pub fn line_of(line: &[u8]) -> Line<'_> {
+pub fn line_of(line: &[u8]) -> TreeLine<'_> {
     let (root, line) = match line {
         [b'@', rest @ ..] => cut(rest, BETWEEN),
         _ => (b"/".as_slice(), line),
@@ -110,9 +110,9 @@ pub fn line_of(line: &[u8]) -> Line<'_> {
     let (first, rest) = split(words);
     let (second, rest) = split(rest);
     let (third, _) = split(rest);
-    Line {
+    TreeLine {
         root,
-        step: found(STEPS, word, Step::Heading),
+        step: found(STEPS, word, TreeStep::Heading),
         first,
         second,
         third,

@@ -9,7 +9,7 @@ use std::alloc::Allocator;
 
 /// What others did to a tree's files, of which nobody was told.
 #[derive(Drop)]
-pub enum Change<A: Allocator + Copy> {
+pub enum StrayChange<A: Allocator + Copy> {
     /// They wrote a file of these octets, in the place of one that stood there.
     Written(Path<A>, Content<A>, Moment),
     /// They removed a file, or an empty directory.
@@ -18,7 +18,7 @@ pub enum Change<A: Allocator + Copy> {
     Made(Path<A>),
 }
 
-impl<A: Allocator + Copy> Change<A> {
+impl<A: Allocator + Copy> StrayChange<A> {
     /// Does it to a tree below a root, where the tree takes it.
     pub(crate) fn apply<B: Allocator + Copy>(
         self,
@@ -26,12 +26,14 @@ impl<A: Allocator + Copy> Change<A> {
         tree: &mut MemTree<A>,
     ) -> Result<(), TreeFault> {
         match self {
-            Change::Written(path, content, moment) => tree.put(root, &path, 0, content, moment),
-            Change::Removed(path) => match tree.kind(root, &path) {
+            StrayChange::Written(path, content, moment) => tree.put(
+                root, &path, 0, content, moment,
+            ),
+            StrayChange::Removed(path) => match tree.kind(root, &path) {
                 Some(NodeKind::Dir) => tree.remove_dir(root, &path),
                 Some(NodeKind::File) | None => tree.delete(root, &path),
             },
-            Change::Made(path) => tree.make_dir(root, &path),
+            StrayChange::Made(path) => tree.make_dir(root, &path),
         }
     }
 }
@@ -40,7 +42,7 @@ impl<A: Allocator + Copy> Change<A> {
 #[derive(Drop)]
 pub enum Stray<A: Allocator + Copy> {
     /// A look finds what others did.
-    Found(Change<A>),
+    Found(StrayChange<A>),
     /// A read gives this octet in the place of each that it reads.
     Given(u8),
     /// A put keeps these octets in the place of those that came.

@@ -1,7 +1,7 @@
 // How a row says that a device strays.
 use crate::octets::octets_of;
 use crate::paths::place;
-use crate::stray::{Change, Stray};
+use crate::stray::{Stray, StrayChange};
 use crate::straying_tree::StrayingTree;
 use ftp_facts::Moment;
 use ftp_tree_memory::Content;
@@ -13,7 +13,7 @@ const THEN: Moment = Moment { seconds: 8 };
 
 /// What others did, or what is given or kept.
 #[derive(Clone, Copy)]
-enum Word {
+enum StrayWord {
     File,
     Gone,
     Dir,
@@ -22,12 +22,12 @@ enum Word {
     Nothing,
 }
 
-const WORDS: &[(&'static [u8], Word)] = &[
-    (b"file", Word::File),
-    (b"gone", Word::Gone),
-    (b"dir", Word::Dir),
-    (b"gives", Word::Gives),
-    (b"keeps", Word::Keeps),
+const WORDS: &[(&'static [u8], StrayWord)] = &[
+    (b"file", StrayWord::File),
+    (b"gone", StrayWord::Gone),
+    (b"dir", StrayWord::Dir),
+    (b"gives", StrayWord::Gives),
+    (b"keeps", StrayWord::Keeps),
 ];
 
 /// Tells a tree to stray as a text says it, `2 file /f abc`: at the second look `/f` is found written by others. Whether the text says something,
@@ -40,7 +40,7 @@ pub fn strays_so<A: Allocator + Copy>(
 ) -> bool {
     let (count, rest) = split(text);
     let (word, rest) = split(rest);
-    match stray_of(heap, own, found(WORDS, word, Word::Nothing), rest) {
+    match stray_of(heap, own, found(WORDS, word, StrayWord::Nothing), rest) {
         Some(stray) => {
             tree.strays_at(number(count), stray);
             true
@@ -52,12 +52,12 @@ pub fn strays_so<A: Allocator + Copy>(
 fn stray_of<A: Allocator + Copy>(
     heap: A,
     own: Global,
-    word: Word,
+    word: StrayWord,
     text: &[u8],
 ) -> Option<Stray<A>> {
     match (word, text) {
-        (Word::Gives, [octet, ..]) => Some(Stray::Given(*octet)),
-        (Word::Keeps, octets) => Some(Stray::Kept(content_of(heap, own, octets)?)),
+        (StrayWord::Gives, [octet, ..]) => Some(Stray::Given(*octet)),
+        (StrayWord::Keeps, octets) => Some(Stray::Kept(content_of(heap, own, octets)?)),
         _ => Some(Stray::Found(change_of(heap, own, word, text)?)),
     }
 }
@@ -65,17 +65,17 @@ fn stray_of<A: Allocator + Copy>(
 fn change_of<A: Allocator + Copy>(
     heap: A,
     own: Global,
-    word: Word,
+    word: StrayWord,
     text: &[u8],
-) -> Option<Change<A>> {
+) -> Option<StrayChange<A>> {
     let (text, octets) = split(text);
     let Ok(path) = place(heap, text) else {
         return None;
     };
     match word {
-        Word::File => Some(Change::Written(path, content_of(heap, own, octets)?, THEN)),
-        Word::Gone => Some(Change::Removed(path)),
-        Word::Dir => Some(Change::Made(path)),
+        StrayWord::File => Some(StrayChange::Written(path, content_of(heap, own, octets)?, THEN)),
+        StrayWord::Gone => Some(StrayChange::Removed(path)),
+        StrayWord::Dir => Some(StrayChange::Made(path)),
         _ => None,
     }
 }

@@ -3,7 +3,7 @@ ghost use Rattle.std.specs.Prelude.{◌≡◌, ◌+◌};
 ghost use Rattle.ftp_tree.specs.Change.{never_strayed};
 
 use crate::failing_tree::FailingTree;
-use crate::stray::{Change, Due, Stray};
+use crate::stray::{Due, Stray, StrayChange};
 use ftp_facts::Moment;
 use ftp_path::{Name, Path};
 use ftp_tree::{Broken, DirEntries, NodeKind, Sight, Tree, TreeFault};
@@ -15,7 +15,7 @@ use std::alloc::{AllocError, Allocator};
 #[derive(Drop)]
 pub struct StrayingTree<A: Allocator + Copy> {
     tree: FailingTree<A>,
-    found: Due<Change<A>>,
+    found: Due<StrayChange<A>>,
     given: Due<u8>,
     kept: Due<Content<A>>,
 }

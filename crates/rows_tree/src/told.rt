@@ -3,7 +3,7 @@ use rows_base::Paper;
 use std::alloc::Global;
 
 #[derive(Drop)]
-pub struct Told {
+pub struct TreeReport {
     pub paper: Paper,
     /// How many calls were refused for want of memory and then made again.
     pub memory: u64,
@@ -13,9 +13,9 @@ pub struct Told {
     pub growths: u64,
 }
 
-impl Told {
-    pub fn new(alloc: Global) -> Told {
-        Told {
+impl TreeReport {
+    pub fn new(alloc: Global) -> TreeReport {
+        TreeReport {
             paper: Paper::new(alloc),
             memory: 0,
             device: 0,

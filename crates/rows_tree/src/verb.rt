@@ -3,7 +3,7 @@ use rows_base::found;
 
 /// An operation, without its texts.
 #[derive(Clone, Copy)]
-pub enum Verb {
+pub enum TreeVerb {
     Where,
     ChangeDir,
     Up,
@@ -27,30 +27,30 @@ pub enum Verb {
     Nlst,
 }
 
-const VERBS: &[(&'static [u8], Verb)] = &[
-    (b"cd", Verb::ChangeDir),
-    (b"up", Verb::Up),
-    (b"mkdir", Verb::MakeDir),
-    (b"rmdir", Verb::RemoveDir),
-    (b"delete", Verb::Delete),
-    (b"rename", Verb::Rename),
-    (b"put", Verb::Put),
-    (b"append", Verb::Append),
-    (b"put-from", Verb::PutFrom),
-    (b"get", Verb::Get),
-    (b"get-from", Verb::GetFrom),
-    (b"peek", Verb::Peek),
-    (b"size", Verb::Size),
-    (b"modified", Verb::Modified),
-    (b"facts", Verb::Facts),
-    (b"list", Verb::List),
-    (b"names", Verb::Names),
-    (b"mlsd", Verb::Mlsd),
-    (b"lines", Verb::Lines),
-    (b"nlst", Verb::Nlst),
+const VERBS: &[(&'static [u8], TreeVerb)] = &[
+    (b"cd", TreeVerb::ChangeDir),
+    (b"up", TreeVerb::Up),
+    (b"mkdir", TreeVerb::MakeDir),
+    (b"rmdir", TreeVerb::RemoveDir),
+    (b"delete", TreeVerb::Delete),
+    (b"rename", TreeVerb::Rename),
+    (b"put", TreeVerb::Put),
+    (b"append", TreeVerb::Append),
+    (b"put-from", TreeVerb::PutFrom),
+    (b"get", TreeVerb::Get),
+    (b"get-from", TreeVerb::GetFrom),
+    (b"peek", TreeVerb::Peek),
+    (b"size", TreeVerb::Size),
+    (b"modified", TreeVerb::Modified),
+    (b"facts", TreeVerb::Facts),
+    (b"list", TreeVerb::List),
+    (b"names", TreeVerb::Names),
+    (b"mlsd", TreeVerb::Mlsd),
+    (b"lines", TreeVerb::Lines),
+    (b"nlst", TreeVerb::Nlst),
 ];
 
 /// What a word says; another word than these asks where one is.
-pub fn verb_of(word: &[u8]) -> Verb {
-    found(VERBS, word, Verb::Where)
+pub fn verb_of(word: &[u8]) -> TreeVerb {
+    found(VERBS, word, TreeVerb::Where)
 }

@@ -8,7 +8,7 @@ mod line;
 mod reach;
 mod reading;
 
-pub use fault::{AccountsFileFault, LineFault, TextFault};
+pub use fault::{AccountFault, AccountsFileFault, TextFault};
 pub use file::{load_accounts, load_reach};
 pub use known::two_accounts;
 pub use reach::{Reach, read_reach};

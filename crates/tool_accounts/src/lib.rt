@@ -5,7 +5,7 @@ pub mod accounts_file;
 pub mod field;
 
 pub use accounts_file::{
-    AccountsFileFault, LineFault, Reach, TextFault, load_accounts, load_reach, read_accounts,
+    AccountFault, AccountsFileFault, Reach, TextFault, load_accounts, load_reach, read_accounts,
     read_reach, two_accounts,
 };
 pub use field::{PasswordFault, Salt, field_of, make, password, salt_of};

@@ -29,7 +29,7 @@ use Rattle.ftp_ports.specs.Beginning.{AppendsFront}
 use Rattle.tool_codec.specs.Frame.{Frames, FramesFront, frame_text}
 use Rattle.tool_codec.specs.Sending.{made_octets, still_to_give, Puts, Gives}
 use Rattle.ftp_settings.specs.declared.representation.Representation.{Representation}
-use Rattle.tool_codec.specs.declared.frames.Sending.{Sending}
+use Rattle.tool_codec.specs.declared.frames.FramedFile.{FramedFile}
 
 -- THE START
 
@@ -73,7 +73,7 @@ behind_front room front back at n within is =
     let long : length front ≡ at = ap length is ∙ length-take-le at room within in
     ap (λ k. take (k + n) (front ++ back)) (sym long) ∙ take-append-add front back n ∙ ap (λ l. l ++ take n back) is
 
-pub puts_none : {A : Type 0} (s : Sending A) (ss : List Sign) → Puts s ss s ss
+pub puts_none : {A : Type 0} (s : FramedFile A) (ss : List Sign) → Puts s ss s ss
 puts_none s ss = record { octets = []; made = sym (append-nil (made_octets s)); text = λ more. refl }
 
 -- PIECES
@@ -111,7 +111,7 @@ still_open old new rest left ss sent goes_on =
     open_by new.ended (sender_form old) (sender_form new) rest left ss
     (λ more. sym (ap (λ e. if e then [] else signs_of (sender_form old) (rest ++ more)) goes_on) ∙ sent more)
 
-pub gives_more : {A : Type 0} (old mid new : Sending A) (piece rest left : List ℕ) (ss : List Sign) (sent : Sending A)
+pub gives_more : {A : Type 0} (old mid new : FramedFile A) (piece rest left : List ℕ) (ss : List Sign) (sent : FramedFile A)
     → Gives old piece mid rest
     → sent.framer ≡ mid.framer → made_octets sent ≡ made_octets mid → new.sender ≡ sent.sender
     → ((more : List ℕ) → still_to_send mid.sender (rest ++ more) ≡ ss ++ still_to_send sent.sender (left ++ more))
@@ -142,7 +142,7 @@ sent_front piece rest at taken old new given ss back sent is more =
     ∙ ap (λ l. ss ++ still_to_send new (l ++ more)) (ap (drop taken) back ∙ drop-drop _ _ piece)
 
 -- the end of the file is out
-pub end_text : {A : Type 0} (old new : Sending A) → has_sent_end old.sender ≡ false
+pub end_text : {A : Type 0} (old new : FramedFile A) → has_sent_end old.sender ≡ false
     → Puts old (end_file ∷ []) new [] → owed_octets new.framer ≡ [] → made_octets new ≡ made_octets old ++ still_to_give old []
 end_text old new goes_on puts out =
     let sent : still_to_send old.sender [] ≡ end_file ∷ [] = ap (λ e. if e then [] else signs_of (sender_form old.sender) []) goes_on in
@@ -157,7 +157,7 @@ on_err (Err e) p = p
 -- THE WHOLE FILE
 
 -- octets of the file were read, and what they decide was written
-pub record Follows {A : Type 0} (r : Representation) (marks : Bool) (before after old new : Option (List ℕ)) (turn : ℕ) (sending : Sending A) : Type 0 where
+pub record Follows {A : Type 0} (r : Representation) (marks : Bool) (before after old new : Option (List ℕ)) (turn : ℕ) (sending : FramedFile A) : Type 0 where
   pub file : List ℕ
   pub read : Consumes before after file
   pub short : length file ≤ 4096 * turn
@@ -167,7 +167,7 @@ pub record Follows {A : Type 0} (r : Representation) (marks : Bool) (before afte
   pub goes_on : has_sent_end sending.sender ≡ false
   pub empty : made_octets sending ≡ []
 
-pub begins : {A : Type 0} (r : Representation) (marks : Bool) (input old : Option (List ℕ)) (sending : Sending A)
+pub begins : {A : Type 0} (r : Representation) (marks : Bool) (input old : Option (List ℕ)) (sending : FramedFile A)
     → ((file : List ℕ) → length file < 2 ^ 64 → still_to_give sending file ≡ frame_text r marks file) → has_sent_end sending.sender ≡ false
     → made_octets sending ≡ [] → Follows r marks input input old old 0 sending
 begins r marks input old sending text goes_on empty = record {
@@ -181,7 +181,7 @@ begins r marks input old sending text goes_on empty = record {
   empty = empty;
 }
 
-whole_text : {A : Type 0} (r : Representation) (marks : Bool) (before after old new : Option (List ℕ)) (turn : ℕ) (sending : Sending A)
+whole_text : {A : Type 0} (r : Representation) (marks : Bool) (before after old new : Option (List ℕ)) (turn : ℕ) (sending : FramedFile A)
     → (follows : Follows r marks before after old new turn sending) → turn ≤ 1099511627776
     → frame_text r marks follows.file ≡ follows.octets ++ still_to_give sending []
 whole_text r marks before after old new turn sending follows turns =
@@ -194,7 +194,7 @@ whole_text r marks before after old new turn sending follows turns =
 made_all : (old made octets : List ℕ) → made ≡ old ++ octets → old ≡ [] → made ≡ octets
 made_all old made octets is none = is ∙ ap (λ l. l ++ octets) none
 
-pub follows_on : {A : Type 0} (r : Representation) (marks : Bool) (before mid after old now later : Option (List ℕ)) (turn : ℕ) (xs : List ℕ) (sending next new : Sending A)
+pub follows_on : {A : Type 0} (r : Representation) (marks : Bool) (before mid after old now later : Option (List ℕ)) (turn : ℕ) (xs : List ℕ) (sending next new : FramedFile A)
     → Follows r marks before mid old now turn sending → length xs ≤ 4096 → Consumes mid after xs → Gives sending xs next [] → Appends now later (made_octets next)
     → new.sender ≡ next.sender → new.framer ≡ next.framer → made_octets new ≡ []
     → Follows r marks before after old later (turn + 1) new
@@ -218,7 +218,7 @@ follows_on r marks before mid after old now later turn xs sending next new follo
 }
 
 -- no further read gave anything
-pub breaks_between : {A : Type 0} (r : Representation) (marks : Bool) (before mid after old now : Option (List ℕ)) (turn : ℕ) (sending : Sending A)
+pub breaks_between : {A : Type 0} (r : Representation) (marks : Bool) (before mid after old now : Option (List ℕ)) (turn : ℕ) (sending : FramedFile A)
     → Follows r marks before mid old now turn sending → turn ≤ 1099511627776 → Keeps mid after → FramesFront r marks before after old now
 breaks_between r marks before mid after old now turn sending follows turns kept = record {
   file = follows.file;
@@ -231,7 +231,7 @@ fits_more : (file xs : List ℕ) (turn : ℕ) → length file ≤ 4096 * turn �
 fits_more file xs turn short turns few = let e = length-append file xs in omega (arith, e, short, turns, few)
 
 -- memory was refused for what a piece, or the end, decides
-pub breaks_piece : {A : Type 0} (r : Representation) (marks : Bool) (before mid after old now : Option (List ℕ)) (turn : ℕ) (xs : List ℕ) (sending : Sending A)
+pub breaks_piece : {A : Type 0} (r : Representation) (marks : Bool) (before mid after old now : Option (List ℕ)) (turn : ℕ) (xs : List ℕ) (sending : FramedFile A)
     → Follows r marks before mid old now turn sending → turn < 1099511627776 → length xs ≤ 4096 → Consumes mid after xs → FramesFront r marks before after old now
 breaks_piece r marks before mid after old now turn xs sending follows turns short read = record {
   file = follows.file ++ xs;
@@ -241,7 +241,7 @@ breaks_piece r marks before mid after old now turn xs sending follows turns shor
 }
 
 -- what was made of a piece was not written whole
-pub breaks_off : {A : Type 0} (r : Representation) (marks : Bool) (before mid after old now later : Option (List ℕ)) (turn : ℕ) (xs : List ℕ) (sending next : Sending A)
+pub breaks_off : {A : Type 0} (r : Representation) (marks : Bool) (before mid after old now later : Option (List ℕ)) (turn : ℕ) (xs : List ℕ) (sending next : FramedFile A)
     → Follows r marks before mid old now turn sending → turn < 1099511627776 → length xs ≤ 4096 → Consumes mid after xs → Gives sending xs next []
     → AppendsFront now later (made_octets next) → FramesFront r marks before after old later
 breaks_off r marks before mid after old now later turn xs sending next follows turns short read gives front =
@@ -256,14 +256,14 @@ breaks_off r marks before mid after old now later turn xs sending next follows t
           (AppendsFront-more now later (made_octets next) (still_to_give next []) front));
     }
 
-pub read_all : {A : Type 0} (r : Representation) (marks : Bool) (before mid after old now : Option (List ℕ)) (turn : ℕ) (xs : List ℕ) (sending : Sending A)
+pub read_all : {A : Type 0} (r : Representation) (marks : Bool) (before mid after old now : Option (List ℕ)) (turn : ℕ) (xs : List ℕ) (sending : FramedFile A)
     → (follows : Follows r marks before mid old now turn sending) → Consumes mid after xs → xs ≡ [] → Consumes before after follows.file
 read_all r marks before mid after old now turn xs sending follows read none =
     subst (λ l. Consumes before after l) (ap (λ l. follows.file ++ l) none ∙ append-nil follows.file)
     (Consumes-trans before mid after follows.file xs follows.read read)
 
 -- the input ended
-pub ends : {A : Type 0} (r : Representation) (marks : Bool) (before mid after old now later : Option (List ℕ)) (turn : ℕ) (xs : List ℕ) (sending next : Sending A)
+pub ends : {A : Type 0} (r : Representation) (marks : Bool) (before mid after old now later : Option (List ℕ)) (turn : ℕ) (xs : List ℕ) (sending next : FramedFile A)
     → Follows r marks before mid old now turn sending → turn ≤ 1099511627776 → Consumes mid after xs → xs ≡ [] → IsAtEnd after
     → made_octets next ≡ made_octets sending ++ still_to_give sending [] → Appends now later (made_octets next) → Frames r marks before after old later 0
 ends r marks before mid after old now later turn xs sending next follows turns read none ended made wrote = record {
@@ -276,7 +276,7 @@ ends r marks before mid after old now later turn xs sending next follows turns r
   says = refl;
 }
 
-pub breaks_at_end : {A : Type 0} (r : Representation) (marks : Bool) (before mid after old now later : Option (List ℕ)) (turn : ℕ) (xs : List ℕ) (sending next : Sending A)
+pub breaks_at_end : {A : Type 0} (r : Representation) (marks : Bool) (before mid after old now later : Option (List ℕ)) (turn : ℕ) (xs : List ℕ) (sending next : FramedFile A)
     → Follows r marks before mid old now turn sending → turn ≤ 1099511627776 → Consumes mid after xs → xs ≡ []
     → made_octets next ≡ made_octets sending ++ still_to_give sending [] → AppendsFront now later (made_octets next) → FramesFront r marks before after old later
 breaks_at_end r marks before mid after old now later turn xs sending next follows turns read none made front = record {

@@ -21,8 +21,8 @@ use Rattle.tool_codec.specs.Receiving.{said_by, StandsAfter, FaultyAfter, WholeA
 use Rattle.tool_codec.specs.WireReading.{ReadsFile, ReadsFault, ReadsFront, ReadsTo}
 use Rattle.ftp_settings.specs.declared.representation.Representation.{Representation}
 use Rattle.ftp_ports.specs.declared.pieces.Failed.{Failed}
-use Rattle.tool_codec.specs.declared.receiving.Outcome.{Outcome}
-use Rattle.tool_codec.specs.declared.receiving.Outcome.TheVariants.{More, Whole, Faulty}
+use Rattle.tool_codec.specs.declared.receiving.WireState.{WireState}
+use Rattle.tool_codec.specs.declared.receiving.WireState.TheVariants.{More, Whole, Faulty}
 use Rattle.tool_codec.specs.declared.receiving.Receiving.{Receiving}
 
 -- octets of the wire were read, and all that they settle was written
@@ -95,7 +95,7 @@ wire_breaks_piece r before mid after old now turn xs receiving follows turns few
     }
 
 -- what was settled of a piece was not written whole
-pub wire_breaks_off : {A : Type 0} (r : Representation) (before mid after old now later : Option (List ℕ)) (turn : ℕ) (xs : List ℕ) (ended : Bool) (receiving next : Receiving A) (heard : Outcome)
+pub wire_breaks_off : {A : Type 0} (r : Representation) (before mid after old now later : Option (List ℕ)) (turn : ℕ) (xs : List ℕ) (ended : Bool) (receiving next : Receiving A) (heard : WireState)
     → (follows : WireFollows r before mid old now turn receiving) → turn < 1099511627776 → length xs ≤ 4096 → Consumes mid after xs → (ended ≡ true → IsAtEnd after)
     → HearsAfter r (follows.wire ++ xs) follows.written ended heard next → AppendsFront now later next.settled.items
     → ReadsFront r before after old later

@@ -11,8 +11,8 @@ use Rattle.ftp_mode.specs.Deframing.{reading, owed}
 use Rattle.ftp_mode.specs.Laws.{settled_content, ended_content}
 use Rattle.ftp_settings.specs.Representation.{form_of}
 use Rattle.ftp_settings.specs.declared.representation.Representation.{Representation}
-use Rattle.tool_codec.specs.declared.receiving.Outcome.{Outcome}
-use Rattle.tool_codec.specs.declared.receiving.Outcome.TheVariants.{More, Whole, Faulty}
+use Rattle.tool_codec.specs.declared.receiving.WireState.{WireState}
+use Rattle.tool_codec.specs.declared.receiving.WireState.TheVariants.{More, Whole, Faulty}
 use Rattle.tool_codec.specs.declared.receiving.Receiving.{Receiving}
 
 -- the reader of wires after these octets, and what it said of them
@@ -42,7 +42,7 @@ pub record WholeAfter {A : Type 0} (r : Representation) (wire written : List ℕ
   pub complete : is_complete (read_by r wire)
   pub settled : written ++ now.settled.items ≡ ended_content r.mode (form_of r) wire
 
-abbrev pub HearsAfter : {A : Type 0} → Representation → List ℕ → List ℕ → Bool → Outcome → Receiving A → Type 0
+abbrev pub HearsAfter : {A : Type 0} → Representation → List ℕ → List ℕ → Bool → WireState → Receiving A → Type 0
 HearsAfter r wire written ended More now = StandsAfter r wire written now
 HearsAfter r wire written ended Whole now = WholeAfter r wire written ended now
 HearsAfter r wire written ended (Faulty fault) now = FaultyAfter r wire written ended fault now

@@ -12,7 +12,7 @@ use std::io::{Read, Write};
 
 /// What is written for a line, and whether it is a fault.
 #[derive(Drop)]
-pub struct Answer<A: Allocator + Copy> {
+pub struct LineAnswer<A: Allocator + Copy> {
     text: Vec<u8, A>,
     faulty: bool,
 }
@@ -162,7 +162,7 @@ where
 }
 
 /// The answer of a line and an LF.
-fn answer_line<A: Allocator + Copy>(alloc: A, line: &[u8]) -> Result<Answer<A>, Failed>
+fn answer_line<A: Allocator + Copy>(alloc: A, line: &[u8]) -> Result<LineAnswer<A>, Failed>
     ensures { IfOk result (λ answer. AnswersAll A (line.now ∷ []) answer.faulty answer.text.items) }
 {
     let mut answer = answer_of(alloc, line)?;
@@ -173,13 +173,13 @@ fn answer_line<A: Allocator + Copy>(alloc: A, line: &[u8]) -> Result<Answer<A>, 
 }
 
 /// The entry that a line says, as it is written, or its fault's number and name.
-fn answer_of<A: Allocator + Copy>(alloc: A, line: &[u8]) -> Result<Answer<A>, Failed>
+fn answer_of<A: Allocator + Copy>(alloc: A, line: &[u8]) -> Result<LineAnswer<A>, Failed>
     ensures { IfOk result (λ answer. Answers A line.now answer.faulty answer.text.items) }
 {
     let mut text = Vec::new(alloc);
     match read_entry(alloc, line) {
         Ok(entry) => match write_entry(&entry, &mut text) {
-            Ok(()) => Ok(Answer {
+            Ok(()) => Ok(LineAnswer {
                 text,
                 faulty: false,
             }),
@@ -187,7 +187,7 @@ fn answer_of<A: Allocator + Copy>(alloc: A, line: &[u8]) -> Result<Answer<A>, Fa
         },
         Err(FactFault::Memory) => Err(Failed),
         Err(fault) => match text.extend_from_slice(fault.text().as_bytes()) {
-            Ok(()) => Ok(Answer { text, faulty: true }),
+            Ok(()) => Ok(LineAnswer { text, faulty: true }),
             Err(_) => Err(Failed),
         },
     }

@@ -49,7 +49,7 @@ impl Direction {
 
 /// A file that is being written, and what of its wire is made and not yet written.
 #[derive(Drop)]
-pub struct Sending<A: Allocator + Copy> {
+pub struct FramedFile<A: Allocator + Copy> {
     sender: Sender,
     framer: Framer,
     /// So many octets in front are made, and the others are to be written over.
@@ -58,16 +58,16 @@ pub struct Sending<A: Allocator + Copy> {
     ghost within: { made ≤ vec_len room },
 }
 
-impl<A: Allocator + Copy> Sending<A> {
+impl<A: Allocator + Copy> FramedFile<A> {
     ghost use Rattle.tool_codec.specs.Sending.{made_octets, still_to_give, Puts, Gives};
 
     /// Nothing of the file was given, and own markers count its octets where they are asked for.
-    fn new(alloc: A, form: Representation, marks: bool) -> Sending<A>
+    fn new(alloc: A, form: Representation, marks: bool) -> FramedFile<A>
         ensures text { (file : List ℕ) → length file < 2 ^ 64 → still_to_give result file ≡ frame_text form marks file }
         ensures goes_on { has_sent_end result.sender ≡ false }
         ensures empty { made_octets result ≡ [] }
     {
-        Sending {
+        FramedFile {
             sender: Sender::new(form.kind, form.structure),
             framer: framer_of(form, marks),
             made: 0,
@@ -241,7 +241,7 @@ where
     ensures ok { OnOk result (Frames form marks (R.remaining reader.old) (R.remaining reader.new) (W.contents writer.old) (W.contents writer.new) 0) }
     ensures err { OnErr result (FramesFront form marks (R.remaining reader.old) (R.remaining reader.new) (W.contents writer.old) (W.contents writer.new)) }
 {
-    let mut sending = Sending::new(alloc, form, marks);
+    let mut sending = FramedFile::new(alloc, form, marks);
     let mut buffer = [0u8; PIECE_LIMIT];
     for _turn in 0..TURNS {
         let (room, _) = buffer.split_at_mut(PIECE_LIMIT);

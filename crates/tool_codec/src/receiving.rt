@@ -18,7 +18,7 @@ use std::io::{Read, Write};
 
 /// How a wire stands: more may follow, or it has ended and reads as a file, or it has a fault.
 #[derive(Clone, Copy)]
-pub enum Outcome {
+pub enum WireState {
     More,
     Whole,
     Faulty(FrameFault),
@@ -49,7 +49,7 @@ impl<A: Allocator + Copy> Receiving<A> {
     }
 
     /// Settles what the next octets of the wire say, or its end where there are none.
-    fn next(&mut self, piece: &[u8]) -> Result<Outcome, Failed>
+    fn next(&mut self, piece: &[u8]) -> Result<WireState, Failed>
         ensures ok { IfOk result (λ heard. (r : Representation) (wire written : List ℕ) → length wire < 2 ^ 64
             → StandsAfter r wire written self.old → HearsAfter r (wire ++ piece.now) written (length piece.now == 0) heard self.new) }
     {
@@ -60,7 +60,7 @@ impl<A: Allocator + Copy> Receiving<A> {
     }
 
     /// Settles what the next octets of the wire say.
-    fn hear(&mut self, piece: &[u8]) -> Result<Outcome, Failed>
+    fn hear(&mut self, piece: &[u8]) -> Result<WireState, Failed>
         ensures ok { IfOk result (λ heard. (r : Representation) (wire written : List ℕ) → StandsAfter r wire written self.old
             → HearsAfter r (wire ++ piece.now) written false heard self.new) }
     {
@@ -69,12 +69,12 @@ impl<A: Allocator + Copy> Receiving<A> {
             let (_, rest) = piece.split_at(at);
             let step = match self.deframer.feed(rest) {
                 Ok(step) => step,
-                Err(fault) => return Ok(Outcome::Faulty(fault)),
+                Err(fault) => return Ok(WireState::Faulty(fault)),
             };
             at += step.taken;
             self.receive(step.part)?;
             match step.part {
-                Part::Need => return Ok(Outcome::More),
+                Part::Need => return Ok(WireState::More),
                 Part::Data(_) | Part::EndRecord | Part::EndFile | Part::Marker => {}
             }
         }
@@ -96,15 +96,15 @@ impl<A: Allocator + Copy> Receiving<A> {
     }
 
     /// Settles what the end of the wire says.
-    fn end(&mut self) -> Result<Outcome, Failed>
+    fn end(&mut self) -> Result<WireState, Failed>
         ensures ok { IfOk result (λ heard. (r : Representation) (wire written : List ℕ) → length wire < 2 ^ 64
             → StandsAfter r wire written self.old → HearsAfter r wire written true heard self.new) }
     {
         if let Err(fault) = self.deframer.end() {
-            return Ok(Outcome::Faulty(fault));
+            return Ok(WireState::Faulty(fault));
         }
         match self.receiver.end(&mut self.settled) {
-            Ok(()) => Ok(Outcome::Whole),
+            Ok(()) => Ok(WireState::Whole),
             Err(_) => Err(Failed),
         }
     }
@@ -190,9 +190,9 @@ where
         let heard = receiving.next(octets)?;
         receiving.write(writer)?;
         match heard {
-            Outcome::More => {}
-            Outcome::Whole => return Ok(None),
-            Outcome::Faulty(fault) => return Ok(Some(fault)),
+            WireState::More => {}
+            WireState::Whole => return Ok(None),
+            WireState::Faulty(fault) => return Ok(Some(fault)),
         }
     }
     Err(Failed)

@@ -1,23 +1,23 @@
 -- How many clients the words of `serve` ask to be served at once, and what stops it (own choice).
 use Rattle.std.specs.Prelude.{◌≡◌, ◌≤◌, ◌-◌, ◌^◌, max, ℕ, List, Option, Some, None}
-use Rattle.tool_command.specs.declared.crowd.Stop.{Stop}
-use Rattle.tool_command.specs.declared.crowd.Stop.TheVariants.{InputEnd, Signal}
-use Rattle.tool_scheduler.specs.declared.house.Input.{Input}
-use Rattle.tool_scheduler.specs.declared.house.Input.TheVariants.{Stops, Unread}
+use Rattle.tool_command.specs.declared.crowd.StopCause.{StopCause}
+use Rattle.tool_command.specs.declared.crowd.StopCause.TheVariants.{InputEnd, Signal}
+use Rattle.tool_scheduler.specs.declared.session_limits.Input.{Input}
+use Rattle.tool_scheduler.specs.declared.session_limits.Input.TheVariants.{Stops, Unread}
 use Rattle.tool_command.specs.Numbers.{SaysBelow}
-use Rattle.tool_serve.specs.declared.sessions.Sessions.{Sessions}
-use Rattle.tool_serve.specs.declared.sessions.Sessions.TheVariants.{Count, Forever}
+use Rattle.tool_serve.specs.declared.sessions.SessionCount.{SessionCount}
+use Rattle.tool_serve.specs.declared.sessions.SessionCount.TheVariants.{Count, Forever}
 
 -- a number from 1 to 64
 abbrev pub SaysCount : List ℕ → ℕ → Type 0
 SaysCount word count = SaysBelow (2 ^ 32) word count × (1 ≤ count) × (count ≤ 64)
 
 -- where no word says it: one where only so many sessions are served, and else 32
-abbrev pub unsaid_at_once : Sessions → ℕ
+abbrev pub unsaid_at_once : SessionCount → ℕ
 unsaid_at_once (Count n) = 1
 unsaid_at_once Forever = 32
 
-abbrev pub SaysAtOnce : Option (List ℕ) → Sessions → ℕ → Type 0
+abbrev pub SaysAtOnce : Option (List ℕ) → SessionCount → ℕ → Type 0
 SaysAtOnce None sessions count = count ≡ unsaid_at_once sessions
 SaysAtOnce (Some word) sessions count = SaysCount word count
 
@@ -30,7 +30,7 @@ SaysPerHost None at_once count = count ≡ unsaid_per_host at_once
 SaysPerHost (Some word) at_once count = SaysCount word count
 
 -- the end of standard input stops the server only where that is asked for; the seconds for transfers are a number in either case
-abbrev pub SaysInput : Stop → List ℕ → Input → Type 0
+abbrev pub SaysInput : StopCause → List ℕ → Input → Type 0
 SaysInput Signal finish input = ((n : ℕ) × SaysBelow (2 ^ 32) finish n) × (input ≡ Unread)
 SaysInput InputEnd finish (Stops n) = SaysBelow (2 ^ 32) finish n
 SaysInput InputEnd finish Unread = ⊥

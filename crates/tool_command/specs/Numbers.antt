@@ -2,8 +2,8 @@
 use Rattle.std.specs.Prelude.{◌≡◌, ◌==◌, ◌<◌, ◌≤◌, ◌^◌, ℕ, Bool, List, codes, length}
 use Rattle.std.specs.List.{after_first, before_first, position_or_len}
 use Rattle.std.specs.Str.Parse.{IsNumeral, digits_value}
-use Rattle.tool_serve.specs.declared.sessions.Sessions.{Sessions}
-use Rattle.tool_serve.specs.declared.sessions.Sessions.TheVariants.{Count, Forever}
+use Rattle.tool_serve.specs.declared.sessions.SessionCount.{SessionCount}
+use Rattle.tool_serve.specs.declared.sessions.SessionCount.TheVariants.{Count, Forever}
 
 -- a decimal number below this one: digits alone, leading zeros too
 abbrev pub SaysBelow : ℕ → List ℕ → ℕ → Type 0
@@ -28,6 +28,6 @@ SaysPorts word first last =
     × (first ≤ last)
 
 -- a number below 2 ^ 32, or `forever`
-abbrev pub SaysSessions : List ℕ → Sessions → Type 0
+abbrev pub SaysSessions : List ℕ → SessionCount → Type 0
 SaysSessions word (Count n) = SaysBelow (2 ^ 32) word n
 SaysSessions word Forever = word ≡ codes "forever"

@@ -10,10 +10,10 @@ use Rattle.tool_command.specs.declared.serving.Scope.TheVariants.{Any, Usual}
 use Rattle.tool_command.specs.declared.serving.ServeWords.{ServeWords}
 use Rattle.tool_command.specs.declared.serving.WaitWords.{WaitWords}
 use Rattle.tool_serve.specs.declared.serving.Serving.{Serving}
-use Rattle.tool_polling.specs.declared.timeouts.Limits.{Limits as Waits}
+use Rattle.tool_polling.specs.declared.timeouts.TimeLimits.{TimeLimits as Waits}
 use Rattle.tool_command.specs.Numbers.{SaysBelow, SaysPort, SaysPorts, SaysSessions}
-use Rattle.tool_serve.specs.declared.sessions.Sessions.{Sessions}
-use Rattle.tool_serve.specs.declared.sessions.Sessions.TheVariants.{Count, Forever}
+use Rattle.tool_serve.specs.declared.sessions.SessionCount.{SessionCount}
+use Rattle.tool_serve.specs.declared.sessions.SessionCount.TheVariants.{Count, Forever}
 use Rattle.ftp_tree.specs.Tree.{default_limits}
 use Rattle.ftp_tree.specs.declared.limits.Limits.{Limits}
 use Rattle.ftp_disk_scan.specs.declared.loading.fault.Odd.{Odd}
@@ -25,12 +25,12 @@ SaysSeconds None unsaid seconds = seconds ≡ unsaid
 SaysSeconds (Some word) unsaid seconds = SaysBelow (2 ^ 32) word seconds
 
 -- what holds where no word says it: where only so many sessions are served there is no limit of time, which 0 stands for
-abbrev pub unsaid_waits : Sessions → Waits
+abbrev pub unsaid_waits : SessionCount → Waits
 unsaid_waits (Count n) = record { login = 0; idle = 0; idle_while_waited = 0; session_while_waited = 0; login_while_waited = 0 }
 unsaid_waits Forever = record { login = 30; idle = 300; idle_while_waited = 15; session_while_waited = 60; login_while_waited = 10 }
 
 -- each of the five is what its word says, or what holds without one
-pub record AreWaits (words : WaitWords) (sessions : Sessions) (waits : Waits) : Type 0 where
+pub record AreWaits (words : WaitWords) (sessions : SessionCount) (waits : Waits) : Type 0 where
   pub login : SaysSeconds (option_map (λ word. word.now) words.login) (unsaid_waits sessions).login waits.login
   pub idle : SaysSeconds (option_map (λ word. word.now) words.idle) (unsaid_waits sessions).idle waits.idle
   pub idle_while_waited :

@@ -6,7 +6,7 @@ use crate::pairing::PAIR;
 use crate::password::PASSWORD;
 use crate::running::RUN;
 use crate::serving::{SERVE, serve_options};
-use crate::words::{Form, MODE, MOST, STRU, Subcommand, TYPE, Value, Word, subcommand_of};
+use crate::words::{Form, MODE, MOST, STRU, Subcommand, TYPE, ValueForm, Word, subcommand_of};
 use clap::Command;
 use std::alloc::{AllocError, Global};
 
@@ -17,7 +17,7 @@ const DIALOGUE: Subcommand<'static> = Subcommand {
     help: help::DIALOGUE,
     words: &[Word {
         name: "piece",
-        form: Form::Else(Value::Number("N", 0, MOST), "0"),
+        form: Form::Else(ValueForm::Number("N", 0, MOST), "0"),
         help: "octets that are read at a time, or 0 for what a read gives",
     }],
 };

@@ -1,15 +1,15 @@
 // How many clients `serve` serves at once, as its words say it.
 ghost use Rattle.std.specs.Prelude.{◌≡◌, ℕ, IfOk, OnErr, option_map};
 ghost use Rattle.tool_command.specs.Crowd.{SaysAtOnce, SaysInput, SaysPerHost, unsaid_at_once, unsaid_per_host};
-ghost use Rattle.tool_scheduler.specs.declared.house.Input.{Input};
+ghost use Rattle.tool_scheduler.specs.declared.session_limits.Input.{Input};
 
-use crate::refusal::Refusal;
+use crate::refusal::UsageError;
 use tool_codec::number_of;
-use tool_serve::{Input, Sessions};
+use tool_serve::{Input, SessionCount};
 
 /// What stops the server.
 #[derive(Clone, Copy)]
-pub(crate) enum Stop {
+pub(crate) enum StopCause {
     /// A signal alone.
     Signal,
     /// The end of standard input too.
@@ -17,7 +17,10 @@ pub(crate) enum Stop {
 }
 
 /// How many clients are served at once: one where only so many sessions are, else 32.
-pub(crate) fn at_once_by(word: Option<&str>, sessions: Sessions) -> Result<usize, Refusal<'_>>
+pub(crate) fn at_once_by(
+    word: Option<&str>,
+    sessions: SessionCount,
+) -> Result<usize, UsageError<'_>>
     ensures some { IfOk result (λ count. SaysAtOnce (option_map (λ word. word.now) word.entry) sessions count) }
     ensures none { OnErr result ((count : ℕ) → ¬ SaysAtOnce (option_map (λ word. word.now) word.entry) sessions count) }
 {
@@ -26,12 +29,12 @@ pub(crate) fn at_once_by(word: Option<&str>, sessions: Sessions) -> Result<usize
     };
     match number_of(word) {
         Some(count) if count >= 1 && count <= 64 => Ok(count as usize),
-        _ => Err(Refusal::of("--at-once <N>", word, "a number from 1 to 64 is wanted")),
+        _ => Err(UsageError::of("--at-once <N>", word, "a number from 1 to 64 is wanted")),
     }
 }
 
 /// How many of them from one address: where nothing is said, one less than in all, but one at least.
-pub(crate) fn per_host_by(word: Option<&str>, at_once: usize) -> Result<usize, Refusal<'_>>
+pub(crate) fn per_host_by(word: Option<&str>, at_once: usize) -> Result<usize, UsageError<'_>>
     ensures some { IfOk result (λ count. SaysPerHost (option_map (λ word. word.now) word.entry) at_once count) }
     ensures none { OnErr result ((count : ℕ) → ¬ SaysPerHost (option_map (λ word. word.now) word.entry) at_once count) }
 {
@@ -40,7 +43,7 @@ pub(crate) fn per_host_by(word: Option<&str>, at_once: usize) -> Result<usize, R
     };
     match number_of(word) {
         Some(count) if count >= 1 && count <= 64 => Ok(count as usize),
-        _ => Err(Refusal::of(
+        _ => Err(UsageError::of(
             "--at-once-per-host <M>",
             word,
             "a number from 1 to 64 is wanted",
@@ -48,12 +51,12 @@ pub(crate) fn per_host_by(word: Option<&str>, at_once: usize) -> Result<usize, R
     }
 }
 
-fn unsaid_at_once(sessions: Sessions) -> usize
+fn unsaid_at_once(sessions: SessionCount) -> usize
     ensures { result ≡ unsaid_at_once sessions }
 {
     match sessions {
-        Sessions::Count(_) => 1,
-        Sessions::Forever => 32,
+        SessionCount::Count(_) => 1,
+        SessionCount::Forever => 32,
     }
 }
 
@@ -64,15 +67,15 @@ fn unsaid_per_host(at_once: usize) -> usize
 }
 
 /// What the end of standard input means, and for how many seconds transfers may go on then.
-pub(crate) fn input_by(stop: Stop, finish: &str) -> Result<Input, Refusal<'_>>
+pub(crate) fn input_by(stop: StopCause, finish: &str) -> Result<Input, UsageError<'_>>
     ensures some { IfOk result (λ input. SaysInput stop finish.now input) }
     ensures none { OnErr result ((input : Input) → ¬ SaysInput stop finish.now input) }
 {
     let Some(seconds) = number_of(finish) else {
-        return Err(Refusal::Number);
+        return Err(UsageError::Number);
     };
     match stop {
-        Stop::Signal => Ok(Input::Unread),
-        Stop::InputEnd => Ok(Input::Stops(seconds)),
+        StopCause::Signal => Ok(Input::Unread),
+        StopCause::InputEnd => Ok(Input::Stops(seconds)),
     }
 }

@@ -1,19 +1,19 @@
 // The subcommands of a client that ask at one place: their words.
 use crate::help;
 use crate::place::{host_in, location_in, user_in, wanted_of};
-use crate::refusal::Refusal;
+use crate::refusal::UsageError;
 use crate::words::{
     ACTIVE, EXTENDED, Form, LIMIT, LIMIT_RATE, MAX_TIME, MODE, NO_EXTENDED, PARALLEL,
-    PASSWORD_FILE, QUIET, STRU, Subcommand, TIMEOUT, TYPE, USER, Value, Word, at_once_in, chosen,
-    how_of, limit_in, rate_in, representation_in, text_in, timeout_in, until_in,
+    PASSWORD_FILE, QUIET, STRU, Subcommand, TIMEOUT, TYPE, USER, ValueForm, Word, at_once_in,
+    chosen, how_of, limit_in, rate_in, representation_in, text_in, timeout_in, until_in,
 };
 use clap::ArgMatches;
 use ftp_operation::How;
-use tool_get_put::{Each, Lines, Task};
-use tool_job::{Download, Parts, Simple, Target, Targets};
+use tool_get_put::{Each, ListingFormat, PlaceTask};
+use tool_job::{DownloadJob, PartHandling, Simple, Target, Targets};
 use tool_listing::is_pattern;
-use tool_session::Openings;
 use tool_location::{Location, UrlPlace};
+use tool_session::Openings;
 
 pub const GET: Subcommand<'static> = Subcommand {
     name: "get",
@@ -23,7 +23,7 @@ pub const GET: Subcommand<'static> = Subcommand {
     words: &[
         Word {
             name: "places",
-            form: Form::NeededPlaces(Value::Text("HOST:PORT/PATH")),
+            form: Form::NeededPlaces(ValueForm::Text("HOST:PORT/PATH")),
             help: "what is fetched, as a place or a URL; the last of several words is FILE or FOLDER/, where it goes",
         },
         Word {
@@ -59,7 +59,7 @@ pub const PUT: Subcommand<'static> = Subcommand {
     words: &[
         Word {
             name: "files",
-            form: Form::NeededPlaces(Value::Name("FILE")),
+            form: Form::NeededPlaces(ValueForm::Name("FILE")),
             help: "what is read, - is standard input; the last word is HOST:PORT/PATH or a URL, where it goes",
         },
         LIMIT_RATE,
@@ -143,7 +143,7 @@ pub const MV: Subcommand<'static> = Subcommand {
         PLACE,
         Word {
             name: "path",
-            form: Form::NeededPlace(Value::Name("PATH")),
+            form: Form::NeededPlace(ValueForm::Name("PATH")),
             help: "its path from then on, at the same server",
         },
     ],
@@ -151,13 +151,13 @@ pub const MV: Subcommand<'static> = Subcommand {
 
 const PLACE: Word<'static> = Word {
     name: "place",
-    form: Form::NeededPlace(Value::Text("HOST:PORT/PATH")),
+    form: Form::NeededPlace(ValueForm::Text("HOST:PORT/PATH")),
     help: "the server, its port (21 where none is written), and the path there; or ftp://USER@HOST:PORT/PATH",
 };
 
 const PLACES: Word<'static> = Word {
     name: "places",
-    form: Form::NeededPlaces(Value::Text("HOST:PORT/PATH")),
+    form: Form::NeededPlaces(ValueForm::Text("HOST:PORT/PATH")),
     help: "the server, its port (21 where none is written), and the path there; or ftp://USER@HOST:PORT/PATH",
 };
 
@@ -208,7 +208,7 @@ pub fn asked_of<'a>(
     url: Option<&'a UrlPlace>,
     openings: &'a Openings,
     is_terminal: bool,
-) -> Result<Target<'a>, Refusal<'a>> {
+) -> Result<Target<'a>, UsageError<'a>> {
     let location = asked_at(place, url)?;
     let timeout = timeout_in(words)?;
     let until = until_in(words)?;
@@ -231,50 +231,50 @@ pub fn asked_of<'a>(
 }
 
 /// The place that is asked at; refused where it is none.
-fn asked_at<'a>(place: &'a str, url: Option<&'a UrlPlace>) -> Result<Location<'a>, Refusal<'a>> {
+fn asked_at<'a>(place: &'a str, url: Option<&'a UrlPlace>) -> Result<Location<'a>, UsageError<'a>> {
     match location_in(place, url) {
         Some(location) => host_in(PLACE_OPTION, place, location),
-        None => Err(Refusal::of(PLACE_OPTION, place, wanted_of(place))),
+        None => Err(UsageError::of(PLACE_OPTION, place, wanted_of(place))),
     }
 }
 
 /// How a transfer goes; `clap` lets no other letters through than these.
-fn how_in<'a>(words: &ArgMatches<'_>) -> Result<How, Refusal<'a>> {
+fn how_in<'a>(words: &ArgMatches<'_>) -> Result<How, UsageError<'a>> {
     match representation_in(words) {
         Some(form) => Ok(how_of(words, form)),
-        None => Err(Refusal::Number),
+        None => Err(UsageError::Number),
     }
 }
 
 /// What is done at a place that a subcommand of this name asks at.
-pub fn fetch_task_of<'a>(name: &str, words: &'a ArgMatches<'_>) -> Option<Task<'a>> {
+pub fn fetch_task_of<'a>(name: &str, words: &'a ArgMatches<'_>) -> Option<PlaceTask<'a>> {
     match name {
-        "ls" => Some(Task::List(lines_of(words))),
-        "cat" => Some(Task::Get(SHOWN)),
-        "size" => Some(Task::Simple(Simple::Size)),
-        "rm" => Some(Task::Simple(Simple::Remove)),
+        "ls" => Some(PlaceTask::List(lines_of(words))),
+        "cat" => Some(PlaceTask::Get(SHOWN)),
+        "size" => Some(PlaceTask::Simple(Simple::Size)),
+        "rm" => Some(PlaceTask::Simple(Simple::Remove)),
         "mkdir" => Some(chosen(
             words,
             "parents",
-            Task::MakeDirectories,
-            Task::Simple(Simple::MakeDirectory),
+            PlaceTask::MakeDirectories,
+            PlaceTask::Simple(Simple::MakeDirectory),
         )),
-        "rmdir" => Some(Task::Simple(Simple::RemoveDirectory)),
-        "mv" => Some(Task::Simple(Simple::Move(text_in(words, "path")))),
+        "rmdir" => Some(PlaceTask::Simple(Simple::RemoveDirectory)),
+        "mv" => Some(PlaceTask::Simple(Simple::Move(text_in(words, "path")))),
         _ => None,
     }
 }
 
 /// What the lines of a listing are: of two options --json is meant.
-fn lines_of(words: &ArgMatches<'_>) -> Lines {
-    let other = chosen(words, "long", Lines::Long, Lines::Facts);
-    chosen(words, "json", Lines::Json, other)
+fn lines_of(words: &ArgMatches<'_>) -> ListingFormat {
+    let other = chosen(words, "long", ListingFormat::Long, ListingFormat::Facts);
+    chosen(words, "json", ListingFormat::Json, other)
 }
 
 /// A download that goes to standard output.
-const SHOWN: Download<'static> = Download {
+const SHOWN: DownloadJob<'static> = DownloadJob {
     file: "-",
-    parts: Parts::Dropped,
+    parts: PartHandling::Dropped,
     moment: false,
     targets: None,
 };
@@ -291,12 +291,12 @@ pub fn get_task_of<'a>(
     place: Location<'_>,
     file: &'a str,
     targets: Option<&'a Targets>,
-) -> Task<'a> {
+) -> PlaceTask<'a> {
     let download = download_of(words, file, targets);
     if is_matched(words, place) {
-        Task::GetMatching(download)
+        PlaceTask::GetMatching(download)
     } else {
-        Task::Get(download)
+        PlaceTask::Get(download)
     }
 }
 
@@ -314,8 +314,8 @@ fn download_of<'a>(
     words: &ArgMatches<'_>,
     file: &'a str,
     targets: Option<&'a Targets>,
-) -> Download<'a> {
-    Download {
+) -> DownloadJob<'a> {
+    DownloadJob {
         file,
         parts: parts_of(words),
         moment: words.get_flag("moment"),
@@ -324,12 +324,12 @@ fn download_of<'a>(
 }
 
 /// What becomes of the octets of a download that is not whole.
-fn parts_of(words: &ArgMatches<'_>) -> Parts {
+fn parts_of(words: &ArgMatches<'_>) -> PartHandling {
     if words.get_flag("continue") {
-        Parts::Continued
+        PartHandling::Continued
     } else if words.get_flag("keep") {
-        Parts::Kept
+        PartHandling::Kept
     } else {
-        Parts::Dropped
+        PartHandling::Dropped
     }
 }

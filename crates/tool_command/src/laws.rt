@@ -2,7 +2,7 @@
 ghost use Rattle.std.specs.Prelude.{◌≡◌, ℕ, List};
 ghost use Rattle.tool_command.specs.Amount.{SaysMost};
 ghost use Rattle.tool_command.specs.Numbers.{SaysPort, SaysPorts, SaysSessions};
-ghost use Rattle.tool_serve.specs.declared.sessions.Sessions.{Sessions};
+ghost use Rattle.tool_serve.specs.declared.sessions.SessionCount.{SessionCount};
 
 /// A word says one limit at most.
 pub fn one_most()
@@ -22,5 +22,5 @@ pub fn one_range()
 
 /// A word says one count at most.
 pub fn one_count()
-    ensures { (word : List ℕ) (sessions other : Sessions) → SaysSessions word sessions → SaysSessions word other → sessions ≡ other }
+    ensures { (word : List ℕ) (sessions other : SessionCount) → SaysSessions word sessions → SaysSessions word other → sessions ≡ other }
 {}

@@ -1,18 +1,18 @@
 // The subcommand `mirror`: its words.
 use crate::place::{host_in, location_in, user_in};
-use crate::refusal::Refusal;
+use crate::refusal::UsageError;
 use crate::words::{
     ACTIVE, EXTENDED, Form, LIMIT, LIMIT_RATE, MAX_TIME, NO_EXTENDED, PARALLEL, PASSWORD_FILE,
-    QUIET, Subcommand, TIMEOUT, USER, Value, Word, at_once_in, chosen, how_of, limit_in, rate_in,
-    text_in, timeout_in, until_in,
+    QUIET, Subcommand, TIMEOUT, USER, ValueForm, Word, at_once_in, chosen, how_of, limit_in,
+    rate_in, text_in, timeout_in, until_in,
 };
 use clap::ArgMatches;
 use tool_codec::representation_of;
 use tool_files::Flush;
-use tool_mirror_copy::{Actions, Doing, Mirror};
-use tool_mirror_plan::{Check, Extra, Rules, Way};
-use tool_session::{Openings, ServerAddress};
 use tool_location::{Location, UrlPlace};
+use tool_mirror_copy::{ActionOutput, Doing, MirrorRequest};
+use tool_mirror_plan::{Check, CopyDirection, Extra, Rules};
+use tool_session::{Openings, ServerAddress};
 
 const HELP: &str = "\
 Copies what is missing in TARGET or differs there, with all directories below SOURCE. One of both is HOST:PORT/PATH or a URL, as with get; the other
@@ -50,12 +50,12 @@ pub const MIRROR: Subcommand<'static> = Subcommand {
     words: &[
         Word {
             name: "source",
-            form: Form::NeededPlace(Value::Name("SOURCE")),
+            form: Form::NeededPlace(ValueForm::Name("SOURCE")),
             help: "what is copied: HOST:PORT/PATH, or a folder",
         },
         Word {
             name: "target",
-            form: Form::NeededPlace(Value::Name("TARGET")),
+            form: Form::NeededPlace(ValueForm::Name("TARGET")),
             help: "where it is copied to: a folder, or HOST:PORT/PATH",
         },
         Word {
@@ -85,7 +85,7 @@ pub const MIRROR: Subcommand<'static> = Subcommand {
         },
         Word {
             name: "exclude",
-            form: Form::Many(Value::Name("GLOB")),
+            form: Form::Many(ValueForm::Name("GLOB")),
             help: "leaves alone what meets it; may be given several times",
         },
     ],
@@ -126,7 +126,7 @@ pub fn mirror_of<'a>(
     from: Option<&'a UrlPlace>,
     to: Option<&'a UrlPlace>,
     openings: &'a Openings,
-) -> Result<Mirror<'a>, Refusal<'a>> {
+) -> Result<MirrorRequest<'a>, UsageError<'a>> {
     let settings = Settings {
         openings,
         timeout: timeout_in(words)?,
@@ -139,11 +139,11 @@ pub fn mirror_of<'a>(
     match (server_of(source, from), server_of(target, to)) {
         (Some(place), None) => {
             let place = host_in("<SOURCE>", source, place)?;
-            mirrored(words, place, from, target, settings, Way::Down)
+            mirrored(words, place, from, target, settings, CopyDirection::Down)
         }
         (None, Some(place)) => {
             let place = host_in("<TARGET>", target, place)?;
-            mirrored(words, place, to, source, settings, Way::Up)
+            mirrored(words, place, to, source, settings, CopyDirection::Up)
         }
         _ => Err(bad_target(target)),
     }
@@ -173,13 +173,13 @@ fn mirrored<'a>(
     url: Option<&'a UrlPlace>,
     folder: &'a str,
     settings: Settings<'a>,
-    way: Way,
-) -> Result<Mirror<'a>, Refusal<'a>> {
+    way: CopyDirection,
+) -> Result<MirrorRequest<'a>, UsageError<'a>> {
     let limit = limit_in(words)?;
     let Some(form) = representation_of("I", "F", "S") else {
-        return Err(Refusal::Number);
+        return Err(UsageError::Number);
     };
-    Ok(Mirror {
+    Ok(MirrorRequest {
         server: ServerAddress {
             host: place.host,
             port: place.port,
@@ -199,12 +199,12 @@ fn mirrored<'a>(
         flush: chosen(words, "no-flush", Flush::Later, Flush::First),
         limit,
         doing: chosen(words, "dry-run", Doing::Nothing, Doing::All),
-        actions: chosen(words, "json", Actions::Json, Actions::Words),
+        actions: chosen(words, "json", ActionOutput::Json, ActionOutput::Words),
         begun: 0,
     })
 }
 
-fn rules_of(words: &ArgMatches<'_>, way: Way) -> Rules {
+fn rules_of(words: &ArgMatches<'_>, way: CopyDirection) -> Rules {
     Rules {
         way,
         check: chosen(words, "checksum", Check::ByOctets, Check::ByFacts),
@@ -218,8 +218,8 @@ fn rules_of(words: &ArgMatches<'_>, way: Way) -> Rules {
 }
 
 /// Why neither place, or each, is a server's.
-fn bad_target(target: &str) -> Refusal<'_> {
-    Refusal::of(
+fn bad_target(target: &str) -> UsageError<'_> {
+    UsageError::of(
         "<TARGET>",
         target,
         "one of SOURCE and TARGET is HOST:PORT/PATH, the other a folder, with / or ./ before it where it has a slash",

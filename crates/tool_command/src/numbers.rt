@@ -1,10 +1,10 @@
 // Ports, and how many sessions, as words of a command line say them.
 ghost use Rattle.std.specs.Prelude.{◌≡◌, ℕ, List, IfSome, IfNone};
 ghost use Rattle.tool_command.specs.Numbers.{SaysPort, SaysPorts, SaysServerPort, SaysSessions};
-ghost use Rattle.tool_serve.specs.declared.sessions.Sessions.{Sessions};
+ghost use Rattle.tool_serve.specs.declared.sessions.SessionCount.{SessionCount};
 
 use tool_codec::number_of;
-use tool_serve::Sessions;
+use tool_serve::SessionCount;
 
 /// A port, or 0 for one that the system chooses.
 pub(crate) fn port_of(word: &str) -> Option<u16>
@@ -41,12 +41,12 @@ pub(crate) fn ports_of(word: &str) -> Option<(u16, u16)>
 }
 
 /// How many control connections a word says.
-pub(crate) fn sessions_of(word: &str) -> Option<Sessions>
+pub(crate) fn sessions_of(word: &str) -> Option<SessionCount>
     ensures some { IfSome result (λ sessions. SaysSessions word.now sessions) }
-    ensures none { IfNone result ((sessions : Sessions) → ¬ SaysSessions word.now sessions) }
+    ensures none { IfNone result ((sessions : SessionCount) → ¬ SaysSessions word.now sessions) }
 {
     if word == "forever" {
-        return Some(Sessions::Forever);
+        return Some(SessionCount::Forever);
     }
-    Some(Sessions::Count(number_of(word)?))
+    Some(SessionCount::Count(number_of(word)?))
 }

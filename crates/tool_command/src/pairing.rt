@@ -1,6 +1,6 @@
 // The subcommand `pair`: its words.
 use crate::help;
-use crate::words::{Form, MOST, Subcommand, Value, Word, number_in};
+use crate::words::{Form, MOST, Subcommand, ValueForm, Word, number_in};
 use clap::ArgMatches;
 use tool_pair::PairSettings;
 
@@ -13,7 +13,7 @@ pub const PAIR: Subcommand<'static> = Subcommand {
     words: &[
         Word {
             name: "piece",
-            form: Form::Else(Value::Number("N", 0, MOST), "0"),
+            form: Form::Else(ValueForm::Number("N", 0, MOST), "0"),
             help: "octets that go each way of each connection in a round, or 0 for all",
         },
         Word {

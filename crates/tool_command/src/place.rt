@@ -1,6 +1,6 @@
 // Which file or directory of which server a word names, and who asks there.
 use crate::host::is_host;
-use crate::refusal::Refusal;
+use crate::refusal::UsageError;
 use clap::ArgMatches;
 use std::alloc::Global;
 use tool_location::{Location, UrlPlace, is_url, place_of, url_place_of};
@@ -11,13 +11,13 @@ pub fn url_in<'a>(
     alloc: Global,
     option: &'a str,
     word: &'a str,
-) -> Result<Option<UrlPlace>, Refusal<'a>> {
+) -> Result<Option<UrlPlace>, UsageError<'a>> {
     if !is_url(word) {
         return Ok(None);
     }
     match url_place_of(alloc, word) {
         Ok(url) => Ok(Some(url)),
-        Err(fault) => Err(Refusal::of_url(option, word, fault)),
+        Err(fault) => Err(UsageError::of_url(option, word, fault)),
     }
 }
 
@@ -26,11 +26,11 @@ pub fn urls_in<'a>(
     alloc: Global,
     option: &'a str,
     words: &[&'a str],
-) -> Result<Vec<Option<UrlPlace>, Global>, Refusal<'a>> {
+) -> Result<Vec<Option<UrlPlace>, Global>, UsageError<'a>> {
     let mut urls = Vec::new(alloc);
     for word in words {
         if urls.push(url_in(alloc, option, *word)?).is_err() {
-            return Err(Refusal::Memory);
+            return Err(UsageError::Memory);
         }
     }
     Ok(urls)
@@ -53,11 +53,11 @@ pub(crate) fn host_in<'a>(
     option: &'a str,
     word: &'a str,
     place: Location<'a>,
-) -> Result<Location<'a>, Refusal<'a>> {
+) -> Result<Location<'a>, UsageError<'a>> {
     if is_host(place.host) {
         Ok(place)
     } else {
-        Err(Refusal::of(
+        Err(UsageError::of(
             option,
             word,
             "a name or an address is wanted as HOST: four numbers from 0 to 255 with points between them, or IPv6 without a dotted tail",

@@ -12,7 +12,7 @@ pub struct BadValue<'a> {
 
 /// Why the words of a command line ask for nothing.
 #[derive(Clone, Copy)]
-pub enum Refusal<'a> {
+pub enum UsageError<'a> {
     /// A value is none of its option.
     Value(BadValue<'a>),
     /// A number has a sign.
@@ -21,10 +21,10 @@ pub enum Refusal<'a> {
     Memory,
 }
 
-impl<'a> Refusal<'a> {
+impl<'a> UsageError<'a> {
     /// A value that is none of its option, and what is wanted there.
-    pub(crate) fn of(option: &'a str, value: &'a str, wanted: &'a str) -> Refusal<'a> {
-        Refusal::Value(BadValue {
+    pub(crate) fn of(option: &'a str, value: &'a str, wanted: &'a str) -> UsageError<'a> {
+        UsageError::Value(BadValue {
             option,
             value,
             wanted,
@@ -32,10 +32,10 @@ impl<'a> Refusal<'a> {
     }
 
     /// A word that is a URL names no place.
-    pub fn of_url(option: &'a str, word: &'a str, fault: UrlFault) -> Refusal<'a> {
+    pub fn of_url(option: &'a str, word: &'a str, fault: UrlFault) -> UsageError<'a> {
         match fault {
-            UrlFault::Memory => Refusal::Memory,
-            fault => Refusal::Value(BadValue {
+            UrlFault::Memory => UsageError::Memory,
+            fault => UsageError::Value(BadValue {
                 option,
                 value: word,
                 wanted: fault.wanted(),

@@ -1,12 +1,14 @@
 // The subcommand `run`: its words.
 use crate::help;
 use crate::host::is_address;
-use crate::refusal::Refusal;
-use crate::words::{Form, PASSWORD_FILE, Subcommand, TIMEOUT, Value, Word, text_in, timeout_in};
-use clap::ArgMatches;
-use tool_session::ServerAddress;
 use crate::numbers::server_port_of;
+use crate::refusal::UsageError;
+use crate::words::{
+    Form, PASSWORD_FILE, Subcommand, TIMEOUT, ValueForm, Word, text_in, timeout_in,
+};
+use clap::ArgMatches;
 use tool_login::User;
+use tool_session::ServerAddress;
 
 /// The words of `run`.
 pub const RUN: Subcommand<'static> = Subcommand {
@@ -17,17 +19,17 @@ pub const RUN: Subcommand<'static> = Subcommand {
     words: &[
         Word {
             name: "host",
-            form: Form::Needed(Value::Name("A")),
+            form: Form::Needed(ValueForm::Name("A")),
             help: "the address of the server: four numbers with points between them, or IPv6",
         },
         Word {
             name: "port",
-            form: Form::Needed(Value::Number("N", 1, 65_535)),
+            form: Form::Needed(ValueForm::Number("N", 1, 65_535)),
             help: "the port that it listens at, 1 to 65535",
         },
         Word {
             name: "user",
-            form: Form::Given(Value::Text("U")),
+            form: Form::Given(ValueForm::Text("U")),
             help: "who logs in; the script then has no line of a login",
         },
         PASSWORD_FILE,
@@ -36,17 +38,19 @@ pub const RUN: Subcommand<'static> = Subcommand {
 };
 
 /// The server that is asked; refused where a value is none of its option.
-pub fn script_server_of<'a>(words: &'a ArgMatches<'_>) -> Result<ServerAddress<'a>, Refusal<'a>> {
+pub fn script_server_of<'a>(
+    words: &'a ArgMatches<'_>,
+) -> Result<ServerAddress<'a>, UsageError<'a>> {
     let host = text_in(words, "host");
     if !is_address(host) {
-        return Err(Refusal::of(
+        return Err(UsageError::of(
             "--host <A>",
             host,
             "an address is wanted: four numbers from 0 to 255 with points between them, or IPv6 without a dotted tail",
         ));
     }
     let Some(port) = server_port_of(text_in(words, "port")) else {
-        return Err(Refusal::Number);
+        return Err(UsageError::Number);
     };
     Ok(ServerAddress {
         host,
@@ -60,11 +64,11 @@ pub fn script_server_of<'a>(words: &'a ArgMatches<'_>) -> Result<ServerAddress<'
 }
 
 /// Who logs in, where the script does not say it; a file of a password wants a user whose it is.
-pub fn script_user_of<'a>(words: &'a ArgMatches<'_>) -> Result<Option<User<'a>>, Refusal<'a>> {
+pub fn script_user_of<'a>(words: &'a ArgMatches<'_>) -> Result<Option<User<'a>>, UsageError<'a>> {
     let password_file = words.get_str("password-file");
     match (words.get_str("user"), password_file) {
         (None, None) => Ok(None),
-        (None, Some(file)) => Err(Refusal::of(
+        (None, Some(file)) => Err(UsageError::of(
             "--password-file <F>",
             file,
             "--user is wanted too, which names whose password it is",

@@ -3,28 +3,28 @@ ghost use Rattle.std.specs.Prelude.{◌≡◌, ℕ, Option, IfOk, IfSome, IfNone
 ghost use Rattle.std.specs.Net.Grammar.{IsIpText};
 ghost use Rattle.std.specs.declared.net.IpAddr.{IpAddr};
 ghost use Rattle.tool_serve.specs.declared.serving.Serving.{Serving};
-ghost use Rattle.tool_polling.specs.declared.timeouts.Limits.{Limits as Waits};
+ghost use Rattle.tool_polling.specs.declared.timeouts.TimeLimits.{TimeLimits as Waits};
 ghost use Rattle.tool_command.specs.Numbers.{SaysPorts, SaysSessions};
-ghost use Rattle.tool_serve.specs.declared.sessions.Sessions.{Sessions};
+ghost use Rattle.tool_serve.specs.declared.sessions.SessionCount.{SessionCount};
 ghost use Rattle.ftp_tree.specs.declared.limits.Limits.{Limits};
 ghost use Rattle.tool_command.specs.Serving.{AreLimits, AreWaits, Asks, SaysAddress, SaysLimit, SaysSeconds, odd_of, unsaid_limits, unsaid_waits};
 
 use crate::amount::most_of;
-use crate::crowd::{Stop, at_once_by, input_by, per_host_by};
+use crate::crowd::{StopCause, at_once_by, input_by, per_host_by};
 use crate::help;
-use crate::refusal::Refusal;
-use crate::words::{Form, MOST, Subcommand, Value, Word, chosen, text_in};
+use crate::numbers::{port_of, ports_of, sessions_of};
+use crate::refusal::UsageError;
+use crate::words::{Form, MOST, Subcommand, ValueForm, Word, chosen, text_in};
 use clap::ArgMatches;
 use std::net::IpAddr;
 use tool_codec::number_of;
-use tool_serve::{Limits, Log, Odd, Others, Serving, Sessions, Waits};
-use crate::numbers::{port_of, ports_of, sessions_of};
+use tool_serve::{Limits, Log, Odd, Others, Serving, SessionCount, Waits};
 
 /// How long something is waited for.
-const SECONDS: Value<'static> = Value::Number("SECONDS", 0, MOST);
+const SECONDS: ValueForm<'static> = ValueForm::Number("SECONDS", 0, MOST);
 
 /// How much of something is served.
-const AMOUNT: Value<'static> = Value::Text("N|any");
+const AMOUNT: ValueForm<'static> = ValueForm::Text("N|any");
 
 /// The words of `serve`.
 pub const SERVE: Subcommand<'static> = Subcommand {
@@ -35,27 +35,27 @@ pub const SERVE: Subcommand<'static> = Subcommand {
     words: &[
         Word {
             name: "port",
-            form: Form::Needed(Value::Number("N", 0, 65_535)),
+            form: Form::Needed(ValueForm::Number("N", 0, 65_535)),
             help: "the port to listen at, or 0 for one that the system chooses",
         },
         Word {
             name: "dir",
-            form: Form::Needed(Value::Text("D")),
+            form: Form::Needed(ValueForm::Text("D")),
             help: "the folder",
         },
         Word {
             name: "sessions",
-            form: Form::Else(Value::Text("K|forever"), "1"),
+            form: Form::Else(ValueForm::Text("K|forever"), "1"),
             help: "how many control connections are served; who is told that all seats are taken is none",
         },
         Word {
             name: "host",
-            form: Form::Else(Value::Text("A"), "127.0.0.1"),
+            form: Form::Else(ValueForm::Text("A"), "127.0.0.1"),
             help: "the address to listen at, one of the loopback where --accounts is not given",
         },
         Word {
             name: "accounts",
-            form: Form::Given(Value::Text("FILE")),
+            form: Form::Given(ValueForm::Text("FILE")),
             help: "who may log in: a file of lines user:password:root or user:password:root:rights, its owner's alone",
         },
     ],
@@ -69,12 +69,12 @@ pub fn serve_options() -> &'static [Word<'static>] {
 const OPTIONS: &[Word<'static>] = &[
     Word {
         name: "at-once",
-        form: Form::Given(Value::Number("N", 1, 64)),
+        form: Form::Given(ValueForm::Number("N", 1, 64)),
         help: "how many of them at once; else 1 where --sessions is a number, 32 where it is forever",
     },
     Word {
         name: "at-once-per-host",
-        form: Form::Given(Value::Number("M", 1, 64)),
+        form: Form::Given(ValueForm::Number("M", 1, 64)),
         help: "how many of these from one address; else one less, but one at least",
     },
     Word {
@@ -124,12 +124,12 @@ const OPTIONS: &[Word<'static>] = &[
     },
     Word {
         name: "passive-ports",
-        form: Form::Else(Value::Text("A-B"), "49152-65535"),
+        form: Form::Else(ValueForm::Text("A-B"), "49152-65535"),
         help: "the ports of passive data connections, each tried in turn",
     },
     Word {
         name: "passive-address",
-        form: Form::Given(Value::Text("A")),
+        form: Form::Given(ValueForm::Text("A")),
         help: "the address that PASV names, of a server that clients reach by another one than its own",
     },
     Word {
@@ -168,7 +168,7 @@ pub(crate) struct ServeWords<'a> {
     sessions: &'a str,
     at_once: Option<&'a str>,
     per_host: Option<&'a str>,
-    stop: Stop,
+    stop: StopCause,
     finish: &'a str,
     accounts: Option<&'a str>,
     log: Log,
@@ -209,7 +209,7 @@ pub(crate) struct LimitWords<'a> {
 }
 
 /// What is to be served; refused where a value is none of its option.
-pub fn serving_of<'a>(words: &'a ArgMatches<'_>) -> Result<Serving<'a>, Refusal<'a>> {
+pub fn serving_of<'a>(words: &'a ArgMatches<'_>) -> Result<Serving<'a>, UsageError<'a>> {
     serving_by(ServeWords {
         host: text_in(words, "host"),
         port: text_in(words, "port"),
@@ -217,7 +217,12 @@ pub fn serving_of<'a>(words: &'a ArgMatches<'_>) -> Result<Serving<'a>, Refusal<
         sessions: text_in(words, "sessions"),
         at_once: words.get_str("at-once"),
         per_host: words.get_str("at-once-per-host"),
-        stop: chosen(words, "until-input-ends", Stop::InputEnd, Stop::Signal),
+        stop: chosen(
+            words,
+            "until-input-ends",
+            StopCause::InputEnd,
+            StopCause::Signal,
+        ),
         finish: text_in(words, "finish"),
         accounts: words.get_str("accounts"),
         log: chosen(words, "log", Log::Told, Log::Silent),
@@ -250,7 +255,7 @@ fn limit_words<'a>(words: &'a ArgMatches<'_>) -> LimitWords<'a> {
 }
 
 /// What these values ask to be served; refused where one is none of its option.
-fn serving_by<'a>(words: ServeWords<'a>) -> Result<Serving<'a>, Refusal<'a>>
+fn serving_by<'a>(words: ServeWords<'a>) -> Result<Serving<'a>, UsageError<'a>>
     ensures asked { IfOk result (λ serving. Asks words.entry serving) }
     ensures refused { OnErr result ((serving : Serving) → ¬ Asks words.entry serving) }
 {
@@ -262,10 +267,10 @@ fn serving_by<'a>(words: ServeWords<'a>) -> Result<Serving<'a>, Refusal<'a>>
     let passive = passive_by(words.passive)?;
     let passive_address = passive_address_by(words.passive_address)?;
     let Some(port) = port_of(words.port) else {
-        return Err(Refusal::Number);
+        return Err(UsageError::Number);
     };
     let Some(waits) = waits_by(words.waits, sessions) else {
-        return Err(Refusal::Number);
+        return Err(UsageError::Number);
     };
     let limits = limits_by(words.scope, words.limits)?;
     Ok(Serving {
@@ -287,23 +292,23 @@ fn serving_by<'a>(words: ServeWords<'a>) -> Result<Serving<'a>, Refusal<'a>>
     })
 }
 
-fn host_by(word: &str) -> Result<IpAddr, Refusal<'_>>
+fn host_by(word: &str) -> Result<IpAddr, UsageError<'_>>
     ensures some { IfOk result (λ host. IsIpText word.now host) }
     ensures none { OnErr result ((host : IpAddr) → ¬ IsIpText word.now host) }
 {
     match word.parse() {
         Ok(address) => Ok(address),
-        Err(_) => Err(Refusal::of("--host <A>", word, "an address in numbers is wanted")),
+        Err(_) => Err(UsageError::of("--host <A>", word, "an address in numbers is wanted")),
     }
 }
 
-fn sessions_by(word: &str) -> Result<Sessions, Refusal<'_>>
+fn sessions_by(word: &str) -> Result<SessionCount, UsageError<'_>>
     ensures some { IfOk result (λ sessions. SaysSessions word.now sessions) }
-    ensures none { OnErr result ((sessions : Sessions) → ¬ SaysSessions word.now sessions) }
+    ensures none { OnErr result ((sessions : SessionCount) → ¬ SaysSessions word.now sessions) }
 {
     match sessions_of(word) {
         Some(sessions) => Ok(sessions),
-        None => Err(Refusal::of(
+        None => Err(UsageError::of(
             "--sessions <K|forever>",
             word,
             "a number or forever is wanted",
@@ -311,13 +316,13 @@ fn sessions_by(word: &str) -> Result<Sessions, Refusal<'_>>
     }
 }
 
-fn passive_by(word: &str) -> Result<(u16, u16), Refusal<'_>>
+fn passive_by(word: &str) -> Result<(u16, u16), UsageError<'_>>
     ensures some { IfOk result (λ ports. SaysPorts word.now ports.0 ports.1) }
     ensures none { OnErr result ((first last : ℕ) → ¬ SaysPorts word.now first last) }
 {
     match ports_of(word) {
         Some(ports) => Ok(ports),
-        None => Err(Refusal::of(
+        None => Err(UsageError::of(
             "--passive-ports <A-B>",
             word,
             "two ports from 1 on are wanted, the first not behind the last",
@@ -325,7 +330,7 @@ fn passive_by(word: &str) -> Result<(u16, u16), Refusal<'_>>
     }
 }
 
-fn passive_address_by(word: Option<&str>) -> Result<Option<IpAddr>, Refusal<'_>>
+fn passive_address_by(word: Option<&str>) -> Result<Option<IpAddr>, UsageError<'_>>
     ensures some { IfOk result (λ address. SaysAddress (option_map (λ word. word.now) word.entry) address) }
     ensures none { OnErr result ((address : Option IpAddr) → ¬ SaysAddress (option_map (λ word. word.now) word.entry) address) }
 {
@@ -334,7 +339,7 @@ fn passive_address_by(word: Option<&str>) -> Result<Option<IpAddr>, Refusal<'_>>
     };
     match word.parse() {
         Ok(address) => Ok(Some(address)),
-        Err(_) => Err(Refusal::of(
+        Err(_) => Err(UsageError::of(
             "--passive-address <A>",
             word,
             "an address in numbers is wanted",
@@ -343,9 +348,9 @@ fn passive_address_by(word: Option<&str>) -> Result<Option<IpAddr>, Refusal<'_>>
 }
 
 /// How long is waited; a limit that no word says is that of how many sessions are served.
-fn waits_by(words: WaitWords<'_>, sessions: Sessions) -> Option<Waits>
+fn waits_by(words: WaitWords<'_>, sessions: SessionCount) -> Option<Waits>
     ensures some { IfSome result (λ waits. AreWaits words.entry sessions waits) }
-    ensures none { IfNone result ((other : Sessions) (waits : Waits) → ¬ AreWaits words.entry other waits) }
+    ensures none { IfNone result ((other : SessionCount) (waits : Waits) → ¬ AreWaits words.entry other waits) }
 {
     let unsaid = unsaid_waits(sessions);
     let login = seconds_by(words.login, unsaid.login)?;
@@ -363,18 +368,18 @@ fn waits_by(words: WaitWords<'_>, sessions: Sessions) -> Option<Waits>
 }
 
 /// How long is waited where no word says it: without a limit where only so many sessions are served.
-fn unsaid_waits(sessions: Sessions) -> Waits
+fn unsaid_waits(sessions: SessionCount) -> Waits
     ensures { result ≡ unsaid_waits sessions }
 {
     match sessions {
-        Sessions::Count(_) => Waits {
+        SessionCount::Count(_) => Waits {
             login: 0,
             idle: 0,
             idle_while_waited: 0,
             session_while_waited: 0,
             login_while_waited: 0,
         },
-        Sessions::Forever => Waits {
+        SessionCount::Forever => Waits {
             login: 30,
             idle: 300,
             idle_while_waited: 15,
@@ -396,7 +401,7 @@ fn seconds_by(word: Option<&str>, unsaid: u32) -> Option<u32>
 }
 
 /// How much is served; a limit that no word says is that of the scope.
-fn limits_by<'a>(scope: Scope, words: LimitWords<'a>) -> Result<Limits, Refusal<'a>>
+fn limits_by<'a>(scope: Scope, words: LimitWords<'a>) -> Result<Limits, UsageError<'a>>
     ensures some { IfOk result (λ limits. AreLimits scope words.entry limits) }
     ensures none { OnErr result ((limits : Limits) → ¬ AreLimits scope words.entry limits) }
 {
@@ -422,7 +427,7 @@ fn unsaid_limits(scope: Scope) -> Limits
 }
 
 /// A limit, which is this one where no word says it.
-fn most_by<'a>(option: &'a str, word: Option<&'a str>, unsaid: u64) -> Result<u64, Refusal<'a>>
+fn most_by<'a>(option: &'a str, word: Option<&'a str>, unsaid: u64) -> Result<u64, UsageError<'a>>
     ensures some { IfOk result (λ most. SaysLimit (option_map (λ word. word.now) word.entry) unsaid most) }
     ensures none { OnErr result ((most : ℕ) → ¬ SaysLimit (option_map (λ word. word.now) word.entry) unsaid most) }
 {
@@ -431,7 +436,7 @@ fn most_by<'a>(option: &'a str, word: Option<&'a str>, unsaid: u64) -> Result<u6
     };
     match most_of(word) {
         Some(most) => Ok(most),
-        None => Err(Refusal::of(
+        None => Err(UsageError::of(
             option,
             word,
             "a number is wanted, with K, M, G or T after it or nothing, or any",

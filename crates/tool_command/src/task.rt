@@ -5,7 +5,7 @@ use tool_codec::{Direction, Representation};
 
 /// What a command line asks for.
 #[derive(Clone, Copy)]
-pub enum Task {
+pub enum CommandTask {
     /// Answers the octets of a control connection, at most `piece` at a time.
     Dialogue {
         piece: u32,
@@ -20,23 +20,23 @@ pub enum Task {
 }
 
 /// The task of words that the program knows; none where a value is none of its option.
-pub fn task_of(matches: &ArgMatches<'_>) -> Option<Task> {
+pub fn task_of(matches: &ArgMatches<'_>) -> Option<CommandTask> {
     let (name, inner) = matches.subcommand()?;
     match name {
         "dialogue" => dialogue_of(inner),
-        "facts" => Some(Task::Facts),
+        "facts" => Some(CommandTask::Facts),
         "frame" => frame_of(inner),
         _ => None,
     }
 }
 
-fn dialogue_of(words: &ArgMatches<'_>) -> Option<Task> {
+fn dialogue_of(words: &ArgMatches<'_>) -> Option<CommandTask> {
     let piece = number_in(words, "piece")?;
-    Some(Task::Dialogue { piece })
+    Some(CommandTask::Dialogue { piece })
 }
 
-fn frame_of(words: &ArgMatches<'_>) -> Option<Task> {
+fn frame_of(words: &ArgMatches<'_>) -> Option<CommandTask> {
     let form = representation_in(words)?;
     let direction = Direction::new(words.get_flag("read"), words.get_flag("marks"));
-    Some(Task::Frame { form, direction })
+    Some(CommandTask::Frame { form, direction })
 }

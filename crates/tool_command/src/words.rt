@@ -1,6 +1,6 @@
 // Words of a command line, as tables, and what `clap` makes of them.
 use crate::amount::{amount_of, octets_of};
-use crate::refusal::Refusal;
+use crate::refusal::UsageError;
 use clap::builder::{ValueParser, ValueRange};
 use clap::{Arg, ArgAction, ArgMatches, Command};
 use ftp_operation::How;
@@ -8,42 +8,42 @@ use std::alloc::{AllocError, Global};
 use tool_codec::{Representation, number_of, representation_of};
 use tool_session::{Opening, Openings};
 use tool_sockets::monotonic_millis;
-use tool_terminal::Told;
+use tool_terminal::Verbosity;
 
 /// The letters of types, structures and modes (RFC 959, section 5.3.2), and the most that a number may be.
-pub const TYPE: Value<'static> = Value::One("A|I", &["A", "I"]);
+pub const TYPE: ValueForm<'static> = ValueForm::One("A|I", &["A", "I"]);
 
-pub const STRU: Value<'static> = Value::One("F|R", &["F", "R"]);
+pub const STRU: ValueForm<'static> = ValueForm::One("F|R", &["F", "R"]);
 
-pub const MODE: Value<'static> = Value::One("S|B", &["S", "B"]);
+pub const MODE: ValueForm<'static> = ValueForm::One("S|B", &["S", "B"]);
 
 pub const MOST: u64 = 4_294_967_295;
 
 /// For how many seconds a server may be silent, for all programs of a client.
 pub const TIMEOUT: Word<'static> = Word {
     name: "timeout",
-    form: Form::Else(Value::Number("SECONDS", 0, MOST), "60"),
+    form: Form::Else(ValueForm::Number("SECONDS", 0, MOST), "60"),
     help: "ends a control connection whose server says, takes and sends nothing for so long; 0: never",
 };
 
 /// For how many seconds all may take, for all programs of a client that ask at a place.
 pub const MAX_TIME: Word<'static> = Word {
     name: "max-time",
-    form: Form::Given(Value::Number("SECONDS", 0, MOST)),
+    form: Form::Given(ValueForm::Number("SECONDS", 0, MOST)),
     help: "ends what is asked after so many seconds in all, over all control connections; 0, and without it: never",
 };
 
 /// Who logs in, for all programs of a client that ask at a place.
 pub const USER: Word<'static> = Word {
     name: "user",
-    form: Form::Given(Value::Text("U")),
+    form: Form::Given(ValueForm::Text("U")),
     help: "who logs in; else whom a URL or .netrc names, and else anonymous",
 };
 
 /// Where its password is, for the same.
 pub const PASSWORD_FILE: Word<'static> = Word {
     name: "password-file",
-    form: Form::Given(Value::Text("F")),
+    form: Form::Given(ValueForm::Text("F")),
     help: "a file of mode 600 with the password",
 };
 
@@ -76,20 +76,20 @@ pub const QUIET: Word<'static> = Word {
 /// The most octets of a file.
 pub const LIMIT: Word<'static> = Word {
     name: "limit",
-    form: Form::Given(Value::Number("OCTETS", 0, MOST_OCTETS)),
+    form: Form::Given(ValueForm::Number("OCTETS", 0, MOST_OCTETS)),
     help: "the most octets of a file; of one that is held in memory 1 GiB where none are said",
 };
 
 /// How fast a transfer may be.
 pub const LIMIT_RATE: Word<'static> = Word {
     name: "limit-rate",
-    form: Form::Given(Value::Name("OCTETS[K|M|G|T]")),
+    form: Form::Given(ValueForm::Name("OCTETS[K|M|G|T]")),
     help: "the most octets a second over a data connection, K, M, G and T are powers of 1,024; 0, and without it: no limit",
 };
 
 pub const PARALLEL: Word<'static> = Word {
     name: "parallel",
-    form: Form::Else(Value::Number("N", 1, 8), "1"),
+    form: Form::Else(ValueForm::Number("N", 1, 8), "1"),
     help: "how many control connections there are at once, 1 to 8",
 };
 
@@ -98,7 +98,7 @@ const MOST_OCTETS: u64 = 999_999_999_999_999_999;
 
 /// The name of a value, and what it has to be.
 #[derive(Clone, Copy)]
-pub enum Value<'a> {
+pub enum ValueForm<'a> {
     /// Any text.
     Text(&'a str),
     /// Any text but the empty one.
@@ -109,21 +109,21 @@ pub enum Value<'a> {
     One(&'a str, &'a [&'a str]),
 }
 
-impl<'a> Value<'a> {
+impl<'a> ValueForm<'a> {
     fn name(self) -> &'a str {
         match self {
-            Value::Text(name) | Value::Name(name) => name,
-            Value::Number(name, _, _) => name,
-            Value::One(name, _) => name,
+            ValueForm::Text(name) | ValueForm::Name(name) => name,
+            ValueForm::Number(name, _, _) => name,
+            ValueForm::One(name, _) => name,
         }
     }
 
     fn parser(self) -> ValueParser<'a> {
         match self {
-            Value::Text(_) => ValueParser::String,
-            Value::Name(_) => ValueParser::NonEmptyString,
-            Value::Number(_, first, last) => ValueParser::Unsigned(first, last),
-            Value::One(_, words) => ValueParser::Names(words),
+            ValueForm::Text(_) => ValueParser::String,
+            ValueForm::Name(_) => ValueParser::NonEmptyString,
+            ValueForm::Number(_, first, last) => ValueParser::Unsigned(first, last),
+            ValueForm::One(_, words) => ValueParser::Names(words),
         }
     }
 }
@@ -136,18 +136,18 @@ pub enum Form<'a> {
     /// The same, which one letter says too.
     Letter(char),
     /// An option with a value.
-    Given(Value<'a>),
+    Given(ValueForm<'a>),
     /// An option with a value, which may be there several times.
-    Many(Value<'a>),
+    Many(ValueForm<'a>),
     /// An option that has to be there, with a value.
-    Needed(Value<'a>),
+    Needed(ValueForm<'a>),
     /// An option with a value, and the value where it is not there.
-    Else(Value<'a>, &'a str),
+    Else(ValueForm<'a>, &'a str),
     /// A word that is no option and has to be there.
-    NeededPlace(Value<'a>),
+    NeededPlace(ValueForm<'a>),
     /// Words that are no options, of which one has to be there; options may stand between them. Nothing comes after them: `clap` would take the last one
     /// before an option for what comes.
-    NeededPlaces(Value<'a>),
+    NeededPlaces(ValueForm<'a>),
 }
 
 impl<'a> Form<'a> {
@@ -237,11 +237,11 @@ fn flag<'a>(alloc: Global, word: Word<'a>) -> Arg<'a> {
         .action(ArgAction::SetTrue)
 }
 
-fn option<'a>(alloc: Global, word: Word<'a>, value: Value<'a>) -> Arg<'a> {
+fn option<'a>(alloc: Global, word: Word<'a>, value: ValueForm<'a>) -> Arg<'a> {
     place(alloc, word, value).long(word.name)
 }
 
-fn place<'a>(alloc: Global, word: Word<'a>, value: Value<'a>) -> Arg<'a> {
+fn place<'a>(alloc: Global, word: Word<'a>, value: ValueForm<'a>) -> Arg<'a> {
     Arg::new(alloc, word.name)
         .help(word.help)
         .value_name(value.name())
@@ -260,10 +260,10 @@ pub fn chosen<T: Copy>(matches: &ArgMatches<'_>, option: &str, given: T, other: 
 }
 
 /// What of standard error is told by the subcommand of a command line: all, where it has no `--quiet`.
-pub fn told_of(matches: &ArgMatches<'_>) -> Told {
+pub fn told_of(matches: &ArgMatches<'_>) -> Verbosity {
     match matches.subcommand() {
-        Some((_, words)) => chosen(words, "quiet", Told::Errors, Told::All),
-        None => Told::All,
+        Some((_, words)) => chosen(words, "quiet", Verbosity::Errors, Verbosity::All),
+        None => Verbosity::All,
     }
 }
 
@@ -281,11 +281,11 @@ pub fn number_in(matches: &ArgMatches<'_>, option: &str) -> Option<u32> {
 }
 
 /// The seconds of `--timeout`; refused where they are no number.
-pub fn timeout_in<'a>(matches: &'a ArgMatches<'_>) -> Result<u32, Refusal<'a>> {
+pub fn timeout_in<'a>(matches: &'a ArgMatches<'_>) -> Result<u32, UsageError<'a>> {
     let timeout = text_in(matches, "timeout");
     match number_of(timeout) {
         Some(seconds) => Ok(seconds),
-        None => Err(Refusal::of(
+        None => Err(UsageError::of(
             "--timeout <SECONDS>",
             timeout,
             "decimal digits alone are wanted",
@@ -294,7 +294,7 @@ pub fn timeout_in<'a>(matches: &'a ArgMatches<'_>) -> Result<u32, Refusal<'a>> {
 }
 
 /// Until when all is to be done, as `--max-time` says from now on, in milliseconds of the monotonic clock; none where it says none.
-pub fn until_in<'a>(matches: &'a ArgMatches<'_>) -> Result<Option<u64>, Refusal<'a>> {
+pub fn until_in<'a>(matches: &'a ArgMatches<'_>) -> Result<Option<u64>, UsageError<'a>> {
     let text = text_in(matches, "max-time");
     if text.is_empty() {
         return Ok(None);
@@ -305,7 +305,7 @@ pub fn until_in<'a>(matches: &'a ArgMatches<'_>) -> Result<Option<u64>, Refusal<
             let millis = u64::from(seconds) * 1_000;
             Ok(Some(monotonic_millis().saturating_add(millis)))
         }
-        None => Err(Refusal::of(
+        None => Err(UsageError::of(
             "--max-time <SECONDS>",
             text,
             "decimal digits alone are wanted",
@@ -314,13 +314,13 @@ pub fn until_in<'a>(matches: &'a ArgMatches<'_>) -> Result<Option<u64>, Refusal<
 }
 
 /// How many control connections there are at once, as `--parallel` says, and one where it is none of the options.
-pub fn at_once_in<'a>(matches: &'a ArgMatches<'_>) -> Result<u32, Refusal<'a>> {
+pub fn at_once_in<'a>(matches: &'a ArgMatches<'_>) -> Result<u32, UsageError<'a>> {
     if text_in(matches, "parallel").is_empty() {
         return Ok(1);
     }
     match number_in(matches, "parallel") {
         Some(count) => Ok(count),
-        None => Err(Refusal::Number),
+        None => Err(UsageError::Number),
     }
 }
 
@@ -346,26 +346,26 @@ pub fn openings_of(matches: &ArgMatches<'_>) -> Openings {
 }
 
 /// The most octets that a file may have, as `--limit` says, and any number where it is not there; refused where they are no number.
-pub fn limit_in<'a>(matches: &'a ArgMatches<'_>) -> Result<u64, Refusal<'a>> {
+pub fn limit_in<'a>(matches: &'a ArgMatches<'_>) -> Result<u64, UsageError<'a>> {
     let limit = text_in(matches, "limit");
     if limit.is_empty() {
         return Ok(u64::MAX);
     }
     match octets_of(limit) {
         Some(octets) => Ok(octets),
-        None => Err(Refusal::of("--limit <OCTETS>", limit, "decimal digits alone are wanted")),
+        None => Err(UsageError::of("--limit <OCTETS>", limit, "decimal digits alone are wanted")),
     }
 }
 
 /// The most octets a second, as `--limit-rate` says, and 0 where it is not there; refused where they are no number.
-pub fn rate_in<'a>(matches: &'a ArgMatches<'_>) -> Result<u64, Refusal<'a>> {
+pub fn rate_in<'a>(matches: &'a ArgMatches<'_>) -> Result<u64, UsageError<'a>> {
     let text = text_in(matches, "limit-rate");
     if text.is_empty() {
         return Ok(0);
     }
     match amount_of(text) {
         Some(rate) => Ok(rate),
-        None => Err(Refusal::of(
+        None => Err(UsageError::of(
             "--limit-rate <OCTETS[K|M|G|T]>",
             text,
             "decimal digits are wanted, and K, M, G or T after them or nothing, less than 2^64 in all",

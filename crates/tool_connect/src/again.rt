@@ -7,9 +7,9 @@ use crate::server::left_until;
 use ftp_operation::Answer;
 use std::alloc::Global;
 use std::io::Eprint;
+use tool_login::User;
 use tool_session::{LastReply, Phase, ServerAddress, SessionFault, SessionTask};
 use tool_sockets::pause;
-use tool_login::User;
 
 /// How long is waited before each further control connection, in seconds.
 const WAITS: [u16; 4] = [1, 2, 4, 8];
@@ -32,18 +32,18 @@ pub fn ask<R, P>(
     rt: &R,
     server: ServerAddress<'_>,
     user: User<'_>,
-    noticed: &mut LastReply,
+    last_reply: &mut LastReply,
     play: &mut P,
 ) -> Result<Answer<Global>, SessionFault>
 where
     R: Converses + Logins + Eprint,
     P: SessionTask<Result<Answer<Global>, SessionFault>>,
 {
-    let answered = converse_as(rt, server, user, noticed, play);
+    let answered = converse_as(rt, server, user, last_reply, play);
     match loss_of(&answered) {
         Some(Loss::Ended) => {
             drop(answered);
-            ask_again(rt, server, user, noticed, play)
+            ask_again(rt, server, user, last_reply, play)
         }
         _ => answered,
     }
@@ -54,7 +54,7 @@ fn ask_again<R, P>(
     rt: &R,
     server: ServerAddress<'_>,
     user: User<'_>,
-    noticed: &mut LastReply,
+    last_reply: &mut LastReply,
     play: &mut P,
 ) -> Result<Answer<Global>, SessionFault>
 where
@@ -63,20 +63,21 @@ where
 {
     let mut loss = Loss::Ended;
     for seconds in WAITS {
-        let Some(timeout) = silence_left(server.timeout, noticed.spent(), noticed.is_heard()) else {
+        let Some(timeout) = silence_left(server.timeout, last_reply.spent(), last_reply.is_heard())
+        else {
             break;
         };
         if !fits(left_until(server.until), seconds) {
             break;
         }
         let server = ServerAddress { timeout, ..server };
-        tell_wait(rt, loss, seconds, noticed);
+        tell_wait(rt, loss, seconds, last_reply);
         pause(seconds.saturating_mul(SECOND_MILLIS));
-        let answered = converse_as(rt, server, user, noticed, play);
+        let answered = converse_as(rt, server, user, last_reply, play);
         match loss_of(&answered) {
             Some(found) => {
                 drop(answered);
-                if gives_up(found, noticed.is_heard()) {
+                if gives_up(found, last_reply.is_heard()) {
                     break;
                 }
                 loss = found;
@@ -139,11 +140,11 @@ fn gives_up(found: Loss, is_heard: bool) -> bool
 }
 
 /// Tells that it is asked anew after so many seconds; where that can't be told, it is asked all the same.
-fn tell_wait<R: Eprint>(rt: &R, loss: Loss, seconds: u16, noticed: &LastReply) {
+fn tell_wait<R: Eprint>(rt: &R, loss: Loss, seconds: u16, last_reply: &LastReply) {
     let _told = match loss {
         Loss::Ended => eprintln!(rt;
             "note: the control connection ended{}; trying again in {seconds} s",
-            noticed.farewell()
+            last_reply.farewell()
         ),
         Loss::Unconnected => eprintln!(rt; "note: no connection; trying again in {seconds} s"),
     };

@@ -10,8 +10,8 @@ use std::io;
 use std::io::Eprint;
 use std::net::{Net, TcpListener, TcpStream};
 use std::time::Clock;
-use tool_session::{LastReply, Phase, ServerAddress, SessionFault, SessionTask, at};
 use tool_login::{User, login_of};
+use tool_session::{LastReply, Phase, ServerAddress, SessionFault, SessionTask, at};
 
 /// Who can open control connections.
 pub trait Converses {
@@ -20,7 +20,7 @@ pub trait Converses {
         &self,
         server: ServerAddress<'_>,
         login: Login<Global>,
-        noticed: &mut LastReply,
+        last_reply: &mut LastReply,
         health: &Health,
         play: &mut P,
     ) -> Result<T, SessionFault>
@@ -33,14 +33,14 @@ pub trait Converses {
         &self,
         server: ServerAddress<'_>,
         login: Login<Global>,
-        noticed: &mut LastReply,
+        last_reply: &mut LastReply,
         play: &mut P,
     ) -> Result<T, SessionFault>
     where
         T: Drop,
         P: SessionTask<Result<T, SessionFault>>,
     {
-        self.converse_noticing(server, login, noticed, &Health::new(), play)
+        self.converse_noticing(server, login, last_reply, &Health::new(), play)
     }
 }
 
@@ -58,7 +58,7 @@ where
         &self,
         server: ServerAddress<'_>,
         login: Login<Global>,
-        noticed: &mut LastReply,
+        last_reply: &mut LastReply,
         health: &Health,
         play: &mut P,
     ) -> Result<T, SessionFault>
@@ -66,7 +66,7 @@ where
         T: Drop,
         P: SessionTask<Result<T, SessionFault>>,
     {
-        talking::converse(self, server, login, (noticed, health), play)
+        talking::converse(self, server, login, (last_reply, health), play)
     }
 }
 
@@ -81,7 +81,7 @@ pub fn converse_as<R, T, P>(
     rt: &R,
     server: ServerAddress<'_>,
     user: User<'_>,
-    noticed: &mut LastReply,
+    last_reply: &mut LastReply,
     play: &mut P,
 ) -> Result<T, SessionFault>
 where
@@ -90,7 +90,7 @@ where
     P: SessionTask<Result<T, SessionFault>>,
 {
     match at(Phase::Login, rt.login(server.host, user)) {
-        Ok(login) => rt.converse(server, login, noticed, play),
+        Ok(login) => rt.converse(server, login, last_reply, play),
         Err(stop) => Err(stop),
     }
 }

@@ -9,20 +9,20 @@ use tool_session::LastReply;
 
 /// A client, and what its server said last.
 #[derive(Drop)]
-pub(crate) struct Hearing<'a, N> {
+pub(crate) struct ListeningClient<'a, N> {
     client: N,
-    noticed: &'a mut LastReply,
+    last_reply: &'a mut LastReply,
 }
 
-impl<'a, N> Hearing<'a, N> {
+impl<'a, N> ListeningClient<'a, N> {
     /// A client at a control connection that begins.
-    pub(crate) fn new(client: N, noticed: &'a mut LastReply) -> Hearing<'a, N> {
-        noticed.begin();
-        Hearing { client, noticed }
+    pub(crate) fn new(client: N, last_reply: &'a mut LastReply) -> ListeningClient<'a, N> {
+        last_reply.begin();
+        ListeningClient { client, last_reply }
     }
 }
 
-impl<'a, N: Near<Global>> Near<Global> for Hearing<'a, N> {
+impl<'a, N: Near<Global>> Near<Global> for ListeningClient<'a, N> {
     ghost client = { λ hearing. N.client hearing.client };
 
     ghost told = { λ hearing. N.told hearing.client };
@@ -41,7 +41,7 @@ impl<'a, N: Near<Global>> Near<Global> for Hearing<'a, N> {
 
     fn hear(&mut self, piece: &[u8]) -> usize {
         let taken = self.client.hear(piece);
-        self.noticed.keep(self.client.last_reply());
+        self.last_reply.keep(self.client.last_reply());
         taken
     }
 

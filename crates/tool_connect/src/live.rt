@@ -18,7 +18,7 @@ use ftp_ports::{Duplex, Ports};
 use std::alloc::Global;
 use std::cell::Cell;
 use std::io::{Read, Write};
-use tool_session::{ClientSession, Course, Ending, Freight, Request, begin};
+use tool_session::{ClientSession, DataEnding, FromStreamBody, Request, RequestState, begin};
 
 /// Data connections that are counted.
 pub(crate) trait Opens: Ports {
@@ -37,7 +37,7 @@ pub(crate) struct LiveSession<'a, 'b, 'c, N, C, W, P, S> {
     pub(crate) ports: &'b mut P,
     /// Room for its data connections.
     pub(crate) data: &'c mut Data<S>,
-    pub(crate) course: &'b Course,
+    pub(crate) course: &'b RequestState,
 }
 
 impl<'a, 'b, 'c, N, C, W, P, S> ClientSession for LiveSession<'a, 'b, 'c, N, C, W, P, S>
@@ -77,7 +77,7 @@ where
         }
     }
 
-    fn answer_carried<T: Freight>(
+    fn answer_carried<T: FromStreamBody>(
         &mut self,
         request: Request,
         home: &Cell<Option<T>>,
@@ -109,7 +109,7 @@ where
         self.ports.opened()
     }
 
-    fn ending(&self) -> Ending {
+    fn ending(&self) -> DataEnding {
         self.course.ending()
     }
 }

@@ -9,8 +9,8 @@ use std::io;
 use std::io::{Eprint, Error, ErrorKind, Read, Write};
 use std::net::{Net, TcpListener, TcpStream};
 use std::time::{Clock, Duration, Instant};
-use tool_session::{Course, ServerAddress, pause_of, piece_of};
-use tool_sockets::{Link, SocketPorts, Timeouts, pause};
+use tool_session::{RequestState, ServerAddress, pause_of, piece_of};
+use tool_sockets::{ClientTimeouts, DataSocket, SocketPorts, pause};
 use tool_terminal::pace_of;
 
 /// How long a transfer goes on before it is told of, and between two tellings.
@@ -18,7 +18,7 @@ const BETWEEN_SECONDS: u64 = 1;
 
 /// When a data connection was opened, and when it was told of last.
 #[derive(Clone, Copy)]
-struct Told {
+struct ProgressTimes {
     begun: Instant,
     last: Option<Instant>,
 }
@@ -28,7 +28,7 @@ struct Told {
 pub(crate) struct MeteredPorts<'a, R: Net<Listener = TcpListener, Stream = TcpStream>> {
     rt: &'a R,
     ports: SocketPorts<'a, R>,
-    course: &'a Course,
+    course: &'a RequestState,
     is_told: bool,
     /// The most octets a second; 0: without a limit.
     rate: u64,
@@ -38,8 +38,8 @@ pub(crate) struct MeteredPorts<'a, R: Net<Listener = TcpListener, Stream = TcpSt
 #[derive(Drop)]
 pub(crate) struct MeteredLink<'a, R> {
     rt: &'a R,
-    link: Link<'a>,
-    course: &'a Course,
+    link: DataSocket<'a>,
+    course: &'a RequestState,
     /// The most octets a second; 0: without a limit.
     rate: u64,
     /// When it was opened, where the system tells the time.
@@ -49,7 +49,7 @@ pub(crate) struct MeteredLink<'a, R> {
     /// How many lines of a listing came.
     lines: u64,
     /// When it was opened, and when it was told of last; none where nothing is to be told.
-    told: Option<Told>,
+    told: Option<ProgressTimes>,
 }
 
 impl<'a, R> MeteredPorts<'a, R>
@@ -60,8 +60,8 @@ where
     pub(crate) fn hearing(
         rt: &'a R,
         control: &'a TcpStream,
-        timeouts: &'a Timeouts,
-        course: &'a Course,
+        timeouts: &'a ClientTimeouts,
+        course: &'a RequestState,
         server: ServerAddress<'_>,
     ) -> io::Result<MeteredPorts<'a, R>> {
         let ports = SocketPorts::new(rt, control, timeouts)?;
@@ -74,10 +74,10 @@ where
         })
     }
 
-    fn metered(&self, link: Link<'a>) -> MeteredLink<'a, R> {
+    fn metered(&self, link: DataSocket<'a>) -> MeteredLink<'a, R> {
         let begun = Instant::now(self.rt).ok();
         let told = match begun {
-            Some(begun) if self.is_told => Some(Told { begun, last: None }),
+            Some(begun) if self.is_told => Some(ProgressTimes { begun, last: None }),
             _ => None,
         };
         MeteredLink {
@@ -162,7 +162,7 @@ impl<'a, R: Clock + Eprint> MeteredLink<'a, R> {
         };
         let since = told.last.unwrap_or(told.begun);
         if now.duration_since(since) >= Duration::from_secs(BETWEEN_SECONDS) {
-            self.told = Some(Told {
+            self.told = Some(ProgressTimes {
                 begun: told.begun,
                 last: Some(now),
             });
@@ -201,9 +201,9 @@ impl<'a, R: Clock + Eprint> MeteredLink<'a, R> {
     }
 
     /// The connection itself, of which nothing is told any more.
-    fn ended(self) -> Link<'a> {
+    fn ended(self) -> DataSocket<'a> {
         if let Some(
-            Told {
+            ProgressTimes {
                 begun,
                 last: Some(_),
             },

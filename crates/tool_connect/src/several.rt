@@ -16,9 +16,13 @@ use std::io;
 use std::io::{Eprint, Error, ErrorKind};
 use std::net::{Net, TcpListener, TcpStream};
 use std::rc::Rc;
-use tool_parallel::{Channel, ChannelPorts, Channels, MOST_CHANNELS, Slot, Stand, TakesTurns};
-use tool_polling::{Limits, Line, LinePorts, LineReader, LineWriter, PassivePorts};
-use tool_session::{Course, LastReply, Phase, ServerAddress, SessionFault, SessionTask, at, say};
+use tool_parallel::{
+    Channel, ChannelPorts, Channels, MOST_CHANNELS, PoolSlot, Reliability, TakesTurns,
+};
+use tool_polling::{ControlLine, LinePorts, LineReader, LineWriter, PassivePorts, TimeLimits};
+use tool_session::{
+    LastReply, Phase, RequestState, ServerAddress, SessionFault, SessionTask, at, say,
+};
 use tool_sockets::{Sockets, host_of};
 
 /// Opens control connections, plays over them by a client at each, says goodbye and closes them. Of those behind the first as many are used as the server
@@ -27,7 +31,7 @@ pub(crate) fn converse_by_several<R, T, P>(
     rt: &R,
     server: ServerAddress<'_>,
     login: &Login<Global>,
-    noticed: &mut LastReply,
+    last_reply: &mut LastReply,
     play: &mut P,
 ) -> Result<T, SessionFault>
 where
@@ -38,7 +42,7 @@ where
     let streams = at(Phase::Connection, streams_of(rt, rt.alloc(), server))?;
     let courses = at(Phase::Talking, courses_of(rt.alloc()))?;
     let passive = PassivePorts::new(rt.alloc(), 0, 0);
-    let house = House {
+    let channel_settings = ChannelSettings {
         rt,
         alloc: rt.alloc(),
         login,
@@ -46,17 +50,17 @@ where
         server,
     };
     play_over::<OperationTransfer<Global>, R, T, P>(
-        &house,
+        &channel_settings,
         streams,
         courses.as_slice(),
-        noticed,
+        last_reply,
         play,
     )
 }
 
 /// What the channels have in common.
 #[derive(Drop)]
-struct House<'a, R> {
+struct ChannelSettings<'a, R> {
     rt: &'a R,
     alloc: Global,
     login: &'a Login<Global>,
@@ -97,20 +101,20 @@ fn channels_of(at_once: u32) -> u32
 }
 
 /// What each channel asks.
-fn courses_of(alloc: Global) -> io::Result<Vec<Course, Global>> {
+fn courses_of(alloc: Global) -> io::Result<Vec<RequestState, Global>> {
     let mut courses = Vec::new(alloc);
     for _ in 0..MOST_CHANNELS {
-        courses.push(Course::around(Cell::new(None)))?;
+        courses.push(RequestState::around(Cell::new(None)))?;
     }
     Ok(courses)
 }
 
 /// Plays over these control connections; what is transferred by is a parameter, since a named one costs the proof more.
 fn play_over<'a, F, R, T, P>(
-    house: &House<'a, R>,
+    channel_settings: &ChannelSettings<'a, R>,
     streams: Vec<TcpStream, Global>,
-    courses: &'a [Course],
-    noticed: &mut LastReply,
+    courses: &'a [RequestState],
+    last_reply: &mut LastReply,
     play: &mut P,
 ) -> Result<T, SessionFault>
 where
@@ -121,37 +125,47 @@ where
 {
     let clients = at(
         Phase::Talking,
-        clients_of::<F, R>(house, streams.as_slice()),
+        clients_of::<F, R>(channel_settings, streams.as_slice()),
     )?;
-    play_between(house, streams, clients, courses, noticed, play)
+    play_between(
+        channel_settings,
+        streams,
+        clients,
+        courses,
+        last_reply,
+        play,
+    )
 }
 
 /// A client for each control connection.
 fn clients_of<F, R>(
-    house: &House<'_, R>,
+    channel_settings: &ChannelSettings<'_, R>,
     streams: &[TcpStream],
 ) -> io::Result<Vec<Client<Global, F>, Global>>
 where
     F: ClientTransfer<Global>,
     R: Sockets,
 {
-    let mut clients = Vec::new(house.alloc);
+    let mut clients = Vec::new(channel_settings.alloc);
     for stream in streams {
-        clients.push(client_of::<F, R>(house, stream)?)?;
+        clients.push(client_of::<F, R>(channel_settings, stream)?)?;
     }
     Ok(clients)
 }
 
 /// A client between the hosts of a control connection.
-fn client_of<F, R>(house: &House<'_, R>, stream: &TcpStream) -> io::Result<Client<Global, F>>
+fn client_of<F, R>(
+    channel_settings: &ChannelSettings<'_, R>,
+    stream: &TcpStream,
+) -> io::Result<Client<Global, F>>
 where
     F: ClientTransfer<Global>,
     R: Sockets,
 {
     let here = host_of(stream.local_addr()?);
     let peer = host_of(stream.peer_addr()?);
-    let login = login_copy(house.alloc, house.login)?;
-    match Client::new(house.alloc, login, here, peer) {
+    let login = login_copy(channel_settings.alloc, channel_settings.login)?;
+    match Client::new(channel_settings.alloc, login, here, peer) {
         Ok(client) => Ok(client),
         Err(_) => Err(Error::from(ErrorKind::OutOfMemory)),
     }
@@ -159,11 +173,11 @@ where
 
 /// Plays by these clients, each at its control connection.
 fn play_between<'a, N, R, T, P>(
-    house: &House<'a, R>,
+    channel_settings: &ChannelSettings<'a, R>,
     streams: Vec<TcpStream, Global>,
     clients: Vec<N, Global>,
-    courses: &'a [Course],
-    noticed: &mut LastReply,
+    courses: &'a [RequestState],
+    last_reply: &mut LastReply,
     play: &mut P,
 ) -> Result<T, SessionFault>
 where
@@ -172,22 +186,25 @@ where
     T: Drop,
     P: SessionTask<Result<T, SessionFault>>,
 {
-    let mut channels = Vec::new(house.alloc);
+    let mut channels = Vec::new(channel_settings.alloc);
     let ends = streams.into_iter().zip(clients.into_iter());
     for ((stream, client), course) in ends.zip(courses.iter()) {
-        let channel = at(Phase::Talking, channel_of(house, stream, client, course))?;
+        let channel = at(
+            Phase::Talking,
+            channel_of(channel_settings, stream, client, course),
+        )?;
         if channels.push(channel).is_err() {
             return Err(SessionFault::of_memory());
         }
     }
-    play_by_channels(house, channels, noticed, play)
+    play_by_channels(channel_settings, channels, last_reply, play)
 }
 
 /// Plays over these channels, says goodbye over each, and closes them.
 fn play_by_channels<L, R, T, P>(
-    house: &House<'_, R>,
+    channel_settings: &ChannelSettings<'_, R>,
     channels: Vec<L, Global>,
-    noticed: &mut LastReply,
+    last_reply: &mut LastReply,
     play: &mut P,
 ) -> Result<T, SessionFault>
 where
@@ -196,16 +213,25 @@ where
     T: Drop,
     P: SessionTask<Result<T, SessionFault>>,
 {
-    let mut slots = Vec::new(house.alloc);
-    let mut stand = Stand::Tried;
+    let mut slots = Vec::new(channel_settings.alloc);
+    let mut stand = Reliability::Tried;
     for channel in channels {
-        if slots.push(Slot::new(channel, stand)).is_err() {
+        if slots.push(PoolSlot::new(channel, stand)).is_err() {
             return Err(SessionFault::of_memory());
         }
-        stand = Stand::Untried;
+        stand = Reliability::Untried;
     }
-    let timeouts = (house.server.timeout, house.server.until);
-    let mut channels = Channels::new(house.rt, house.alloc, slots, noticed, timeouts);
+    let timeouts = (
+        channel_settings.server.timeout,
+        channel_settings.server.until,
+    );
+    let mut channels = Channels::new(
+        channel_settings.rt,
+        channel_settings.alloc,
+        slots,
+        last_reply,
+        timeouts,
+    );
     let done = play.play(&mut channels);
     channels.leave();
     done
@@ -213,29 +239,35 @@ where
 
 /// A client at a control connection.
 fn channel_of<'a, N, R>(
-    house: &House<'a, R>,
+    channel_settings: &ChannelSettings<'a, R>,
     stream: TcpStream,
     client: N,
-    course: &'a Course,
+    course: &'a RequestState,
 ) -> io::Result<Channel<'a, R, N>>
 where
     N: Near<Global>,
     R: Sockets,
 {
-    let line = Rc::new(house.alloc, Line::new(stream, limits_of(house.server))?)?;
-    let ports = LinePorts::new(house.rt, line.clone()?, house.passive)?;
+    let line = Rc::new(
+        channel_settings.alloc,
+        ControlLine::new(stream, limits_of(channel_settings.server))?,
+    )?;
+    let ports = LinePorts::new(channel_settings.rt, line.clone()?, channel_settings.passive)?;
     let control = Control::new(
         LineReader::new(line.clone()?),
         LineWriter::new(line.clone()?),
     );
-    let rate = part_of(house.server.rate, channels_of(house.server.at_once));
+    let rate = part_of(
+        channel_settings.server.rate,
+        channels_of(channel_settings.server.at_once),
+    );
     let ports = ChannelPorts::new(ports, course, rate);
     Ok(Channel::new(client, line, control, ports, course))
 }
 
 /// How long the server is waited for: nobody is told to log in here, so that what is left of the time for all is a limit that nothing puts off.
-fn limits_of(server: ServerAddress<'_>) -> Limits {
-    Limits {
+fn limits_of(server: ServerAddress<'_>) -> TimeLimits {
+    TimeLimits {
         login: seconds_left(0, left_until(server.until)),
         idle: server.timeout,
         idle_while_waited: 0,

@@ -1,6 +1,6 @@
 // A control connection from its beginning to its end, and the one client at it.
 use crate::health::{Health, Noticed};
-use crate::hearing::Hearing;
+use crate::hearing::ListeningClient;
 use crate::live::{LiveSession, Opens};
 use crate::progress::MeteredPorts;
 use crate::server::{connected, leave};
@@ -17,15 +17,15 @@ use std::io;
 use std::io::{Eprint, Read, Write};
 use std::net::{Net, TcpListener, TcpStream};
 use std::time::{Clock, Instant};
-use tool_session::{Course, LastReply, Phase, ServerAddress, SessionFault, SessionTask, at};
-use tool_sockets::{ControlReader, ControlWriter, Timeouts, host_of};
+use tool_session::{LastReply, Phase, RequestState, ServerAddress, SessionFault, SessionTask, at};
+use tool_sockets::{ClientTimeouts, ControlReader, ControlWriter, host_of};
 
 /// Opens a control connection, plays over it by a client, says goodbye and closes it; notices how long that took, and of one alone whether it failed.
 pub(crate) fn converse<R, T, P>(
     rt: &R,
     server: ServerAddress<'_>,
     login: Login<Global>,
-    (noticed, health): (&mut LastReply, &Health),
+    (last_reply, health): (&mut LastReply, &Health),
     play: &mut P,
 ) -> Result<T, SessionFault>
 where
@@ -35,12 +35,12 @@ where
 {
     let begun = Instant::now(rt).ok();
     let done = if server.at_once > 1 {
-        converse_by_several(rt, server, &login, noticed, play)
+        converse_by_several(rt, server, &login, last_reply, play)
     } else {
         let mut login = Some(login);
-        converse_anew(rt, server, &mut login, (noticed, health), play)
+        converse_anew(rt, server, &mut login, (last_reply, health), play)
     };
-    noticed.add_spent(seconds_since(rt, begun));
+    last_reply.add_spent(seconds_since(rt, begun));
     done
 }
 
@@ -59,7 +59,7 @@ fn converse_anew<R, T, P>(
     rt: &R,
     server: ServerAddress<'_>,
     login: &mut Option<Login<Global>>,
-    (noticed, health): (&mut LastReply, &Health),
+    (last_reply, health): (&mut LastReply, &Health),
     play: &mut P,
 ) -> Result<T, SessionFault>
 where
@@ -68,7 +68,7 @@ where
     P: SessionTask<Result<T, SessionFault>>,
 {
     let stream = at(Phase::Connection, connected(rt, server))?;
-    let done = talk(rt, server, login, &stream, (noticed, health), play);
+    let done = talk(rt, server, login, &stream, (last_reply, health), play);
     let _gone = leave(&stream);
     done
 }
@@ -79,7 +79,7 @@ fn talk<R, T, P>(
     server: ServerAddress<'_>,
     login: &mut Option<Login<Global>>,
     stream: &TcpStream,
-    (noticed, health): (&mut LastReply, &Health),
+    (last_reply, health): (&mut LastReply, &Health),
     play: &mut P,
 ) -> Result<T, SessionFault>
 where
@@ -87,8 +87,8 @@ where
     T: Drop,
     P: SessionTask<Result<T, SessionFault>>,
 {
-    let timeouts = Timeouts::new(server.timeout, server.until);
-    let course = Course::new();
+    let timeouts = ClientTimeouts::new(server.timeout, server.until);
+    let course = RequestState::new();
     let ports = MeteredPorts::hearing(rt, stream, &timeouts, &course, server);
     let mut ports = at(Phase::Talking, ports)?;
     let link = ControlLink {
@@ -97,14 +97,14 @@ where
         course: &course,
         health,
     };
-    let done = talk_over(rt.alloc(), link, &mut ports, login, noticed, play);
+    let done = talk_over(rt.alloc(), link, &mut ports, login, last_reply, play);
     if timeouts.is_over() {
         health.fail();
     }
     if timeouts.is_past() {
-        noticed.ran_out();
+        last_reply.ran_out();
     } else if timeouts.is_over() {
-        noticed.fell_silent(server.timeout);
+        last_reply.fell_silent(server.timeout);
     }
     done
 }
@@ -113,8 +113,8 @@ where
 #[derive(Clone, Copy)]
 struct ControlLink<'a> {
     stream: &'a TcpStream,
-    timeouts: &'a Timeouts,
-    course: &'a Course,
+    timeouts: &'a ClientTimeouts,
+    course: &'a RequestState,
     health: &'a Health,
 }
 
@@ -124,7 +124,7 @@ fn talk_over<O, T, P>(
     link: ControlLink<'_>,
     ports: &mut O,
     login: &mut Option<Login<Global>>,
-    noticed: &mut LastReply,
+    last_reply: &mut LastReply,
     play: &mut P,
 ) -> Result<T, SessionFault>
 where
@@ -140,7 +140,7 @@ where
     let done = match login.take() {
         Some(login) => play_by_one::<OperationTransfer<Global>, _, _, _, _, _>(
             (alloc, login, hosts),
-            (&mut control, noticed),
+            (&mut control, last_reply),
             ports,
             link.course,
             play,
@@ -149,7 +149,7 @@ where
     };
     drop(control);
     ports.finish();
-    noticed.add_opened(ports.opened());
+    last_reply.add_opened(ports.opened());
     done
 }
 
@@ -163,9 +163,9 @@ fn hosts_of(stream: &TcpStream) -> io::Result<(Host, Host)> {
 /// Plays by a client between two hosts, which takes the login; what it transfers by is a parameter, since a named one costs the proof more.
 fn play_by_one<F, C, W, O, T, P>(
     (alloc, login, hosts): (Global, Login<Global>, (Host, Host)),
-    (control, noticed): (&mut Control<C, W>, &mut LastReply),
+    (control, last_reply): (&mut Control<C, W>, &mut LastReply),
     ports: &mut O,
-    course: &Course,
+    course: &RequestState,
     play: &mut P,
 ) -> Result<T, SessionFault>
 where
@@ -177,7 +177,7 @@ where
     P: SessionTask<Result<T, SessionFault>>,
 {
     match client_of::<F>(alloc, login, hosts) {
-        Some(client) => play_heard(client, (control, noticed), ports, course, play),
+        Some(client) => play_heard(client, (control, last_reply), ports, course, play),
         None => Err(SessionFault::of_memory()),
     }
 }
@@ -185,9 +185,9 @@ where
 /// Plays by a client whose replies are noticed.
 fn play_heard<N, C, W, O, T, P>(
     client: N,
-    (control, noticed): (&mut Control<C, W>, &mut LastReply),
+    (control, last_reply): (&mut Control<C, W>, &mut LastReply),
     ports: &mut O,
-    course: &Course,
+    course: &RequestState,
     play: &mut P,
 ) -> Result<T, SessionFault>
 where
@@ -198,7 +198,13 @@ where
     T: Drop,
     P: SessionTask<Result<T, SessionFault>>,
 {
-    play_by(Hearing::new(client, noticed), control, ports, course, play)
+    play_by(
+        ListeningClient::new(client, last_reply),
+        control,
+        ports,
+        course,
+        play,
+    )
 }
 
 /// A client between two hosts; none where memory is refused.
@@ -215,7 +221,7 @@ fn play_by<N, C, W, O, T, P>(
     client: N,
     control: &mut Control<C, W>,
     ports: &mut O,
-    course: &Course,
+    course: &RequestState,
     play: &mut P,
 ) -> Result<T, SessionFault>
 where
@@ -237,7 +243,7 @@ fn play_in_slot<N, C, W, O, T, P>(
     client: N,
     control: &mut Control<C, W>,
     (ports, data): (&mut O, &mut Data<O::Stream>),
-    course: &Course,
+    course: &RequestState,
     play: &mut P,
 ) -> Result<T, SessionFault>
 where

@@ -4,4 +4,4 @@
 mod folder;
 mod places;
 
-pub use places::{Finding, OpenBelow, OpenDir, Places, Sightings};
+pub use places::{DirectoryEntry, OpenBelow, OpenDir, Places, Sightings};

@@ -15,13 +15,13 @@ mod place;
 mod writing;
 
 pub use change::Change;
-pub use content::{Content, Reading, read_from, read_most};
-pub use identity::{FileId, Look, is_lone_file, is_own_part, is_same_file};
-pub use kept::{Beside, Kept};
+pub use content::{FileContent, LimitedContent, read_from, read_most};
+pub use identity::{FileId, FileStatus, is_lone_file, is_own_part, is_same_file};
+pub use kept::{KeptPart, PartBeside};
 pub use local_files::LocalFiles;
 pub use note::{GROWING, Note, note_in, note_of};
 pub use open_part::OpenPart;
 pub use open_source::OpenSource;
 pub use part::beside;
-pub use place::{Standing, Way};
+pub use place::{FileKind, WriteMode};
 pub use writing::{Flush, PARTS};

@@ -9,20 +9,20 @@ use std::time::Clock;
 use tool_connect::{Converses, Logins};
 use tool_files::LocalFiles;
 use tool_job::{
-    Fetched, Getting, JobQueue, Often, Parts, Putting, Removed, Sent, Target, Targets, Waiting,
-    done_all,
+    Fetched, Getting, JobQueue, Often, PartHandling, QueuedUpload, Removed, Target, Targets,
+    UploadSettings, WaitingJobs, done_all,
 };
 use tool_session::{LastReply, Phase, SessionFault, at};
 use tool_terminal::Status;
 
 /// A file of a server, and one of this end.
-pub struct Pair {
+pub struct FilePair {
     pub path: String<Global>,
     pub file: String<Global>,
 }
 
 /// By hand: a derived drop is proved again, part by part, wherever one is let go.
-impl Drop for Pair {
+impl Drop for FilePair {
     fn drop(self) {
         let Self { path: _, file: _ } = self;
     }
@@ -33,7 +33,7 @@ impl Drop for Pair {
 pub enum Each<'a> {
     /// It is downloaded; `moment`: its last change is to be at the server's moment of the file; `targets`: where the files of the same command line go.
     Get {
-        parts: Parts,
+        parts: PartHandling,
         moment: bool,
         targets: Option<&'a Targets>,
     },
@@ -49,7 +49,7 @@ pub fn fetch_each<R>(
     rt: &R,
     asked: &Target<'_>,
     each: Each<'_>,
-    pairs: &[Pair],
+    pairs: &[FilePair],
 ) -> io::Result<Status>
 where
     R: Net<Listener = TcpListener, Stream = TcpStream>
@@ -70,12 +70,12 @@ fn fetched_each<R>(
     alloc: Global,
     asked: &Target<'_>,
     each: Each<'_>,
-    pairs: &[Pair],
+    pairs: &[FilePair],
 ) -> io::Result<Status>
 where
     R: Converses + Logins + LocalFiles + Input + Print + Eprint,
 {
-    let mut noticed = LastReply::new();
+    let mut last_reply = LastReply::new();
     let done = match each {
         Each::Get {
             parts,
@@ -91,18 +91,18 @@ where
                 targets,
             },
             pairs,
-            &mut noticed,
+            &mut last_reply,
         ),
         Each::Put => put_each(
             rt,
-            Putting {
+            UploadSettings {
                 alloc,
                 asked: *asked,
             },
             pairs,
-            &mut noticed,
+            &mut last_reply,
         ),
-        Each::Remove => remove_each(rt, alloc, *asked, pairs, &mut noticed),
+        Each::Remove => remove_each(rt, alloc, *asked, pairs, &mut last_reply),
     };
     match done {
         Ok(status) => Ok(status),
@@ -114,7 +114,7 @@ where
 struct Gets<'a, R> {
     rt: &'a R,
     getting: Getting<'a>,
-    pairs: &'a [Pair],
+    pairs: &'a [FilePair],
 }
 
 /// By hand, as above.
@@ -128,7 +128,7 @@ impl<'a, R> Drop for Gets<'a, R> {
     }
 }
 
-impl<'a, R: LocalFiles + Print + Eprint> Waiting<Fetched<'a, R>> for Gets<'a, R> {
+impl<'a, R: LocalFiles + Print + Eprint> WaitingJobs<Fetched<'a, R>> for Gets<'a, R> {
     fn next(&mut self) -> io::Result<Option<Fetched<'a, R>>> {
         let Some((first, rest)) = self.pairs.split_first() else {
             return Ok(None);
@@ -144,8 +144,8 @@ impl<'a, R: LocalFiles + Print + Eprint> Waiting<Fetched<'a, R>> for Gets<'a, R>
 fn get_each<'a, R>(
     rt: &'a R,
     getting: Getting<'a>,
-    pairs: &'a [Pair],
-    noticed: &mut LastReply,
+    pairs: &'a [FilePair],
+    last_reply: &mut LastReply,
 ) -> Result<Status, SessionFault>
 where
     R: Converses + Logins + LocalFiles + Print + Eprint,
@@ -153,14 +153,14 @@ where
     let asked = getting.asked;
     let waiting = Gets { rt, getting, pairs };
     let mut job_queue = JobQueue::new(rt, getting.alloc, waiting, "copied", Often::On);
-    done_all(rt, &asked, &mut job_queue, noticed)
+    done_all(rt, &asked, &mut job_queue, last_reply)
 }
 
 /// Files that are sent.
 struct Puts<'a, R> {
     rt: &'a R,
-    putting: Putting<'a>,
-    pairs: &'a [Pair],
+    putting: UploadSettings<'a>,
+    pairs: &'a [FilePair],
 }
 
 /// By hand, as above.
@@ -174,13 +174,13 @@ impl<'a, R> Drop for Puts<'a, R> {
     }
 }
 
-impl<'a, R: LocalFiles + Input + Eprint> Waiting<Sent<'a, R>> for Puts<'a, R> {
-    fn next(&mut self) -> io::Result<Option<Sent<'a, R>>> {
+impl<'a, R: LocalFiles + Input + Eprint> WaitingJobs<QueuedUpload<'a, R>> for Puts<'a, R> {
+    fn next(&mut self) -> io::Result<Option<QueuedUpload<'a, R>>> {
         let Some((first, rest)) = self.pairs.split_first() else {
             return Ok(None);
         };
         self.pairs = rest;
-        Ok(Some(Sent::new(
+        Ok(Some(QueuedUpload::new(
             self.rt,
             self.putting,
             first.file.as_str(),
@@ -191,17 +191,17 @@ impl<'a, R: LocalFiles + Input + Eprint> Waiting<Sent<'a, R>> for Puts<'a, R> {
 
 fn put_each<'a, R>(
     rt: &'a R,
-    putting: Putting<'a>,
-    pairs: &'a [Pair],
-    noticed: &mut LastReply,
+    putting: UploadSettings<'a>,
+    pairs: &'a [FilePair],
+    last_reply: &mut LastReply,
 ) -> Result<Status, SessionFault>
 where
     R: Converses + Logins + LocalFiles + Input + Eprint,
 {
-    let Putting { alloc, asked } = putting;
+    let UploadSettings { alloc, asked } = putting;
     let waiting = Puts { rt, putting, pairs };
     let mut job_queue = JobQueue::new(rt, alloc, waiting, "copied", Often::On);
-    done_all(rt, &asked, &mut job_queue, noticed)
+    done_all(rt, &asked, &mut job_queue, last_reply)
 }
 
 /// Files that are removed.
@@ -209,7 +209,7 @@ struct Removals<'a, R> {
     rt: &'a R,
     alloc: Global,
     asked: Target<'a>,
-    pairs: &'a [Pair],
+    pairs: &'a [FilePair],
 }
 
 /// By hand, as above.
@@ -224,7 +224,7 @@ impl<'a, R> Drop for Removals<'a, R> {
     }
 }
 
-impl<'a, R: Print + Eprint> Waiting<Removed<'a, R>> for Removals<'a, R> {
+impl<'a, R: Print + Eprint> WaitingJobs<Removed<'a, R>> for Removals<'a, R> {
     fn next(&mut self) -> io::Result<Option<Removed<'a, R>>> {
         let Some((first, rest)) = self.pairs.split_first() else {
             return Ok(None);
@@ -239,8 +239,8 @@ fn remove_each<'a, R>(
     rt: &'a R,
     alloc: Global,
     asked: Target<'a>,
-    pairs: &'a [Pair],
-    noticed: &mut LastReply,
+    pairs: &'a [FilePair],
+    last_reply: &mut LastReply,
 ) -> Result<Status, SessionFault>
 where
     R: Converses + Logins + Print + Eprint,
@@ -252,5 +252,5 @@ where
         pairs,
     };
     let mut job_queue = JobQueue::new(rt, alloc, waiting, "done", Often::Once);
-    done_all(rt, &asked, &mut job_queue, noticed)
+    done_all(rt, &asked, &mut job_queue, last_reply)
 }

@@ -1,5 +1,5 @@
 // What the subcommands that ask at one place do.
-use crate::listing::{Lines, Listing, listing_of};
+use crate::listing::{ListingFormat, ListingLines, listing_of};
 use crate::matching::get_matching;
 use ftp_operation::Answer;
 use ftp_reply::code::{NOT_IMPLEMENTED, UNKNOWN};
@@ -12,22 +12,24 @@ use std::net::{Net, TcpListener, TcpStream};
 use std::time::Clock;
 use tool_connect::{Converses, Logins};
 use tool_files::LocalFiles;
-use tool_job::{Download, Getting, Simple, Target, Wish, ask_for, do_simple, get, make_all, put};
+use tool_job::{
+    DownloadJob, Getting, Simple, Target, Wish, ask_for, do_simple, get, make_all, put,
+};
 use tool_resume::tell;
 use tool_session::{LastReply, Phase, SessionFault, at, say};
 use tool_terminal::Status;
 
 /// What is to be done at a place.
 #[derive(Clone, Copy)]
-pub enum Task<'a> {
+pub enum PlaceTask<'a> {
     /// The file is downloaded.
-    Get(Download<'a>),
+    Get(DownloadJob<'a>),
     /// The files of the directory whose names are of the pattern that the path ends in are downloaded into the folder that is named as the file.
-    GetMatching(Download<'a>),
+    GetMatching(DownloadJob<'a>),
     /// This file of this end is uploaded; `-` is standard input.
     Put(&'a str),
     /// The entries of the directory go to standard output, or its names where the server has no machine listing.
-    List(Lines),
+    List(ListingFormat),
     /// What needs no data connection.
     Simple(Simple<'a>),
     /// The directory is made, and those above it; one that stands is as well.
@@ -36,7 +38,7 @@ pub enum Task<'a> {
 
 /// Does a task, and gives the exit status: 0; 1 where it was refused or broke; 2 for a bad login or path; 3 where a connection or a device failed, or
 /// memory was refused. All but 0 are told on standard error.
-pub fn fetch<R>(rt: &R, asked: &Target<'_>, task: Task<'_>) -> io::Result<Status>
+pub fn fetch<R>(rt: &R, asked: &Target<'_>, task: PlaceTask<'_>) -> io::Result<Status>
 where
     R: Net<Listener = TcpListener, Stream = TcpStream>
         + Files<File = File>
@@ -51,15 +53,15 @@ where
 }
 
 /// The same, of whoever can ask a server and has files.
-fn fetched<R>(rt: &R, alloc: Global, asked: &Target<'_>, task: Task<'_>) -> io::Result<Status>
+fn fetched<R>(rt: &R, alloc: Global, asked: &Target<'_>, task: PlaceTask<'_>) -> io::Result<Status>
 where
     R: Converses + Logins + LocalFiles + Input + Print + Eprint,
 {
-    let mut noticed = LastReply::new();
+    let mut last_reply = LastReply::new();
     let on = &single_channel(asked);
     let done = match task {
-        Task::Get(download) => get(rt, alloc, on, download, &mut noticed),
-        Task::GetMatching(download) => get_matching(
+        PlaceTask::Get(download) => get(rt, alloc, on, download, &mut last_reply),
+        PlaceTask::GetMatching(download) => get_matching(
             rt,
             Getting {
                 alloc,
@@ -69,12 +71,12 @@ where
                 targets: download.targets,
             },
             download.file,
-            &mut noticed,
+            &mut last_reply,
         ),
-        Task::Put(file) => put(rt, alloc, on, file, &mut noticed),
-        Task::List(lines) => list(rt, alloc, on, lines, &mut noticed),
-        Task::Simple(simple) => do_simple(rt, alloc, on, simple, &mut noticed),
-        Task::MakeDirectories => make_all(rt, alloc, on, &mut noticed),
+        PlaceTask::Put(file) => put(rt, alloc, on, file, &mut last_reply),
+        PlaceTask::List(lines) => list(rt, alloc, on, lines, &mut last_reply),
+        PlaceTask::Simple(simple) => do_simple(rt, alloc, on, simple, &mut last_reply),
+        PlaceTask::MakeDirectories => make_all(rt, alloc, on, &mut last_reply),
     };
     match done {
         Ok(status) => Ok(status),
@@ -101,11 +103,11 @@ fn single_channel<'a>(asked: &Target<'a>) -> Target<'a> {
 }
 
 /// The file of this end that a task reads or writes.
-fn file_of(task: Task<'_>) -> &str {
+fn file_of(task: PlaceTask<'_>) -> &str {
     match task {
-        Task::Get(download) | Task::GetMatching(download) => download.file,
-        Task::Put(file) => file,
-        Task::List(_) | Task::Simple(_) | Task::MakeDirectories => "-",
+        PlaceTask::Get(download) | PlaceTask::GetMatching(download) => download.file,
+        PlaceTask::Put(file) => file,
+        PlaceTask::List(_) | PlaceTask::Simple(_) | PlaceTask::MakeDirectories => "-",
     }
 }
 
@@ -114,16 +116,16 @@ fn list<R>(
     rt: &R,
     alloc: Global,
     asked: &Target<'_>,
-    lines: Lines,
-    noticed: &mut LastReply,
+    lines: ListingFormat,
+    last_reply: &mut LastReply,
 ) -> Result<Status, SessionFault>
 where
     R: Converses + Logins + Print + Eprint,
 {
-    let answer = listed(rt, alloc, asked, noticed)?;
+    let answer = listed(rt, alloc, asked, last_reply)?;
     at(
         Phase::Report,
-        show(rt, alloc, asked, lines, &answer, noticed),
+        show(rt, alloc, asked, lines, &answer, last_reply),
     )
 }
 
@@ -132,17 +134,17 @@ fn listed<R>(
     rt: &R,
     alloc: Global,
     asked: &Target<'_>,
-    noticed: &mut LastReply,
+    last_reply: &mut LastReply,
 ) -> Result<Answer<Global>, SessionFault>
 where
     R: Converses + Logins + Eprint,
 {
-    let listed = ask_for(rt, alloc, asked, Wish::Entries, noticed);
+    let listed = ask_for(rt, alloc, asked, Wish::Entries, last_reply);
     if !is_unknown(&listed) {
         return listed;
     }
     drop(listed);
-    ask_for(rt, alloc, asked, Wish::Names, noticed)
+    ask_for(rt, alloc, asked, Wish::Names, last_reply)
 }
 
 /// Whether the server does not know what was asked.
@@ -163,9 +165,9 @@ fn show<R>(
     rt: &R,
     alloc: Global,
     asked: &Target<'_>,
-    lines: Lines,
+    lines: ListingFormat,
     answer: &Answer<Global>,
-    noticed: &LastReply,
+    last_reply: &LastReply,
 ) -> io::Result<Status>
 where
     R: Print + Eprint,
@@ -173,12 +175,12 @@ where
     let path = asked.place.path;
     match listing_of(alloc, path, lines, asked.openings.list_verb(), answer)? {
         Some(listing) => write(rt, listing),
-        None => tell(rt, path, asked.stranger(), answer, noticed),
+        None => tell(rt, path, asked.stranger(), answer, last_reply),
     }
 }
 
 /// Writes a listing to standard output, and tells how much of it is left out.
-fn write<R: Print + Eprint>(rt: &R, listing: Listing) -> io::Result<Status> {
+fn write<R: Print + Eprint>(rt: &R, listing: ListingLines) -> io::Result<Status> {
     io::writer(rt).write_all(listing.lines.as_slice())?;
     if listing.left_out > 0 {
         let _told = say(

@@ -8,7 +8,7 @@ mod listing;
 mod matching;
 mod running;
 
-pub use each::{Each, Pair, fetch_each};
-pub use fetching::{Task, fetch};
-pub use listing::Lines;
+pub use each::{Each, FilePair, fetch_each};
+pub use fetching::{PlaceTask, fetch};
+pub use listing::ListingFormat;
 pub use running::{run, run_as};

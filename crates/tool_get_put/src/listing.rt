@@ -9,7 +9,7 @@ use tool_listing::{
 
 /// What the lines of entries are.
 #[derive(Clone, Copy)]
-pub enum Lines {
+pub enum ListingFormat {
     /// Those of a machine listing.
     Facts,
     /// Kind, size, moment and name, in columns.
@@ -20,7 +20,7 @@ pub enum Lines {
 
 /// The lines of a listing.
 #[derive(Drop)]
-pub(crate) struct Listing {
+pub(crate) struct ListingLines {
     pub(crate) lines: Vec<u8, Global>,
     /// How many of its names are left out.
     pub(crate) left_out: usize,
@@ -32,10 +32,10 @@ pub(crate) struct Listing {
 pub(crate) fn listing_of(
     alloc: Global,
     path: &str,
-    shape: Lines,
+    shape: ListingFormat,
     verb: ListVerb,
     answer: &Answer<Global>,
-) -> Result<Option<Listing>, AllocError> {
+) -> Result<Option<ListingLines>, AllocError> {
     match answer {
         Answer::Octets(text) => Ok(Some(text_listing(alloc, shape, verb, text.as_slice())?)),
         Answer::Entries(entries) => Ok(Some(entries_listing(alloc, shape, entries.as_slice())?)),
@@ -47,10 +47,10 @@ pub(crate) fn listing_of(
 /// The listing of a text: of MLSD its entries, and then the lines that are none; of LIST its lines as they came.
 fn text_listing(
     alloc: Global,
-    shape: Lines,
+    shape: ListingFormat,
     verb: ListVerb,
     text: &[u8],
-) -> Result<Listing, AllocError> {
+) -> Result<ListingLines, AllocError> {
     match verb {
         ListVerb::Mlsd => {
             let read = read_entries(alloc, text)?;
@@ -63,7 +63,7 @@ fn text_listing(
             let came = read_lines(alloc, text)?;
             let mut lines = Vec::new(alloc);
             put_as_came(alloc, shape, came.as_slice(), &mut lines)?;
-            Ok(Listing {
+            Ok(ListingLines {
                 lines,
                 left_out: 0,
                 odd: 0,
@@ -75,28 +75,28 @@ fn text_listing(
 /// Appends lines as they came, as a terminal is to show them.
 fn put_as_came(
     alloc: Global,
-    shape: Lines,
+    shape: ListingFormat,
     came: &[Text<Global>],
     lines: &mut Vec<u8, Global>,
 ) -> Result<(), AllocError> {
     match shape {
-        Lines::Json => put_json_lines(alloc, came, lines),
-        Lines::Facts | Lines::Long => put_lines(came, lines),
+        ListingFormat::Json => put_json_lines(alloc, came, lines),
+        ListingFormat::Facts | ListingFormat::Long => put_lines(came, lines),
     }
 }
 
 fn entries_listing(
     alloc: Global,
-    shape: Lines,
+    shape: ListingFormat,
     entries: &[Entry<Global>],
-) -> Result<Listing, AllocError> {
+) -> Result<ListingLines, AllocError> {
     let mut lines = Vec::new(alloc);
     match shape {
-        Lines::Facts => put_entries(alloc, entries, &mut lines)?,
-        Lines::Long => put_long(entries, &mut lines)?,
-        Lines::Json => put_json_entries(entries, &mut lines)?,
+        ListingFormat::Facts => put_entries(alloc, entries, &mut lines)?,
+        ListingFormat::Long => put_long(entries, &mut lines)?,
+        ListingFormat::Json => put_json_entries(entries, &mut lines)?,
     }
-    Ok(Listing {
+    Ok(ListingLines {
         lines,
         left_out: strange_entries(entries),
         odd: 0,
@@ -106,15 +106,19 @@ fn entries_listing(
 fn names_listing(
     alloc: Global,
     path: &str,
-    shape: Lines,
+    shape: ListingFormat,
     names: &[Text<Global>],
-) -> Result<Listing, AllocError> {
+) -> Result<ListingLines, AllocError> {
     let mut lines = Vec::new(alloc);
     match shape {
-        Lines::Json => put_json_names(path.as_bytes(), names, &mut lines)?,
-        Lines::Facts | Lines::Long => put_names(path.as_bytes(), names, &mut lines)?,
+        ListingFormat::Json => put_json_names(path.as_bytes(), names, &mut lines)?,
+        ListingFormat::Facts | ListingFormat::Long => put_names(
+            path.as_bytes(),
+            names,
+            &mut lines,
+        )?,
     }
-    Ok(Listing {
+    Ok(ListingLines {
         lines,
         left_out: strange_names(path.as_bytes(), names),
         odd: 0,

@@ -10,12 +10,14 @@ use std::vec::IntoIter;
 use std::{io, str};
 use tool_connect::{Converses, Logins, ask};
 use tool_files::LocalFiles;
-use tool_job::{Fetched, Getting, JobQueue, Often, Single, Waiting, Wish, source_of};
-use tool_listing::{Item, chosen_items, chosen_names, items_of_columns, items_of_facts};
-use tool_resume::tell;
-use tool_session::{ClientSession, Ending, LastReply, Phase, SessionFault, SessionTask, at, told};
-use tool_terminal::{Shown, Status};
+use tool_job::{Fetched, Getting, JobQueue, Often, Single, WaitingJobs, Wish, source_of};
+use tool_listing::{ListedItem, chosen_items, chosen_names, items_of_columns, items_of_facts};
 use tool_location::{joined, last_part};
+use tool_resume::tell;
+use tool_session::{
+    ClientSession, DataEnding, LastReply, Phase, SessionFault, SessionTask, at, told,
+};
+use tool_terminal::{Shown, Status};
 
 /// How often it goes on that got further over the control connections before.
 const ROUNDS: u32 = 1_000_000;
@@ -30,15 +32,15 @@ pub(crate) fn get_matching<'a, R>(
     rt: &'a R,
     getting: Getting<'a>,
     folder: &'a str,
-    noticed: &mut LastReply,
+    last_reply: &mut LastReply,
 ) -> Result<Status, SessionFault>
 where
     R: Converses + Logins + LocalFiles + Print + Eprint,
 {
     let mut matching = Matching::new(rt, getting, folder);
-    match walked(&mut matching, noticed) {
+    match walked(&mut matching, last_reply) {
         Ok(answer) => {
-            let finished = matching.finish(&answer, noticed);
+            let finished = matching.finish(&answer, last_reply);
             drop(answer);
             at(Phase::Report, finished)
         }
@@ -63,7 +65,7 @@ fn parted(path: &str) -> (&str, &str)
 /// Goes on as long as each round of control connections gets further.
 fn walked<R>(
     matching: &mut Matching<'_, R>,
-    noticed: &mut LastReply,
+    last_reply: &mut LastReply,
 ) -> Result<Answer<Global>, SessionFault>
 where
     R: Converses + Logins + LocalFiles + Print + Eprint,
@@ -72,7 +74,7 @@ where
         let before = matching.reach();
         let rt = matching.rt;
         let asked = matching.getting.asked;
-        let answered = ask(rt, asked.server(), asked.user, noticed, matching);
+        let answered = ask(rt, asked.server(), asked.user, last_reply, matching);
         let is_lost = matches!(&answered, Ok(Answer::Lost));
         if !is_lost || matching.reach() == before {
             return answered;
@@ -105,7 +107,7 @@ impl<'a, R> Drop for Names<'a, R> {
     }
 }
 
-impl<'a, R: LocalFiles + Print + Eprint> Waiting<Fetched<'a, R>> for Names<'a, R> {
+impl<'a, R: LocalFiles + Print + Eprint> WaitingJobs<Fetched<'a, R>> for Names<'a, R> {
     fn next(&mut self) -> io::Result<Option<Fetched<'a, R>>> {
         match self.names.next() {
             Some(name) => Ok(Some(self.fetched(name.as_slice())?)),
@@ -264,7 +266,7 @@ impl<'a, R: LocalFiles + Print + Eprint> Matching<'a, R> {
     }
 
     /// What the directory has, by a listing of it as text.
-    fn items(&self, text: &[u8]) -> Result<Vec<Item<Global>, Global>, AllocError> {
+    fn items(&self, text: &[u8]) -> Result<Vec<ListedItem<Global>, Global>, AllocError> {
         match self.getting.asked.openings.list_verb() {
             ListVerb::Mlsd => items_of_facts(self.getting.alloc, text),
             ListVerb::List | ListVerb::Nlst => items_of_columns(self.getting.alloc, text),
@@ -279,11 +281,11 @@ impl<'a, R: LocalFiles + Print + Eprint> Matching<'a, R> {
     }
 
     /// Tells why not all was done, and gives the exit status.
-    fn finish(&mut self, answer: &Answer<Global>, noticed: &LastReply) -> io::Result<Status> {
+    fn finish(&mut self, answer: &Answer<Global>, last_reply: &LastReply) -> io::Result<Status> {
         let (taken, worst) = match &mut self.files {
             Some(files) => {
                 if files.is_cut() {
-                    files.give_up(answer, noticed)?;
+                    files.give_up(answer, last_reply)?;
                     files.abandon();
                     return Ok(files.worst());
                 }
@@ -304,7 +306,7 @@ impl<'a, R: LocalFiles + Print + Eprint> Matching<'a, R> {
             ),
             _ => {
                 let stranger = self.getting.asked.stranger();
-                Ok(tell(self.rt, path, stranger, answer, noticed)?.worse(worst))
+                Ok(tell(self.rt, path, stranger, answer, last_reply)?.worse(worst))
             }
         }
     }
@@ -320,7 +322,7 @@ where
                 Some(files) => files.play(slot),
                 None => Ok(Answer::Done),
             },
-            Ok(Some(answer)) if slot.ending() == Ending::PastLimit => {
+            Ok(Some(answer)) if slot.ending() == DataEnding::PastLimit => {
                 drop(answer);
                 at(
                     Phase::Listing,

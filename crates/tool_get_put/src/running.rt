@@ -12,13 +12,13 @@ use std::io::{Eprint, Read};
 use std::net::{Net, TcpListener, TcpStream};
 use std::time::Clock;
 use tool_connect::{Converses, Health, Logins};
+use tool_login::User;
 use tool_script::{NoScript, Order, Script, read_script, write_report};
 use tool_session::{
     ClientSession, LastReply, Phase, Request, ServerAddress, SessionFault, SessionTask, Subject,
     at, told,
 };
 use tool_terminal::Status;
-use tool_login::User;
 
 /// The orders of a script.
 type Orders = Vec<Order<Text<Global>>, Global>;

@@ -7,6 +7,6 @@ mod putting;
 mod removing;
 
 pub use getting::{Fetched, Getting};
-pub use job_queue::{JobQueue, Often, QueuedJob, Waiting, done_all};
-pub use putting::{Putting, Sent};
+pub use job_queue::{JobQueue, Often, QueuedJob, WaitingJobs, done_all};
+pub use putting::{QueuedUpload, UploadSettings};
 pub use removing::Removed;

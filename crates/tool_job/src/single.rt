@@ -11,12 +11,12 @@ mod targets;
 mod upload;
 
 pub use download::{
-    Download, Job, OUTPUT, Parts, discard, get, keep_part, leave, place_text, prepare, stamp_of,
-    tell_unwritten,
+    DownloadJob, Job, OUTPUT, PartHandling, discard, get, keep_part, leave, place_text, prepare,
+    stamp_of, tell_unwritten,
 };
 pub use parents::make_all;
 pub use simple::{Simple, do_simple, report};
 pub use single::{Single, Wish, ask_for};
 pub use target::Target;
 pub use targets::{Targets, source_of};
-pub use upload::{Loaded, TooLarge, load, put};
+pub use upload::{Loaded, UploadTooLarge, load, put};

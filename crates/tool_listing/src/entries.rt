@@ -11,7 +11,7 @@ pub mod rows;
 mod text;
 mod unix_line;
 
-pub use item::{Facts, Item, Kind, Listing};
+pub use item::{DirectoryListing, ItemFacts, ItemKind, ListedItem};
 pub use json::{put_json_action, put_json_entries, put_json_lines, put_json_names};
 pub use lines::{
     is_listed, put_entries, put_lines, put_names, strange_entries, strange_names, without_slash,

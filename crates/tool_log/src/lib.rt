@@ -5,4 +5,4 @@ mod lines;
 mod lost;
 mod room;
 
-pub use lines::Lines;
+pub use lines::LogLines;

@@ -1,6 +1,6 @@
 // The lines of a log.
 use crate::lost::Lost;
-use crate::room::Room;
+use crate::room::LogLineBuffer;
 use ftp_facts::moment_text;
 use ftp_ports::Watch;
 use std::cell::Cell;
@@ -13,14 +13,14 @@ const STANDARD_ERROR: i32 = 2;
 
 /// Lines on standard error.
 #[derive(Drop)]
-pub struct Lines {
+pub struct LogLines {
     lost: Cell<Lost>,
 }
 
-impl Lines {
+impl LogLines {
     /// No line was written.
-    pub fn new() -> Lines {
-        Lines {
+    pub fn new() -> LogLines {
+        LogLines {
             lost: Cell::new(Lost::nothing()),
         }
     }
@@ -31,7 +31,7 @@ impl Lines {
         let now = moment_text(SystemWatch::new(clock).moment());
         let now = str::from_utf8(&now).unwrap_or("-");
         let lost = self.lost.get();
-        let mut room = Room::new();
+        let mut room = LogLineBuffer::new();
         if lost.is_torn {
             room.put(b"\n");
         }

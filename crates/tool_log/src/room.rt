@@ -8,15 +8,15 @@ pub(crate) const LINE_ROOM: usize = 4_096;
 
 /// The front of a text, which takes in at most 4,095 octets: what is more is left out.
 #[derive(Drop)]
-pub(crate) struct Room {
+pub(crate) struct LogLineBuffer {
     octets: [u8; LINE_ROOM],
     count: usize,
     ghost within: { count ≤ 4096 },
 }
 
-impl Room {
-    pub(crate) fn new() -> Room {
-        Room {
+impl LogLineBuffer {
+    pub(crate) fn new() -> LogLineBuffer {
+        LogLineBuffer {
             octets: [0; LINE_ROOM],
             count: 0,
         }
@@ -46,7 +46,7 @@ impl Room {
     }
 }
 
-impl fmt::Write for Room {
+impl fmt::Write for LogLineBuffer {
     fn write_str(&mut self, text: &str) -> fmt::Result {
         self.put(text.as_bytes());
         Ok(())

@@ -4,9 +4,9 @@ use Rattle.std.specs.Prelude.{◌==◌, ◌||◌, ℕ, Bool, true, false, List, 
 use Rattle.std.specs.Char.{to_ascii_lowercase}
 use Rattle.tool_login.specs.declared.entry.Expects.{Expects}
 use Rattle.tool_login.specs.declared.entry.Expects.TheVariants as Next
-use Rattle.tool_login.specs.declared.entry.Stage.{Stage}
-use Rattle.tool_login.specs.declared.entry.Stage.TheVariants as Stages
-use Rattle.tool_login.specs.declared.entry.Search.{Search as Held}
+use Rattle.tool_login.specs.declared.entry.SearchStage.{SearchStage}
+use Rattle.tool_login.specs.declared.entry.SearchStage.TheVariants as Stages
+use Rattle.tool_login.specs.declared.entry.EntrySearch.{EntrySearch as Held}
 use Rattle.tool_login.specs.declared.entry.NetrcEntry.{NetrcEntry}
 
 -- where the search for an entry stands, and the last login and password of the entry that it stands in
@@ -24,11 +24,11 @@ blank = record { expects = Next.Keyword; stage = Stages.Outside; login = None; p
 abbrev pub waiting : Expects → Search → Search
 waiting expects search = record { expects = expects; stage = search.stage; login = search.login; password = search.password }
 
-abbrev pub at_stage : Stage → Search → Search
+abbrev pub at_stage : SearchStage → Search → Search
 at_stage stage search = record { expects = search.expects; stage = stage; login = search.login; password = search.password }
 
 -- the next word may be a keyword that counts
-abbrev pub looked_at : Expects → Stage → Bool
+abbrev pub looked_at : Expects → SearchStage → Bool
 looked_at Next.Keyword Stages.Outside = true
 looked_at Next.Keyword Stages.Inside = true
 looked_at expects stage = false
@@ -42,7 +42,7 @@ suits user None = false
 suits user (Some login) = length user == 0 || bytes_eq login user
 
 -- an entry ends: it is found, where it is of the host and of who is wanted
-abbrev pub ended_at : Stage → List ℕ → Search → Search
+abbrev pub ended_at : SearchStage → List ℕ → Search → Search
 ended_at Stages.Found user search = search
 ended_at Stages.Inside user search = if suits user search.login then at_stage Stages.Found search else blank
 ended_at Stages.Outside user search = blank
@@ -51,7 +51,7 @@ abbrev pub ended : List ℕ → Search → Search
 ended user search = ended_at search.stage user search
 
 -- an entry of the host begins, unless one was found
-abbrev pub began_at : Stage → Search → Search
+abbrev pub began_at : SearchStage → Search → Search
 began_at Stages.Found search = search
 began_at stage search = at_stage Stages.Inside search
 
@@ -83,7 +83,7 @@ abbrev pub with_password : List ℕ → Search → Search
 with_password word search = record { expects = Next.Keyword; stage = Stages.Inside; login = search.login; password = Some word }
 
 -- behind one more word, by where the search stands and what the word is
-abbrev pub took_at : Stage → Expects → (host user : List ℕ) → Search → List ℕ → Search
+abbrev pub took_at : SearchStage → Expects → (host user : List ℕ) → Search → List ℕ → Search
 took_at Stages.Found expects host user search word = search
 took_at stage Next.Keyword host user search word = at_keyword user search word
 took_at stage Next.Machine host user search word = named (is_host host word)
@@ -95,7 +95,7 @@ abbrev pub took : (host user : List ℕ) → Search → List ℕ → Search
 took host user search word = took_at search.stage search.expects host user search word
 
 -- what was found
-abbrev pub entry_at : Stage → Option (List ℕ) → Option (List ℕ) → Option Entry
+abbrev pub entry_at : SearchStage → Option (List ℕ) → Option (List ℕ) → Option Entry
 entry_at Stages.Found (Some login) password = Some (record { login = login; password = password })
 entry_at stage login password = None
 

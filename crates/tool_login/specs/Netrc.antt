@@ -3,32 +3,32 @@ use Rattle.std.specs.Prelude.{◌≡◌, ◌&&◌, ◌++◌, ℕ, Bool, true, fa
 use Rattle.std.specs.List.{fold}
 use Rattle.tool_login.specs.Spot.{line_feed, macro_behind, turn}
 use Rattle.tool_login.specs.Entry.{Entry, Search, blank, entry_in, is_macro, looked, took}
-use Rattle.tool_login.specs.declared.spot.Spot.{Spot}
-use Rattle.tool_login.specs.declared.spot.Spot.TheVariants as Spots
-use Rattle.tool_login.specs.declared.spot.Action.{Action}
-use Rattle.tool_login.specs.declared.spot.Action.TheVariants as Actions
+use Rattle.tool_login.specs.declared.spot.WordPosition.{WordPosition}
+use Rattle.tool_login.specs.declared.spot.WordPosition.TheVariants as Spots
+use Rattle.tool_login.specs.declared.spot.WordAction.{WordAction}
+use Rattle.tool_login.specs.declared.spot.WordAction.TheVariants as Actions
 use Rattle.tool_login.specs.declared.fault.NetrcFault.{NetrcFault}
 use Rattle.tool_login.specs.declared.fault.NetrcFault.TheVariants as Faults
 
 -- where the next octet stands, what stands of a word so far, and the search for an entry
 abbrev pub State : Type 0
-State = Spot × List ℕ × Search
+State = WordPosition × List ℕ × Search
 
 -- before the first octet
 abbrev pub start : State
 start = (Spots.LineStart, [], blank)
 
 -- one more octet is of the word
-abbrev pub kept : Spot → ℕ → State → State
+abbrev pub kept : WordPosition → ℕ → State → State
 kept spot octet state = (spot, state.1 ++ octet ∷ [], state.2)
 
 -- the word ends, and is taken; `macdef` in a keyword's place begins a macro
-abbrev pub word_ended : (host user : List ℕ) → Spot → State → State
+abbrev pub word_ended : (host user : List ℕ) → WordPosition → State → State
 word_ended host user spot state =
     (if looked state.2 && is_macro state.1 then macro_behind spot else spot, [], took host user state.2 state.1)
 
 -- what an octet does
-abbrev pub did : (host user : List ℕ) → Spot → Action → State → State
+abbrev pub did : (host user : List ℕ) → WordPosition → WordAction → State → State
 did host user spot Actions.Nothing state = (spot, state.1, state.2)
 did host user spot (Actions.Keep octet) state = kept spot octet state
 did host user spot Actions.End state = word_ended host user spot state
@@ -42,7 +42,7 @@ abbrev pub read : (host user text : List ℕ) → State
 read host user text = step host user (fold (step host user) start text) line_feed
 
 -- a word in quotes did not end on its line
-abbrev pub is_torn_at : Spot → Bool
+abbrev pub is_torn_at : WordPosition → Bool
 is_torn_at Spots.Torn = true
 is_torn_at spot = false
 

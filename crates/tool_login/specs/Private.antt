@@ -1,7 +1,7 @@
 -- Who may use a file that has a secret (own choice, as other servers and clients do with keys).
 use Rattle.std.specs.Prelude.{ℕ, ◌==◌, ◌&&◌, not, bit_and, if◌then◌else◌}
-use Rattle.tool_login.specs.declared.private.Access.{Access}
-use Rattle.tool_login.specs.declared.private.Access.TheVariants as Who
+use Rattle.tool_login.specs.declared.private.FileAccess.{FileAccess}
+use Rattle.tool_login.specs.declared.private.FileAccess.TheVariants as Who
 
 -- the number of root
 abbrev pub root : ℕ
@@ -13,6 +13,6 @@ abbrev pub barred : ℕ → ℕ
 barred owner = if owner == root then 31 else 63
 
 -- root or who runs owns it, and its mode has no such bit
-abbrev pub access_of : ℕ → ℕ → ℕ → Access
+abbrev pub access_of : ℕ → ℕ → ℕ → FileAccess
 access_of owner me mode =
     if not (owner == root) && not (owner == me) then Who.Foreign else (if bit_and mode (barred owner) == 0 then Who.Private else Who.Shared)

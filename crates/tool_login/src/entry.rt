@@ -18,7 +18,7 @@ pub(crate) enum Expects {
 
 /// Where the search stands.
 #[derive(Clone, Copy)]
-pub(crate) enum Stage {
+pub(crate) enum SearchStage {
     /// In no entry of the host.
     Outside,
     Inside,
@@ -27,9 +27,9 @@ pub(crate) enum Stage {
 
 /// An entry that is looked for; `P` is how a text is held.
 #[derive(Drop)]
-pub(crate) struct Search<P> {
+pub(crate) struct EntrySearch<P> {
     pub(crate) expects: Expects,
-    pub(crate) stage: Stage,
+    pub(crate) stage: SearchStage,
     pub(crate) login: Option<P>,
     pub(crate) password: Option<P>,
 }
@@ -49,14 +49,14 @@ pub(crate) struct Wanted<'a> {
     pub(crate) user: &'a [u8],
 }
 
-impl Search<Text<Global>> {
+impl EntrySearch<Text<Global>> {
     /// Before the first word, and behind an entry that is not looked for.
-    pub(crate) fn blank() -> Search<Text<Global>>
+    pub(crate) fn blank() -> EntrySearch<Text<Global>>
         ensures { result ≡ blank }
     {
-        Search {
+        EntrySearch {
             expects: Expects::Keyword,
-            stage: Stage::Outside,
+            stage: SearchStage::Outside,
             login: None,
             password: None,
         }
@@ -68,27 +68,27 @@ impl Search<Text<Global>> {
     {
         matches!(
             (self.expects, self.stage),
-            (Expects::Keyword, Stage::Outside | Stage::Inside)
+            (Expects::Keyword, SearchStage::Outside | SearchStage::Inside)
         )
     }
 
     /// Behind one more word.
-    pub(crate) fn took(self, wanted: Wanted<'_>, word: Text<Global>) -> Search<Text<Global>>
+    pub(crate) fn took(self, wanted: Wanted<'_>, word: Text<Global>) -> EntrySearch<Text<Global>>
         ensures { result ≡ took wanted.entry.host.now wanted.entry.user.now self word }
     {
         match (self.stage, self.expects) {
-            (Stage::Found, _) => self,
+            (SearchStage::Found, _) => self,
             (_, Expects::Keyword) => self.at_keyword(wanted, word.as_slice()),
-            (_, Expects::Machine) => Search::named(is_host(wanted.host, word.as_slice())),
-            (Stage::Inside, Expects::Login) => Search {
+            (_, Expects::Machine) => EntrySearch::named(is_host(wanted.host, word.as_slice())),
+            (SearchStage::Inside, Expects::Login) => EntrySearch {
                 expects: Expects::Keyword,
-                stage: Stage::Inside,
+                stage: SearchStage::Inside,
                 login: Some(word),
                 password: self.password,
             },
-            (Stage::Inside, Expects::Password) => Search {
+            (SearchStage::Inside, Expects::Password) => EntrySearch {
                 expects: Expects::Keyword,
-                stage: Stage::Inside,
+                stage: SearchStage::Inside,
                 login: self.login,
                 password: Some(word),
             },
@@ -97,7 +97,7 @@ impl Search<Text<Global>> {
     }
 
     /// Behind a keyword, or a word that is none.
-    fn at_keyword(self, wanted: Wanted<'_>, word: &[u8]) -> Search<Text<Global>>
+    fn at_keyword(self, wanted: Wanted<'_>, word: &[u8]) -> EntrySearch<Text<Global>>
         ensures { result ≡ at_keyword wanted.entry.user.now self word.now }
     {
         if word == b"machine".as_slice() {
@@ -116,47 +116,47 @@ impl Search<Text<Global>> {
     }
 
     /// The same, before such a word.
-    fn waiting(self, expects: Expects) -> Search<Text<Global>>
+    fn waiting(self, expects: Expects) -> EntrySearch<Text<Global>>
         ensures { result ≡ waiting expects self }
     {
-        Search { expects, ..self }
+        EntrySearch { expects, ..self }
     }
 
     /// Behind the name of a machine, which is the host or is not.
-    fn named(is_host: bool) -> Search<Text<Global>>
+    fn named(is_host: bool) -> EntrySearch<Text<Global>>
         ensures { result ≡ named is_host }
     {
         if is_host {
-            Search::blank().began()
+            EntrySearch::blank().began()
         } else {
-            Search::blank()
+            EntrySearch::blank()
         }
     }
 
     /// In an entry of the host, unless one was found.
-    fn began(self) -> Search<Text<Global>>
+    fn began(self) -> EntrySearch<Text<Global>>
         ensures { result ≡ began self }
     {
         match self.stage {
-            Stage::Found => self,
-            _ => Search {
-                stage: Stage::Inside,
+            SearchStage::Found => self,
+            _ => EntrySearch {
+                stage: SearchStage::Inside,
                 ..self
             },
         }
     }
 
     /// Behind the last word of an entry.
-    fn ended(self, user: &[u8]) -> Search<Text<Global>>
+    fn ended(self, user: &[u8]) -> EntrySearch<Text<Global>>
         ensures { result ≡ ended user.now self }
     {
         match self.stage {
-            Stage::Found => self,
-            Stage::Inside if suits(user, &self.login) => Search {
-                stage: Stage::Found,
+            SearchStage::Found => self,
+            SearchStage::Inside if suits(user, &self.login) => EntrySearch {
+                stage: SearchStage::Found,
                 ..self
             },
-            _ => Search::blank(),
+            _ => EntrySearch::blank(),
         }
     }
 
@@ -164,14 +164,14 @@ impl Search<Text<Global>> {
     pub(crate) fn entry(self, user: &[u8]) -> Option<NetrcEntry<Text<Global>>>
         ensures { result ≡ entry_in user.now self }
     {
-        let Search {
+        let EntrySearch {
             stage,
             login,
             password,
             ..
         } = self.ended(user);
         match (stage, login) {
-            (Stage::Found, Some(login)) => Some(NetrcEntry { login, password }),
+            (SearchStage::Found, Some(login)) => Some(NetrcEntry { login, password }),
             _ => None,
         }
     }

@@ -17,6 +17,6 @@ pub use entry::NetrcEntry;
 pub use fault::NetrcFault;
 pub use login::{User, login_of};
 pub use netrc::netrc_entry;
-pub use private::{Access, NotPrivate, access_of, read_private};
+pub use private::{FileAccess, NotPrivate, access_of, read_private};
 pub use rows::{entries, netrc_words};
-pub use source::{Known, Source, source_of};
+pub use source::{Known, PasswordSource, source_of};

@@ -3,7 +3,7 @@ use crate::entry::NetrcEntry;
 use crate::netrc_file::{no_password, no_password_of_url, suited};
 use crate::private::NotPrivate;
 use crate::secrets::Secrets;
-use crate::source::{Known, Source, source_of};
+use crate::source::{Known, PasswordSource, source_of};
 use ftp_facts::Text;
 use ftp_operation::Login;
 use std::alloc::Global;
@@ -140,13 +140,13 @@ fn password_from<S: Secrets>(
         is_anonymous: name == ANONYMOUS.as_bytes(),
     };
     match source_of(known) {
-        Source::Url => Ok(Text::copy_of(alloc, user.password.unwrap_or("").as_bytes())?),
-        Source::File => password_in(rt, alloc, user.password_file.unwrap_or("")),
-        Source::Netrc => kept.ok_or(no_password()),
-        Source::Environment => copied(alloc, said.as_ref()),
-        Source::Guest => Ok(Text::copy_of(alloc, GUEST)?),
-        Source::Nowhere if user.is_of_url => Err(no_password_of_url()),
-        Source::Nowhere => Err(no_password()),
+        PasswordSource::Url => Ok(Text::copy_of(alloc, user.password.unwrap_or("").as_bytes())?),
+        PasswordSource::File => password_in(rt, alloc, user.password_file.unwrap_or("")),
+        PasswordSource::Netrc => kept.ok_or(no_password()),
+        PasswordSource::Environment => copied(alloc, said.as_ref()),
+        PasswordSource::Guest => Ok(Text::copy_of(alloc, GUEST)?),
+        PasswordSource::Nowhere if user.is_of_url => Err(no_password_of_url()),
+        PasswordSource::Nowhere => Err(no_password()),
     }
 }
 

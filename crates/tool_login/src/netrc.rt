@@ -3,9 +3,9 @@ ghost use Rattle.std.specs.Prelude.{◌≡◌, ◌++◌, ◌∷◌, [], OnOk, If
 ghost use Rattle.std.specs.List.{fold};
 ghost use Rattle.tool_login.specs.Netrc.{IsNetrcFault, did, entry_said, is_torn, kept, read, start, step, word_ended};
 
-use crate::entry::{NetrcEntry, Search, Wanted, is_macro};
+use crate::entry::{EntrySearch, NetrcEntry, Wanted, is_macro};
 use crate::fault::NetrcFault;
-use crate::spot::{Action, Spot, macro_behind, turn};
+use crate::spot::{WordAction, WordPosition, macro_behind, turn};
 use ftp_facts::Text;
 use std::alloc::{AllocError, Global};
 
@@ -21,33 +21,33 @@ pub fn netrc_entry(
 {
     match read(alloc, text, Wanted { host, user }) {
         Ok(
-            Reader {
-                spot: Spot::Torn,
+            NetrcReader {
+                spot: WordPosition::Torn,
                 ..
             },
         ) => Err(NetrcFault::Quote),
-        Ok(Reader { search, .. }) => Ok(search.entry(user)),
+        Ok(NetrcReader { search, .. }) => Ok(search.entry(user)),
         Err(AllocError) => Err(NetrcFault::Memory),
     }
 }
 
 /// What was read of a text.
 #[derive(Drop)]
-struct Reader {
-    spot: Spot,
+struct NetrcReader {
+    spot: WordPosition,
     /// What stands of a word so far.
     word: Vec<u8, Global>,
-    search: Search<Text<Global>>,
+    search: EntrySearch<Text<Global>>,
 }
 
 /// A reader behind all of a text, whose last line has an end.
-fn read(alloc: Global, text: &[u8], wanted: Wanted<'_>) -> Result<Reader, AllocError>
+fn read(alloc: Global, text: &[u8], wanted: Wanted<'_>) -> Result<NetrcReader, AllocError>
     ensures { IfOk result (λ reader. (reader.spot, reader.word.items, reader.search) ≡ read wanted.entry.host.now wanted.entry.user.now text.now) }
 {
-    let mut reader = Reader {
-        spot: Spot::LineStart,
+    let mut reader = NetrcReader {
+        spot: WordPosition::LineStart,
         word: Vec::new(alloc),
-        search: Search::blank(),
+        search: EntrySearch::blank(),
     };
     for octet in text {
         reader = reader.stepped(alloc, wanted, *octet)?;
@@ -55,39 +55,44 @@ fn read(alloc: Global, text: &[u8], wanted: Wanted<'_>) -> Result<Reader, AllocE
     reader.stepped(alloc, wanted, b'\n')
 }
 
-impl Reader {
+impl NetrcReader {
     /// Behind one more octet.
-    fn stepped(self, alloc: Global, wanted: Wanted<'_>, octet: u8) -> Result<Reader, AllocError>
+    fn stepped(
+        self,
+        alloc: Global,
+        wanted: Wanted<'_>,
+        octet: u8,
+    ) -> Result<NetrcReader, AllocError>
         ensures { IfOk result (λ reader. (reader.spot, reader.word.items, reader.search)
             ≡ step wanted.entry.host.now wanted.entry.user.now (self.spot, self.word.items, self.search) octet) }
     {
         let (spot, action) = turn(self.spot, octet);
         match action {
-            Action::Nothing => Ok(Reader { spot, ..self }),
-            Action::Keep(octet) => self.kept(spot, octet),
-            Action::End => Ok(self.word_ended(alloc, wanted, spot)),
+            WordAction::Nothing => Ok(NetrcReader { spot, ..self }),
+            WordAction::Keep(octet) => self.kept(spot, octet),
+            WordAction::End => Ok(self.word_ended(alloc, wanted, spot)),
         }
     }
 
     /// With one more octet in the word.
-    fn kept(self, spot: Spot, octet: u8) -> Result<Reader, AllocError>
+    fn kept(self, spot: WordPosition, octet: u8) -> Result<NetrcReader, AllocError>
         ensures { IfOk result (λ reader. (reader.spot, reader.word.items, reader.search) ≡ kept spot octet (self.spot, self.word.items, self.search)) }
     {
-        let Reader {
+        let NetrcReader {
             spot: _,
             mut word,
             search,
         } = self;
         word.push(octet)?;
-        Ok(Reader { spot, word, search })
+        Ok(NetrcReader { spot, word, search })
     }
 
     /// Behind the end of the word.
-    fn word_ended(self, alloc: Global, wanted: Wanted<'_>, spot: Spot) -> Reader
+    fn word_ended(self, alloc: Global, wanted: Wanted<'_>, spot: WordPosition) -> NetrcReader
         ensures { (result.spot, result.word.items, result.search)
             ≡ word_ended wanted.entry.host.now wanted.entry.user.now spot (self.spot, self.word.items, self.search) }
     {
-        let Reader {
+        let NetrcReader {
             spot: _,
             word,
             search,
@@ -97,7 +102,7 @@ impl Reader {
         } else {
             spot
         };
-        Reader {
+        NetrcReader {
             spot,
             word: Vec::new(alloc),
             search: search.took(wanted, Text::from_vec(word)),

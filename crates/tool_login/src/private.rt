@@ -30,7 +30,7 @@ pub enum NotPrivate {
 
 /// Who may use a file.
 #[derive(Clone, Copy)]
-pub enum Access {
+pub enum FileAccess {
     /// Root and who runs, and whom root lets read it.
     Private,
     /// Another user owns it, and may write it.
@@ -79,21 +79,21 @@ fn check_private<F: OpenFile>(opened: &F, most: u64) -> Result<(), NotPrivate> {
     }
     let mode = found.permissions().mode() & 0o777;
     match access_of(found.uid(), libc::geteuid(), mode) {
-        Access::Private => Ok(()),
-        Access::Foreign => Err(NotPrivate::System(Error::new(
+        FileAccess::Private => Ok(()),
+        FileAccess::Foreign => Err(NotPrivate::System(Error::new(
             ErrorKind::PermissionDenied,
             "the file belongs to another user: root or who runs has to own it",
         ))),
-        Access::Shared => Err(NotPrivate::Shared(mode)),
+        FileAccess::Shared => Err(NotPrivate::Shared(mode)),
     }
 }
 
 /// Who may use a file of this owner and mode, where `me` runs; users by the system's numbers.
-pub fn access_of(owner: u32, me: u32, mode: u32) -> Access
+pub fn access_of(owner: u32, me: u32, mode: u32) -> FileAccess
     ensures { result ≡ access_of owner me mode }
 {
     if owner != ROOT && owner != me {
-        return Access::Foreign;
+        return FileAccess::Foreign;
     }
     let barred = if owner == ROOT {
         MORE_THAN_READING
@@ -101,8 +101,8 @@ pub fn access_of(owner: u32, me: u32, mode: u32) -> Access
         GROUP_AND_OTHERS
     };
     if mode & barred != 0 {
-        Access::Shared
+        FileAccess::Shared
     } else {
-        Access::Private
+        FileAccess::Private
     }
 }

@@ -21,7 +21,7 @@ pub struct Known {
 
 /// Where a password is taken from.
 #[derive(Clone, Copy)]
-pub enum Source {
+pub enum PasswordSource {
     Url,
     File,
     Netrc,
@@ -33,21 +33,21 @@ pub enum Source {
 }
 
 /// Where the password of a user is taken from. That of the environment is sent for no user whom a URL names: whoever made the URL chose the host.
-pub fn source_of(known: Known) -> Source
+pub fn source_of(known: Known) -> PasswordSource
     ensures { result ≡ source_of known }
 {
     if known.in_url {
-        Source::Url
+        PasswordSource::Url
     } else if known.in_file {
-        Source::File
+        PasswordSource::File
     } else if known.in_netrc {
-        Source::Netrc
+        PasswordSource::Netrc
     } else if may_be_environment(known) {
-        Source::Environment
+        PasswordSource::Environment
     } else if known.is_anonymous {
-        Source::Guest
+        PasswordSource::Guest
     } else {
-        Source::Nowhere
+        PasswordSource::Nowhere
     }
 }
 

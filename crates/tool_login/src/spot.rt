@@ -4,7 +4,7 @@ ghost use Rattle.tool_login.specs.Spot.{between, escaped, in_quotes, in_word, is
 
 /// Where the next octet stands.
 #[derive(Clone, Copy)]
-pub(crate) enum Spot {
+pub(crate) enum WordPosition {
     /// Before the first word of a line.
     LineStart,
     /// Before another word.
@@ -25,7 +25,7 @@ pub(crate) enum Spot {
 
 /// What an octet does.
 #[derive(Clone, Copy)]
-pub(crate) enum Action {
+pub(crate) enum WordAction {
     Nothing,
     /// This octet is of the word.
     Keep(u8),
@@ -34,74 +34,80 @@ pub(crate) enum Action {
 }
 
 /// Where an octet leads to, and what it does.
-pub(crate) fn turn(spot: Spot, octet: u8) -> (Spot, Action)
+pub(crate) fn turn(spot: WordPosition, octet: u8) -> (WordPosition, WordAction)
     ensures { result ≡ turn spot octet }
 {
     match spot {
-        Spot::LineStart if octet == b'#' => (Spot::Comment, Action::Nothing),
-        Spot::LineStart => between(Spot::LineStart, octet),
-        Spot::Between => between(Spot::Between, octet),
-        Spot::Word => in_word(octet),
-        Spot::Quoted => in_quotes(octet),
-        Spot::Escaped => escaped(octet),
-        Spot::Comment if octet == b'\n' => (Spot::LineStart, Action::Nothing),
-        Spot::Comment => (Spot::Comment, Action::Nothing),
-        Spot::Macro if octet == b'\n' => (Spot::MacroStart, Action::Nothing),
-        Spot::Macro => (Spot::Macro, Action::Nothing),
-        Spot::MacroStart if octet == b'\n' => (Spot::LineStart, Action::Nothing),
-        Spot::MacroStart if octet == b'\r' => (Spot::MacroStart, Action::Nothing),
-        Spot::MacroStart => (Spot::Macro, Action::Nothing),
-        Spot::Torn => (Spot::Torn, Action::Nothing),
+        WordPosition::LineStart if octet == b'#' => (WordPosition::Comment, WordAction::Nothing),
+        WordPosition::LineStart => between(WordPosition::LineStart, octet),
+        WordPosition::Between => between(WordPosition::Between, octet),
+        WordPosition::Word => in_word(octet),
+        WordPosition::Quoted => in_quotes(octet),
+        WordPosition::Escaped => escaped(octet),
+        WordPosition::Comment if octet == b'\n' => (WordPosition::LineStart, WordAction::Nothing),
+        WordPosition::Comment => (WordPosition::Comment, WordAction::Nothing),
+        WordPosition::Macro if octet == b'\n' => (WordPosition::MacroStart, WordAction::Nothing),
+        WordPosition::Macro => (WordPosition::Macro, WordAction::Nothing),
+        WordPosition::MacroStart if octet == b'\n' => (
+            WordPosition::LineStart,
+            WordAction::Nothing,
+        ),
+        WordPosition::MacroStart if octet == b'\r' => (
+            WordPosition::MacroStart,
+            WordAction::Nothing,
+        ),
+        WordPosition::MacroStart => (WordPosition::Macro, WordAction::Nothing),
+        WordPosition::Torn => (WordPosition::Torn, WordAction::Nothing),
     }
 }
 
-fn between(spot: Spot, octet: u8) -> (Spot, Action)
+fn between(spot: WordPosition, octet: u8) -> (WordPosition, WordAction)
     ensures { result ≡ between spot octet }
 {
     if octet == b'\n' {
-        (Spot::LineStart, Action::Nothing)
+        (WordPosition::LineStart, WordAction::Nothing)
     } else if is_blank(octet) {
-        (spot, Action::Nothing)
+        (spot, WordAction::Nothing)
     } else if octet == b'"' {
-        (Spot::Quoted, Action::Nothing)
+        (WordPosition::Quoted, WordAction::Nothing)
     } else {
-        (Spot::Word, Action::Keep(octet))
+        (WordPosition::Word, WordAction::Keep(octet))
     }
 }
 
-fn in_word(octet: u8) -> (Spot, Action)
+fn in_word(octet: u8) -> (WordPosition, WordAction)
     ensures { result ≡ in_word octet }
 {
     if octet == b'\n' {
-        (Spot::LineStart, Action::End)
+        (WordPosition::LineStart, WordAction::End)
     } else if is_blank(octet) {
-        (Spot::Between, Action::End)
+        (WordPosition::Between, WordAction::End)
     } else {
-        (Spot::Word, Action::Keep(octet))
+        (WordPosition::Word, WordAction::Keep(octet))
     }
 }
 
-fn in_quotes(octet: u8) -> (Spot, Action)
+fn in_quotes(octet: u8) -> (WordPosition, WordAction)
     ensures { result ≡ in_quotes octet }
 {
     if octet == b'"' {
-        (Spot::Between, Action::End)
+        (WordPosition::Between, WordAction::End)
     } else if octet == b'\\' {
-        (Spot::Escaped, Action::Nothing)
+        (WordPosition::Escaped, WordAction::Nothing)
     } else if octet == b'\n' {
-        (Spot::Torn, Action::Nothing)
+        (WordPosition::Torn, WordAction::Nothing)
     } else {
-        (Spot::Quoted, Action::Keep(octet))
+        (WordPosition::Quoted, WordAction::Keep(octet))
     }
 }
 
-fn escaped(octet: u8) -> (Spot, Action)
+fn escaped(octet: u8) -> (WordPosition, WordAction)
     ensures { result ≡ escaped octet }
 {
     if octet == b'\n' {
-        (Spot::Torn, Action::Nothing)
+        (WordPosition::Torn, WordAction::Nothing)
     } else {
-        (Spot::Quoted, Action::Keep(unescaped(octet)))
+        (WordPosition::Quoted, WordAction::Keep(unescaped(octet)))
     }
 }
 
@@ -127,11 +133,11 @@ fn is_blank(octet: u8) -> bool
 }
 
 /// Where the word leads to that begins a macro.
-pub(crate) fn macro_behind(spot: Spot) -> Spot
+pub(crate) fn macro_behind(spot: WordPosition) -> WordPosition
     ensures { result ≡ macro_behind spot }
 {
     match spot {
-        Spot::LineStart => Spot::MacroStart,
-        _ => Spot::Macro,
+        WordPosition::LineStart => WordPosition::MacroStart,
+        _ => WordPosition::Macro,
     }
 }

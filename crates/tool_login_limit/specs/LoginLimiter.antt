@@ -3,7 +3,7 @@ use Rattle.std.specs.Prelude.{ℕ, ◌+◌, ◌-◌, ◌==◌, ◌++◌, Bool, n
 use Rattle.std.specs.List.{find, position}
 use Rattle.std.specs.Option.{option_map, unwrap_or}
 use Rattle.tool_login_limit.specs.declared.login_limiter.RefusedLogin.{RefusedLogin}
-use Rattle.tool_login_limit.specs.declared.login_limiter.Held.{Held}
+use Rattle.tool_login_limit.specs.declared.login_limiter.DelayedAnswer.{DelayedAnswer}
 
 -- the most addresses of which logins are counted, and how many seconds the last of them counts
 abbrev pub most_addresses : ℕ
@@ -49,13 +49,13 @@ abbrev pub make_room : List RefusedLogin → List RefusedLogin
 make_room login_limiter = if nat_lt (length login_limiter) most_addresses then login_limiter else remove login_limiter 0
 
 -- the last slow answer to an address
-abbrev pub none_held : Held
+abbrev pub none_held : DelayedAnswer
 none_held = record { ready = 0; wait = 0 }
 
-abbrev pub answer_of : RefusedLogin → Held
+abbrev pub answer_of : RefusedLogin → DelayedAnswer
 answer_of guess = guess.held
 
-unfoldable pub held_of : List RefusedLogin → ℕ → Held
+unfoldable pub held_of : List RefusedLogin → ℕ → DelayedAnswer
 held_of login_limiter address = unwrap_or (option_map answer_of (find (is_of address) login_limiter)) none_held
 
 -- a login of an address was refused now

@@ -21,7 +21,7 @@ const MOST_LEFT_MILLIS: u64 = 29_000;
 
 /// A slow answer.
 #[derive(Clone, Copy)]
-pub(crate) struct Held {
+pub(crate) struct DelayedAnswer {
     /// When it was ready, and how long it waits from then on, in milliseconds.
     ready: u64,
     wait: u64,
@@ -36,7 +36,7 @@ pub(crate) struct RefusedLogin {
     /// The second of the last one.
     last: u64,
     /// The last slow answer to it.
-    held: Held,
+    held: DelayedAnswer,
 }
 
 impl RefusedLogin {
@@ -71,7 +71,7 @@ impl RefusedLogin {
         ensures { result ≡ waiting now wait self }
     {
         RefusedLogin {
-            held: Held { ready: now, wait },
+            held: DelayedAnswer { ready: now, wait },
             ..self
         }
     }
@@ -136,14 +136,14 @@ impl<A: Allocator + Copy> LoginLimiter<A> {
 
     /// The last slow answer to an address.
     #[tactic(auto, unfolding(crate::specs::LoginLimiter::held_of))]
-    fn held(&self, address: u128) -> Held
+    fn held(&self, address: u128) -> DelayedAnswer
         ensures { result ≡ held_of self.now address }
     {
         self.list
             .iter()
             .find(|guess| guess.is_of(address))
             .map(|guess| guess.held)
-            .unwrap_or(Held { ready: 0, wait: 0 })
+            .unwrap_or(DelayedAnswer { ready: 0, wait: 0 })
     }
 
     /// How long the last slow answer to an address still waits.

@@ -1,6 +1,6 @@
 // What stands between both ends: their control connection, and where each awaits data connections.
-use crate::door::Door;
 use crate::joining::Joins;
+use crate::passive_listener::PassiveListener;
 use crate::ports::LoopPorts;
 use crate::socket::Socket;
 use std::io;
@@ -9,8 +9,8 @@ use std::io;
 pub(crate) struct Between {
     pub(crate) asks: Socket,
     pub(crate) serves: Socket,
-    near: Door,
-    far: Door,
+    near: PassiveListener,
+    far: PassiveListener,
 }
 
 /// By hand, as that of a door.
@@ -33,8 +33,8 @@ impl Between {
         Ok(Between {
             asks,
             serves,
-            near: Door::new(),
-            far: Door::new(),
+            near: PassiveListener::new(),
+            far: PassiveListener::new(),
         })
     }
 

@@ -1,7 +1,7 @@
 // The slot of a client: its connections, and the report of its operation.
 use crate::joining::Joins;
 use crate::ports::LoopPorts;
-use crate::socket::{Line, Socket};
+use crate::socket::{ControlSocket, Socket};
 use ftp_client_driver::{Control, Data, Driven, Turned, drive_some};
 use ftp_client_model::{Busy, Near};
 use ftp_facts::Text;
@@ -10,7 +10,7 @@ use std::alloc::Global;
 
 /// Where an operation stands.
 #[derive(Drop)]
-enum Asked {
+enum OperationState {
     /// None was begun, or its report was given.
     Nothing,
     UnderWay,
@@ -21,10 +21,10 @@ enum Asked {
 pub(crate) struct ClientSlot<'h, J: Joins, N: Near<Global>> {
     client: N,
     line: &'h Socket,
-    control: Control<Line<'h>, Line<'h>>,
+    control: Control<ControlSocket<'h>, ControlSocket<'h>>,
     ports: LoopPorts<'h, J>,
     data: Data<Socket>,
-    asked: Asked,
+    asked: OperationState,
 }
 
 /// Its data connection is closed, if one stands.
@@ -53,17 +53,17 @@ impl<'h, J: Joins, N: Near<Global>> ClientSlot<'h, J, N> {
         ClientSlot {
             client,
             line,
-            control: Control::new(Line::new(line), Line::new(line)),
+            control: Control::new(ControlSocket::new(line), ControlSocket::new(line)),
             ports,
             data: Data::new(),
-            asked: Asked::Nothing,
+            asked: OperationState::Nothing,
         }
     }
 
     /// Begins an operation, if no other is under way.
     pub(crate) fn start(&mut self, op: Op<Text<Global>>) -> Result<(), Busy<Op<Text<Global>>>> {
         self.client.start(op)?;
-        self.asked = Asked::UnderWay;
+        self.asked = OperationState::UnderWay;
         Ok(())
     }
 
@@ -75,21 +75,21 @@ impl<'h, J: Joins, N: Near<Global>> ClientSlot<'h, J, N> {
         how: How,
     ) -> Result<(), Busy<(Text<Global>, Text<Global>)>> {
         self.client.upload(path, octets, how)?;
-        self.asked = Asked::UnderWay;
+        self.asked = OperationState::UnderWay;
         Ok(())
     }
 
     /// The report, if it is there; it is given once.
     pub(crate) fn report(&mut self) -> Option<Answer<Global>> {
-        match std::mem::replace(&mut self.asked, Asked::Nothing) {
-            Asked::Reported(answer) => Some(answer),
-            Asked::Nothing | Asked::UnderWay => None,
+        match std::mem::replace(&mut self.asked, OperationState::Nothing) {
+            OperationState::Reported(answer) => Some(answer),
+            OperationState::Nothing | OperationState::UnderWay => None,
         }
     }
 
     /// A turn of the drive of its operation, where that would not wait; says whether one was made. One that breaks off says nothing more.
     pub(crate) fn turn(&mut self) -> bool {
-        let Asked::UnderWay = &self.asked else {
+        let OperationState::UnderWay = &self.asked else {
             return false;
         };
         match self.drive() {
@@ -106,8 +106,8 @@ impl<'h, J: Joins, N: Near<Global>> ClientSlot<'h, J, N> {
     fn answered(&mut self, driven: Driven<Global>) {
         let Driven { report, off } = driven;
         self.asked = match report {
-            Some(answer) => Asked::Reported(answer),
-            None => Asked::Nothing,
+            Some(answer) => OperationState::Reported(answer),
+            None => OperationState::Nothing,
         };
         if off.is_some() {
             self.line.end();
@@ -115,7 +115,7 @@ impl<'h, J: Joins, N: Near<Global>> ClientSlot<'h, J, N> {
     }
 
     fn drive(&mut self) -> Turned<Driven<Global>> {
-        drive_some::<Global, N, Line<'h>, Line<'h>, LoopPorts<'h, J>>(
+        drive_some::<Global, N, ControlSocket<'h>, ControlSocket<'h>, LoopPorts<'h, J>>(
             &mut self.client,
             &mut self.control,
             &mut self.ports,

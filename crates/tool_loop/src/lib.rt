@@ -3,10 +3,10 @@
 
 mod between;
 mod client;
-mod door;
 mod joining;
 mod orders;
 mod pair;
+mod passive_listener;
 mod playing;
 mod ports;
 mod server;

@@ -2,8 +2,8 @@
 ghost use Rattle.std.specs.Prelude.{◌≡◌, None};
 ghost use Rattle.ftp_ports.specs.Asking.{Closes};
 
-use crate::door::Door;
 use crate::joining::{Joins, LOOPBACK};
+use crate::passive_listener::PassiveListener;
 use crate::socket::Socket;
 use ftp_endpoint::{Endpoint, Host};
 use ftp_ports::{Accepted, Awaited, Beside, For, Ports, Ready, Spoken, Whole};
@@ -17,16 +17,16 @@ pub(crate) const HERE: Host = Host::V4(LOOPBACK);
 pub(crate) struct LoopPorts<'h, J> {
     net: &'h J,
     control: &'h Socket,
-    own: &'h Door,
-    other: &'h Door,
+    own: &'h PassiveListener,
+    other: &'h PassiveListener,
 }
 
 impl<'h, J: Joins> LoopPorts<'h, J> {
     pub(crate) fn new(
         net: &'h J,
         control: &'h Socket,
-        own: &'h Door,
-        other: &'h Door,
+        own: &'h PassiveListener,
+        other: &'h PassiveListener,
     ) -> LoopPorts<'h, J> {
         LoopPorts {
             net,

@@ -1,7 +1,7 @@
 // The slot of a server: its connections, and the moment that it is for it.
 use crate::joining::Joins;
 use crate::ports::LoopPorts;
-use crate::socket::{Line, Socket};
+use crate::socket::{ControlSocket, Socket};
 use ftp_facts::Moment;
 use ftp_ports::{Cause, Watch};
 use ftp_server_driver::{Clocked, Control, Data, Turned, drive_some};
@@ -29,7 +29,7 @@ where
 {
     clocked: Clocked<S, OrderWatch, ()>,
     line: &'h Socket,
-    control: Control<Line<'h>, Line<'h>>,
+    control: Control<ControlSocket<'h>, ControlSocket<'h>>,
     ports: LoopPorts<'h, J>,
     data: Data<Socket>,
     is_over: bool,
@@ -75,7 +75,7 @@ where
                 watcher: (),
             },
             line,
-            control: Control::new(Line::new(line), Line::new(line)),
+            control: Control::new(ControlSocket::new(line), ControlSocket::new(line)),
             ports,
             data: Data::new(),
             is_over: false,
@@ -112,8 +112,8 @@ where
             Global,
             MemTree<Global>,
             S,
-            Line<'h>,
-            Line<'h>,
+            ControlSocket<'h>,
+            ControlSocket<'h>,
             LoopPorts<'h, J>,
             OrderWatch,
             (),

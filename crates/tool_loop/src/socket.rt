@@ -2,7 +2,7 @@
 ghost use Rattle.std.specs.Prelude.{◌≤◌, IfOk, length};
 ghost use Rattle.std.specs.Global.{Global};
 
-use crate::way::{Flow, Way};
+use crate::way::{Flow, Pipe};
 use ftp_ports::{Duplex, For, Spoken};
 use std::alloc::Global;
 use std::io;
@@ -17,8 +17,8 @@ const REPLIES: usize = 3072;
 pub(crate) struct Socket {
     stream: TcpStream,
     /// What comes to it, and what goes from it.
-    coming: Rc<Way, Global>,
-    going: Rc<Way, Global>,
+    coming: Rc<Pipe, Global>,
+    going: Rc<Pipe, Global>,
 }
 
 /// By hand: a derived drop is proved again, part by part, wherever a socket is let go.
@@ -41,8 +41,8 @@ impl Socket {
     ) -> io::Result<(Socket, Socket)> {
         one.set_nodelay(true)?;
         other.set_nodelay(true)?;
-        let up = Rc::new(alloc, Way::new())?;
-        let down = Rc::new(alloc, Way::new())?;
+        let up = Rc::new(alloc, Pipe::new())?;
+        let down = Rc::new(alloc, Pipe::new())?;
         let near = Socket {
             stream: one,
             coming: down.clone()?,
@@ -170,23 +170,23 @@ impl Duplex for Socket {
 
 /// A control connection, as its reader and as its writer.
 #[derive(Drop)]
-pub(crate) struct Line<'h> {
+pub(crate) struct ControlSocket<'h> {
     socket: &'h Socket,
 }
 
-impl<'h> Line<'h> {
-    pub(crate) fn new(socket: &'h Socket) -> Line<'h> {
-        Line { socket }
+impl<'h> ControlSocket<'h> {
+    pub(crate) fn new(socket: &'h Socket) -> ControlSocket<'h> {
+        ControlSocket { socket }
     }
 }
 
-impl<'h> Read for Line<'h> {
+impl<'h> Read for ControlSocket<'h> {
     fn read(&mut self, room: &mut [u8]) -> io::Result<usize> {
         self.socket.receive_some(room)
     }
 }
 
-impl<'h> Write for Line<'h> {
+impl<'h> Write for ControlSocket<'h> {
     fn write(&mut self, octets: &[u8]) -> io::Result<usize> {
         self.socket.send_some(octets)
     }

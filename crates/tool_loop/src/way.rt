@@ -17,15 +17,15 @@ pub(crate) enum Flow {
 
 /// One way of a connection, as both of its sockets share it.
 #[derive(Drop)]
-pub(crate) struct Way {
+pub(crate) struct Pipe {
     outstanding: Cell<usize>,
     flow: Cell<Flow>,
 }
 
-impl Way {
+impl Pipe {
     /// Nothing is on its way yet.
-    pub(crate) fn new() -> Way {
-        Way {
+    pub(crate) fn new() -> Pipe {
+        Pipe {
             outstanding: Cell::new(0),
             flow: Cell::new(Flow::Open),
         }

@@ -1,10 +1,10 @@
 // A download of a mirror, over as many control connections as it takes.
-use crate::machine::Machine;
-use crate::walk::Walk;
+use crate::machine::LocalMachine;
+use crate::walk::MirrorWalk;
 use std::alloc::{AllocError, Global};
 use std::io::Eprint;
 use tool_files::LocalFiles;
-use tool_listing::Facts;
+use tool_listing::ItemFacts;
 use tool_mirror_copy::{Trouble, begun, discard, download};
 use tool_resume::{Downloading, limit_held};
 use tool_session::ClientSession;
@@ -68,13 +68,13 @@ fn copied_names(
     Ok((String::from_str(alloc, below)?, to))
 }
 
-impl<'a, R: Machine> Walk<'a, R> {
+impl<'a, R: LocalMachine> MirrorWalk<'a, R> {
     /// Downloads a file, all of it, to its part here, or into memory: behind what came before, where a control connection ended in its middle.
     pub(crate) fn downloaded<S: ClientSession>(
         &mut self,
         slot: &mut S,
         below: &str,
-        facts: Facts,
+        facts: ItemFacts,
         to: Option<&str>,
     ) -> Result<Downloading<'a, R>, Trouble> {
         let mut downloading = match self.cut.take() {
@@ -100,7 +100,7 @@ impl<'a, R: Machine> Walk<'a, R> {
     fn begun(
         &mut self,
         below: &str,
-        facts: Facts,
+        facts: ItemFacts,
         to: Option<&str>,
     ) -> Result<Downloading<'a, R>, Trouble> {
         let prepared = match to {

@@ -1,16 +1,16 @@
 // What will be asked of a server for what waits to be done.
-use crate::machine::Machine;
+use crate::machine::LocalMachine;
 use crate::prepared::AllPrepared;
 use ftp_facts::Text;
 use ftp_operation::Op;
 use std::alloc::{AllocError, Global};
 use tool_files::Places;
-use tool_listing::Facts;
+use tool_listing::ItemFacts;
 use tool_mirror_copy::{
-    AHEAD, Doing, Mirror, Trouble, facts_here, is_drawn, listing_request, moment_of, octets_of,
-    size_request,
+    AHEAD, Doing, MirrorRequest, Trouble, facts_here, is_drawn, listing_request, moment_of,
+    octets_of, size_request,
 };
-use tool_mirror_plan::{Action, Way};
+use tool_mirror_plan::{Action, CopyDirection};
 use tool_mirror_queue::{QueuedAction, Work};
 use tool_resume::{download_row, limit_held};
 use tool_session::{ClientSession, Request, Terms};
@@ -20,12 +20,12 @@ use tool_session::{ClientSession, Request, Terms};
 pub(crate) fn foresee<'a, R, S>(
     (rt, alloc): (&'a R, Global),
     slot: &mut S,
-    mirror: &Mirror<'a>,
+    mirror: &MirrorRequest<'a>,
     prepared: &mut AllPrepared<'a, R>,
     work: &Work,
 )
 where
-    R: Machine,
+    R: LocalMachine,
     S: ClientSession,
 {
     let Some(asked) = foreseen(alloc, mirror, work) else {
@@ -60,7 +60,7 @@ where
 fn row_of<R: Places>(
     rt: &R,
     alloc: Global,
-    mirror: &Mirror<'_>,
+    mirror: &MirrorRequest<'_>,
     work: &Work,
     asked: Request,
 ) -> Result<Vec<Request, Global>, Trouble> {
@@ -104,7 +104,7 @@ fn is_listed(queued_action: QueuedAction) -> bool {
 }
 
 /// What will be asked, of what is sent without its octets; none also where memory is refused.
-fn foreseen(alloc: Global, mirror: &Mirror<'_>, work: &Work) -> Option<Request> {
+fn foreseen(alloc: Global, mirror: &MirrorRequest<'_>, work: &Work) -> Option<Request> {
     let QueuedAction::Action(action) = work.queued_action else {
         return None;
     };
@@ -113,8 +113,8 @@ fn foreseen(alloc: Global, mirror: &Mirror<'_>, work: &Work) -> Option<Request> 
         Action::Copy(facts) => copied(alloc, mirror, below, facts),
         Action::Compare(facts) => fetched(alloc, mirror, below, facts),
         Action::MakeDir => match mirror.rules.way {
-            Way::Down => listed(alloc, mirror, below),
-            Way::Up => None,
+            CopyDirection::Down => listed(alloc, mirror, below),
+            CopyDirection::Up => None,
         },
         Action::Enter => listed(alloc, mirror, below),
         _ => None,
@@ -122,21 +122,26 @@ fn foreseen(alloc: Global, mirror: &Mirror<'_>, work: &Work) -> Option<Request> 
 }
 
 /// What copies a file.
-fn copied(alloc: Global, mirror: &Mirror<'_>, below: &str, facts: Facts) -> Option<Request> {
+fn copied(
+    alloc: Global,
+    mirror: &MirrorRequest<'_>,
+    below: &str,
+    facts: ItemFacts,
+) -> Option<Request> {
     if mirror.doing == Doing::Nothing {
         return None;
     }
     match mirror.rules.way {
-        Way::Down => download_request(alloc, mirror, below, facts).ok(),
-        Way::Up if is_large(facts) => None,
-        Way::Up => sending(alloc, mirror, below, Text::from_vec(Vec::new(alloc))).ok(),
+        CopyDirection::Down => download_request(alloc, mirror, below, facts).ok(),
+        CopyDirection::Up if is_large(facts) => None,
+        CopyDirection::Up => sending(alloc, mirror, below, Text::from_vec(Vec::new(alloc))).ok(),
     }
 }
 
 /// Whether a file that would be fetched stands here with the size that is listed: it is asked for only where the server says more of it.
-fn is_current<R: Places>(rt: &R, mirror: &Mirror<'_>, work: &Work) -> bool {
+fn is_current<R: Places>(rt: &R, mirror: &MirrorRequest<'_>, work: &Work) -> bool {
     match (work.queued_action, mirror.rules.way) {
-        (QueuedAction::Action(Action::Copy(facts)), Way::Down) => {
+        (QueuedAction::Action(Action::Copy(facts)), CopyDirection::Down) => {
             is_here(rt, mirror, work.below.as_str(), facts)
         }
         _ => false,
@@ -144,7 +149,12 @@ fn is_current<R: Places>(rt: &R, mirror: &Mirror<'_>, work: &Work) -> bool {
 }
 
 /// What fetches a file, where it is small enough.
-fn fetched(alloc: Global, mirror: &Mirror<'_>, below: &str, facts: Facts) -> Option<Request> {
+fn fetched(
+    alloc: Global,
+    mirror: &MirrorRequest<'_>,
+    below: &str,
+    facts: ItemFacts,
+) -> Option<Request> {
     if is_large(facts) {
         return None;
     }
@@ -152,12 +162,12 @@ fn fetched(alloc: Global, mirror: &Mirror<'_>, below: &str, facts: Facts) -> Opt
 }
 
 /// What lists a directory.
-fn listed(alloc: Global, mirror: &Mirror<'_>, below: &str) -> Option<Request> {
+fn listed(alloc: Global, mirror: &MirrorRequest<'_>, below: &str) -> Option<Request> {
     listing_request(alloc, mirror, below).ok()
 }
 
 /// Whether a file has more octets than are held ahead, or it is not listed how many.
-fn is_large(facts: Facts) -> bool {
+fn is_large(facts: ItemFacts) -> bool {
     match facts.size {
         Some(size) => size > AHEAD,
         None => true,
@@ -165,7 +175,7 @@ fn is_large(facts: Facts) -> bool {
 }
 
 /// Whether a file stands here with the size that is listed.
-fn is_here<R: Places>(rt: &R, mirror: &Mirror<'_>, below: &str, facts: Facts) -> bool {
+fn is_here<R: Places>(rt: &R, mirror: &MirrorRequest<'_>, below: &str, facts: ItemFacts) -> bool {
     match facts_here(rt, mirror.folder, below) {
         Some(here) => here.size == facts.size,
         None => false,
@@ -175,9 +185,9 @@ fn is_here<R: Places>(rt: &R, mirror: &Mirror<'_>, below: &str, facts: Facts) ->
 /// What the first try of a download asks for.
 fn download_request(
     alloc: Global,
-    mirror: &Mirror<'_>,
+    mirror: &MirrorRequest<'_>,
     below: &str,
-    facts: Facts,
+    facts: ItemFacts,
 ) -> Result<Request, AllocError> {
     let path = mirror.path(alloc, below)?;
     let how = mirror.openings.how(mirror.how);
@@ -191,7 +201,7 @@ fn download_request(
 /// What sends these octets to a file.
 fn sending(
     alloc: Global,
-    mirror: &Mirror<'_>,
+    mirror: &MirrorRequest<'_>,
     below: &str,
     octets: Text<Global>,
 ) -> Result<Request, AllocError> {
@@ -204,7 +214,7 @@ fn sending(
 fn upload_row<R: Places>(
     rt: &R,
     alloc: Global,
-    mirror: &Mirror<'_>,
+    mirror: &MirrorRequest<'_>,
     below: &str,
 ) -> Result<Vec<Request, Global>, Trouble> {
     let octets = octets_of(rt, mirror, below)?;

@@ -6,7 +6,7 @@ use std::time::Clock;
 use tool_files::{LocalFiles, Places};
 
 /// Who has files and folders, and tells what is done.
-pub(crate) trait Machine: LocalFiles + Places + Eprint {
+pub(crate) trait LocalMachine: LocalFiles + Places + Eprint {
     /// Tells on standard output what would be done of what is shown so.
     fn tell_would(&self, what: &str, name: &str) -> io::Result<()>;
 
@@ -14,7 +14,7 @@ pub(crate) trait Machine: LocalFiles + Places + Eprint {
     fn tell_line(&self, line: &[u8]) -> io::Result<()>;
 }
 
-impl<R> Machine for R
+impl<R> LocalMachine for R
 where
     R: Files<File = File> + Clock + Print + Eprint + AllocGlobal + Clone + Drop,
 {

@@ -1,6 +1,6 @@
 // A mirror from its first connection to its last line.
-use crate::machine::Machine;
-use crate::walk::Walk;
+use crate::machine::LocalMachine;
+use crate::walk::MirrorWalk;
 use ftp_operation::Answer;
 use std::alloc::Global;
 use std::env::Env;
@@ -11,7 +11,7 @@ use std::net::{Net, TcpListener, TcpStream};
 use std::time::Clock;
 use tool_connect::{Converses, Logins, ask};
 use tool_files::LocalFiles;
-use tool_mirror_copy::Mirror;
+use tool_mirror_copy::MirrorRequest;
 use tool_session::{LastReply, SessionFault, Subject, say, told};
 use tool_terminal::Status;
 
@@ -26,7 +26,7 @@ const ENDED: &str = "error: the control connection ended";
 
 /// Mirrors a tree, and gives the exit status: 0; 1 where something was refused or failed; 2 for a bad login; 3 where the control connection or a
 /// device failed, or memory was refused. All that is not done is told on standard error, and at the end how much was.
-pub fn mirror<R>(rt: &R, asked: Mirror<'_>) -> io::Result<Status>
+pub fn mirror<R>(rt: &R, asked: MirrorRequest<'_>) -> io::Result<Status>
 where
     R: Net<Listener = TcpListener, Stream = TcpStream>
         + Files<File = File>
@@ -38,7 +38,7 @@ where
         + Clone
         + Drop,
 {
-    let asked = Mirror {
+    let asked = MirrorRequest {
         begun: rt.present(),
         ..asked
     };
@@ -46,15 +46,15 @@ where
 }
 
 /// The same, of whoever can ask a server and has a folder.
-fn mirrored<R>(rt: &R, alloc: Global, asked: &Mirror<'_>) -> io::Result<Status>
+fn mirrored<R>(rt: &R, alloc: Global, asked: &MirrorRequest<'_>) -> io::Result<Status>
 where
-    R: Converses + Logins + Machine,
+    R: Converses + Logins + LocalMachine,
 {
-    let mut noticed = LastReply::new();
-    let mut walk = Walk::new(rt, alloc, asked)?;
-    let answered = walked(rt, asked, &mut walk, &mut noticed);
+    let mut last_reply = LastReply::new();
+    let mut walk = MirrorWalk::new(rt, alloc, asked)?;
+    let answered = walked(rt, asked, &mut walk, &mut last_reply);
     walk.give_up();
-    let told = tell_end(rt, asked, &answered, walk.tally.failed, &noticed);
+    let told = tell_end(rt, asked, &answered, walk.tally.failed, &last_reply);
     say(rt, "", &walk.tally, "")?;
     told
 }
@@ -62,16 +62,16 @@ where
 /// Goes on as long as each round of control connections gets further.
 fn walked<R>(
     rt: &R,
-    asked: &Mirror<'_>,
-    walk: &mut Walk<'_, R>,
-    noticed: &mut LastReply,
+    asked: &MirrorRequest<'_>,
+    walk: &mut MirrorWalk<'_, R>,
+    last_reply: &mut LastReply,
 ) -> Result<Answer<Global>, SessionFault>
 where
-    R: Converses + Logins + Machine,
+    R: Converses + Logins + LocalMachine,
 {
     for _ in 0..ROUNDS {
         let before = walk.reach();
-        let answered = ask(rt, asked.server, asked.user, noticed, walk);
+        let answered = ask(rt, asked.server, asked.user, last_reply, walk);
         let is_lost = matches!(&answered, Ok(Answer::Lost));
         if !is_lost || walk.reach() == before {
             return answered;
@@ -82,7 +82,7 @@ where
 }
 
 /// What a fault may be of.
-fn subject_of<'a>(asked: &Mirror<'a>) -> Subject<'a> {
+fn subject_of<'a>(asked: &MirrorRequest<'a>) -> Subject<'a> {
     Subject {
         server: asked.server,
         password_file: asked.user.password_file,
@@ -93,10 +93,10 @@ fn subject_of<'a>(asked: &Mirror<'a>) -> Subject<'a> {
 /// Tells why a mirror came to no end, and gives the exit status; so many things failed.
 fn tell_end<R: Eprint>(
     rt: &R,
-    asked: &Mirror<'_>,
+    asked: &MirrorRequest<'_>,
     answered: &Result<Answer<Global>, SessionFault>,
     failed: u64,
-    noticed: &LastReply,
+    last_reply: &LastReply,
 ) -> io::Result<Status> {
     match answered {
         Ok(Answer::Done) if failed == 0 => Ok(Status::Done),
@@ -104,14 +104,14 @@ fn tell_end<R: Eprint>(
         Ok(Answer::Refused(code)) => told(
             rt,
             NO_LISTING,
-            &noticed.refusal(*code),
+            &last_reply.refusal(*code),
             "",
             Status::Refused,
         ),
         Ok(Answer::Lost) => told(
             rt,
             ENDED,
-            &noticed.farewell(),
+            &last_reply.farewell(),
             "; another run goes on",
             Status::Failed,
         ),

@@ -1,8 +1,8 @@
 // Files that are asked ahead of their turn: downloads, each with the part of its file here to which it goes as it comes, and uploads.
-use crate::machine::Machine;
+use crate::machine::LocalMachine;
 use std::alloc::Global;
-use tool_listing::Facts;
-use tool_mirror_copy::{Mirror, Trouble, begun, discard, foresee_drawn};
+use tool_listing::ItemFacts;
+use tool_mirror_copy::{MirrorRequest, Trouble, begun, discard, foresee_drawn};
 use tool_resume::Downloading;
 use tool_session::{ClientSession, Request, Ticket};
 
@@ -33,13 +33,13 @@ impl<'a, R> Prepared<'a, R> {
 }
 
 /// An upload that was asked ahead, and by which ticket it is answered.
-struct Sent {
+struct PreparedUpload {
     below: String<Global>,
     ticket: Ticket,
 }
 
 /// By hand, as above.
-impl Drop for Sent {
+impl Drop for PreparedUpload {
     fn drop(self) {
         let Self {
             below: _,
@@ -51,7 +51,7 @@ impl Drop for Sent {
 /// Those that are asked ahead, and did not have their turn yet.
 pub(crate) struct AllPrepared<'a, R> {
     all: Vec<Prepared<'a, R>, Global>,
-    sent: Vec<Sent, Global>,
+    sent: Vec<PreparedUpload, Global>,
 }
 
 /// By hand, as above.
@@ -61,7 +61,7 @@ impl<'a, R> Drop for AllPrepared<'a, R> {
     }
 }
 
-impl<'a, R: Machine> AllPrepared<'a, R> {
+impl<'a, R: LocalMachine> AllPrepared<'a, R> {
     /// None.
     pub(crate) fn new(alloc: Global) -> AllPrepared<'a, R> {
         AllPrepared {
@@ -75,8 +75,8 @@ impl<'a, R: Machine> AllPrepared<'a, R> {
         &mut self,
         (rt, alloc): (&'a R, Global),
         slot: &mut S,
-        mirror: &Mirror<'a>,
-        (below, facts): (&str, Facts),
+        mirror: &MirrorRequest<'a>,
+        (below, facts): (&str, ItemFacts),
         request: &Request,
     ) -> Result<(), Trouble> {
         if !slot.takes(request) {
@@ -106,14 +106,14 @@ impl<'a, R: Machine> AllPrepared<'a, R> {
         &mut self,
         (rt, alloc): (&'a R, Global),
         slot: &mut S,
-        mirror: &Mirror<'_>,
+        mirror: &MirrorRequest<'_>,
         below: &str,
     ) -> Result<(), Trouble> {
         let name = String::from_str(alloc, below)?;
         let Some(ticket) = foresee_drawn(rt, alloc, slot, mirror, below)? else {
             return Ok(());
         };
-        let sent = Sent {
+        let sent = PreparedUpload {
             below: name,
             ticket,
         };
@@ -160,7 +160,7 @@ impl<'a, R: Machine> AllPrepared<'a, R> {
     }
 
     /// Removes the parts of those that had no turn.
-    pub(crate) fn discard(&self, rt: &R, mirror: &Mirror<'_>) {
+    pub(crate) fn discard(&self, rt: &R, mirror: &MirrorRequest<'_>) {
         for prepared in self.all.iter() {
             discard(rt, mirror, prepared.below.as_str(), &prepared.downloading);
         }

@@ -1,15 +1,15 @@
 // What is removed from the target: it is counted first, asked of the source once more, and a directory is emptied before it goes.
-use crate::machine::Machine;
-use crate::walk::Walk;
+use crate::machine::LocalMachine;
+use crate::walk::MirrorWalk;
 use std::alloc::Global;
 use std::io::ErrorKind;
-use tool_listing::Listing;
+use tool_listing::DirectoryListing;
 use tool_mirror_copy::{Trouble, stands_there};
-use tool_mirror_plan::{Action, Extra, Rules, Way};
+use tool_mirror_plan::{Action, CopyDirection, Extra, Rules};
 use tool_mirror_queue::QueuedAction;
 use tool_session::ClientSession;
 
-impl<'a, R: Machine> Walk<'a, R> {
+impl<'a, R: LocalMachine> MirrorWalk<'a, R> {
     /// Counts what stands in a directory of the target that is to be removed; where it can't be listed, it stays.
     pub(crate) fn count<S: ClientSession>(
         &mut self,
@@ -19,10 +19,10 @@ impl<'a, R: Machine> Walk<'a, R> {
     ) -> Result<(), Trouble> {
         let target = self.target(slot, below);
         match &target {
-            Ok(Listing::Whole(items)) => self
+            Ok(DirectoryListing::Whole(items)) => self
                 .action_queue
                 .put_counts(number, below, items.as_slice()),
-            Ok(Listing::CutOff) => {
+            Ok(DirectoryListing::CutOff) => {
                 self.action_queue.keep(number);
                 Ok(())
             }
@@ -43,8 +43,8 @@ impl<'a, R: Machine> Walk<'a, R> {
         is_dir: bool,
     ) -> Result<bool, Trouble> {
         match self.mirror.rules.way {
-            Way::Down => stands_there(self.alloc, slot, self.mirror, below, is_dir),
-            Way::Up => self.stands_here(below),
+            CopyDirection::Down => stands_there(self.alloc, slot, self.mirror, below, is_dir),
+            CopyDirection::Up => self.stands_here(below),
         }
     }
 
@@ -80,7 +80,7 @@ impl<'a, R: Machine> Walk<'a, R> {
     ) -> Result<(), Trouble> {
         let target = self.target(slot, below)?;
         self.action_queue.put(QueuedAction::RemoveEmptied, below)?;
-        let nothing = Listing::Whole(Vec::new(self.alloc));
+        let nothing = DirectoryListing::Whole(Vec::new(self.alloc));
         let rules = Rules {
             extra: Extra::Any,
             ..self.mirror.rules

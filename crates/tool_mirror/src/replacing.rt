@@ -1,16 +1,16 @@
 // What comes in the place of something else: it is made beside it, that is renamed aside, and removed last; by one rename where one does.
-use crate::machine::Machine;
-use crate::walk::Walk;
+use crate::machine::LocalMachine;
+use crate::walk::MirrorWalk;
 use ftp_operation::Op;
 use itoa::Buffer;
 use std::alloc::{AllocError, Global};
 use tool_files::Change;
-use tool_listing::{Facts, Listing};
+use tool_listing::{DirectoryListing, ItemFacts};
+use tool_location::last_part;
 use tool_mirror_copy::{Doing, Trouble, done_by, stands_there, word_of};
-use tool_mirror_plan::{Action, Way};
+use tool_mirror_plan::{Action, CopyDirection};
 use tool_mirror_queue::QueuedAction;
 use tool_session::ClientSession;
-use tool_location::last_part;
 
 /// What stands behind the name of something in that of what comes in its place, until it is whole.
 const COMING: &str = ".ftp-new";
@@ -21,7 +21,7 @@ const ASIDE: &str = ".ftp-old";
 /// How many names are tried.
 const NAMES: u32 = 10;
 
-impl<'a, R: Machine> Walk<'a, R> {
+impl<'a, R: LocalMachine> MirrorWalk<'a, R> {
     /// Puts something in the place of something else, which is removed then.
     pub(crate) fn replace<S: ClientSession>(
         &mut self,
@@ -46,10 +46,10 @@ impl<'a, R: Machine> Walk<'a, R> {
         &mut self,
         slot: &mut S,
         removal: Action,
-        facts: Facts,
+        facts: ItemFacts,
         below: &str,
     ) -> Result<(), Trouble> {
-        if let (Way::Down, Action::RemoveFile) = (self.mirror.rules.way, removal) {
+        if let (CopyDirection::Down, Action::RemoveFile) = (self.mirror.rules.way, removal) {
             self.copy_to(slot, below, facts, below)?;
             self.tally.add_change(Change::RemoveFile);
             self.tell_done("copy", below);
@@ -76,7 +76,7 @@ impl<'a, R: Machine> Walk<'a, R> {
         self.change_untold(slot, Change::MakeDir, coming.as_str())?;
         self.exchange(slot, removal, coming.as_str(), below)?;
         self.tell_done("make", below);
-        let nothing = Listing::Whole(Vec::new(self.alloc));
+        let nothing = DirectoryListing::Whole(Vec::new(self.alloc));
         self.action_queue.plan(rules, below, &source, &nothing)
     }
 
@@ -137,19 +137,19 @@ impl<'a, R: Machine> Walk<'a, R> {
         below: &str,
     ) -> Result<bool, Trouble> {
         match self.mirror.rules.way {
-            Way::Down => Ok(self.rt.found(self.mirror.folder, below)?.is_some()),
-            Way::Up => stands_there(self.alloc, slot, self.mirror, below, true),
+            CopyDirection::Down => Ok(self.rt.found(self.mirror.folder, below)?.is_some()),
+            CopyDirection::Up => stands_there(self.alloc, slot, self.mirror, below, true),
         }
     }
 
     /// Gives something of the target another name in its directory.
     fn rename<S: ClientSession>(&self, slot: &mut S, below: &str, to: &str) -> Result<(), Trouble> {
         match self.mirror.rules.way {
-            Way::Down => Ok(
+            CopyDirection::Down => Ok(
                 self.rt
                     .rename_below(self.mirror.folder, below, last_part(to))?,
             ),
-            Way::Up => {
+            CopyDirection::Up => {
                 let from = self.mirror.path(self.alloc, below)?;
                 let to = self.mirror.path(self.alloc, to)?;
                 done_by(slot, Op::Rename(from, to))

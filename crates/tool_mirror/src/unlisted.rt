@@ -1,28 +1,28 @@
 // A directory of a server whose LIST tells nothing of whether it stands.
-use crate::machine::Machine;
-use crate::walk::Walk;
+use crate::machine::LocalMachine;
+use crate::walk::MirrorWalk;
 use ftp_operation::ListVerb;
 use std::alloc::Global;
 use tool_files::Change;
-use tool_listing::Listing;
+use tool_listing::DirectoryListing;
 use tool_mirror_copy::{Doing, Trouble, check_dir};
-use tool_mirror_plan::Way;
+use tool_mirror_plan::CopyDirection;
 use tool_session::ClientSession;
 
-impl<'a, R: Machine> Walk<'a, R> {
+impl<'a, R: LocalMachine> MirrorWalk<'a, R> {
     /// Whether the directory of the server, which is listed so, may be none: by LIST a server may list nothing of what does not stand there.
-    fn is_doubtful(&self, listing: &Listing<Global>) -> bool {
+    fn is_doubtful(&self, listing: &DirectoryListing<Global>) -> bool {
         let is_listed = matches!(self.mirror.openings.list_verb(), ListVerb::List);
         let is_named = !self.mirror.path.is_empty();
         match listing {
-            Listing::Whole(items) => items.is_empty() && is_listed && is_named,
+            DirectoryListing::Whole(items) => items.is_empty() && is_listed && is_named,
             _ => false,
         }
     }
 
     /// Whether the target, which is listed so, is to be made although it may stand.
-    pub(crate) fn may_lack(&self, target: &Listing<Global>) -> bool {
-        let is_up = matches!(self.mirror.rules.way, Way::Up);
+    pub(crate) fn may_lack(&self, target: &DirectoryListing<Global>) -> bool {
+        let is_up = matches!(self.mirror.rules.way, CopyDirection::Up);
         is_up && self.mirror.doing == Doing::All && self.is_doubtful(target)
     }
 
@@ -31,9 +31,9 @@ impl<'a, R: Machine> Walk<'a, R> {
         &self,
         slot: &mut S,
         below: &str,
-    ) -> Result<Listing<Global>, Trouble> {
+    ) -> Result<DirectoryListing<Global>, Trouble> {
         let source = self.listed_from(slot, below, self.mirror.rules.way)?;
-        let is_down = matches!(self.mirror.rules.way, Way::Down);
+        let is_down = matches!(self.mirror.rules.way, CopyDirection::Down);
         if below.is_empty() && is_down && self.is_doubtful(&source) {
             check_dir(self.alloc, slot, self.mirror)?;
         }
@@ -44,7 +44,7 @@ impl<'a, R: Machine> Walk<'a, R> {
     pub(crate) fn make_unlisted<S: ClientSession>(
         &mut self,
         slot: &mut S,
-        target: &Listing<Global>,
+        target: &DirectoryListing<Global>,
     ) -> Result<(), Trouble> {
         let rules = self.mirror.rules;
         let source = self.source(slot, "")?;

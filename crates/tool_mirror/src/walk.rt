@@ -1,39 +1,41 @@
 // The way through a tree, one thing after another.
 use crate::cut::Cut;
 use crate::foreseeing::foresee;
-use crate::machine::Machine;
+use crate::machine::LocalMachine;
 use crate::prepared::AllPrepared;
 use ftp_operation::Answer;
 use std::alloc::{AllocError, Global};
 use tool_files::Change;
-use tool_listing::{Facts, Listing};
+use tool_listing::{DirectoryListing, ItemFacts};
 use tool_mirror_copy::{
-    Actions, Doing, Mirror, Trouble, Upward, action_line, change_there, copy_up, discard,
-    entries_here, entries_there, is_current, is_same, leave, reason_told, shown, tell,
+    ActionOutput, Doing, MirrorRequest, Trouble, Upward, action_line, change_there, copy_up,
+    discard, entries_here, entries_there, is_current, is_same, leave, reason_told, shown, tell,
     tell_no_text, tell_trouble, word_of,
 };
-use tool_mirror_plan::{Action, Way};
-use tool_mirror_queue::{ActionQueue, Progress, QueuedAction, Settled, Tally, Work, tell_too_many};
+use tool_mirror_plan::{Action, CopyDirection};
+use tool_mirror_queue::{
+    ActionQueue, MirrorTotals, Progress, QueuedAction, Settled, Work, tell_too_many,
+};
 use tool_session::{ClientSession, SessionFault, SessionTask, Ticket};
 
 /// A mirror on its way.
-pub(crate) struct Walk<'a, R> {
+pub(crate) struct MirrorWalk<'a, R> {
     pub(crate) rt: &'a R,
     pub(crate) alloc: Global,
-    pub(crate) mirror: &'a Mirror<'a>,
+    pub(crate) mirror: &'a MirrorRequest<'a>,
     pub(crate) action_queue: ActionQueue,
     /// The download of what comes next, where a control connection ended in its middle.
     pub(crate) cut: Option<Cut<'a, R>>,
     /// The downloads that are asked ahead.
     pub(crate) prepared: AllPrepared<'a, R>,
     /// What was done so far.
-    pub(crate) tally: Tally,
+    pub(crate) tally: MirrorTotals,
     /// Whether the server is not asked for the size of what stands there before an upload: a control connection ended behind that question.
     is_blind: bool,
 }
 
 /// By hand: a derived drop is proved again, part by part, wherever a walk is let go.
-impl<'a, R> Drop for Walk<'a, R> {
+impl<'a, R> Drop for MirrorWalk<'a, R> {
     fn drop(self) {
         let Self {
             rt: _,
@@ -48,23 +50,23 @@ impl<'a, R> Drop for Walk<'a, R> {
     }
 }
 
-impl<'a, R: Machine> Walk<'a, R> {
+impl<'a, R: LocalMachine> MirrorWalk<'a, R> {
     /// At the roots, of which nothing is known yet.
     pub(crate) fn new(
         rt: &'a R,
         alloc: Global,
-        mirror: &'a Mirror<'a>,
-    ) -> Result<Walk<'a, R>, AllocError> {
+        mirror: &'a MirrorRequest<'a>,
+    ) -> Result<MirrorWalk<'a, R>, AllocError> {
         let mut action_queue = ActionQueue::new(alloc);
         action_queue.put(QueuedAction::Action(Action::Enter), "")?;
-        Ok(Walk {
+        Ok(MirrorWalk {
             rt,
             alloc,
             mirror,
             action_queue,
             cut: None,
             prepared: AllPrepared::new(alloc),
-            tally: Tally::new(),
+            tally: MirrorTotals::new(),
             is_blind: false,
         })
     }
@@ -212,8 +214,8 @@ impl<'a, R: Machine> Walk<'a, R> {
     /// Leaves out what is neither file nor directory. Of this machine that is a failure: a copy of it lacks what a link leads to.
     fn pass_over(&mut self, below: &str) {
         let kind = match self.mirror.rules.way {
-            Way::Down => "note: ",
-            Way::Up => {
+            CopyDirection::Down => "note: ",
+            CopyDirection::Up => {
                 self.tally.add_failed();
                 "error: "
             }
@@ -227,9 +229,9 @@ impl<'a, R: Machine> Walk<'a, R> {
         &mut self,
         slot: &mut S,
         below: &str,
-        facts: Facts,
+        facts: ItemFacts,
     ) -> Result<(), Trouble> {
-        if matches!(self.mirror.rules.way, Way::Down)
+        if matches!(self.mirror.rules.way, CopyDirection::Down)
             && is_current(self.rt, self.alloc, slot, self.mirror, below, facts)?
         {
             return Ok(());
@@ -242,7 +244,7 @@ impl<'a, R: Machine> Walk<'a, R> {
         &mut self,
         slot: &mut S,
         below: &str,
-        facts: Facts,
+        facts: ItemFacts,
     ) -> Result<(), Trouble> {
         if self.is_told_only("copy", below)? {
             self.tally.add_file(facts.size.unwrap_or(0));
@@ -258,7 +260,7 @@ impl<'a, R: Machine> Walk<'a, R> {
         &mut self,
         slot: &mut S,
         below: &str,
-        facts: Facts,
+        facts: ItemFacts,
         to: &str,
     ) -> Result<(), Trouble> {
         let count = self.copied(slot, below, facts, to)?;
@@ -272,12 +274,12 @@ impl<'a, R: Machine> Walk<'a, R> {
         &mut self,
         slot: &mut S,
         below: &str,
-        facts: Facts,
+        facts: ItemFacts,
         to: &str,
     ) -> Result<u64, Trouble> {
         match self.mirror.rules.way {
-            Way::Down => self.copy_down(slot, below, facts, to),
-            Way::Up => {
+            CopyDirection::Down => self.copy_down(slot, below, facts, to),
+            CopyDirection::Up => {
                 let size = facts.size;
                 let ahead = self.ahead_of(below, to);
                 let file = Upward {
@@ -311,7 +313,7 @@ impl<'a, R: Machine> Walk<'a, R> {
         &mut self,
         slot: &mut S,
         below: &str,
-        facts: Facts,
+        facts: ItemFacts,
         to: &str,
     ) -> Result<u64, Trouble> {
         let downloading = self.downloaded(slot, below, facts, Some(to))?;
@@ -327,7 +329,7 @@ impl<'a, R: Machine> Walk<'a, R> {
         &mut self,
         slot: &mut S,
         below: &str,
-        facts: Facts,
+        facts: ItemFacts,
     ) -> Result<(), Trouble> {
         if self.are_same(slot, below, facts)? {
             return Ok(());
@@ -340,7 +342,7 @@ impl<'a, R: Machine> Walk<'a, R> {
         &mut self,
         slot: &mut S,
         below: &str,
-        facts: Facts,
+        facts: ItemFacts,
     ) -> Result<bool, Trouble> {
         let downloading = self.downloaded(slot, below, facts, None)?;
         is_same(self.rt, self.mirror, below, downloading.came())
@@ -379,13 +381,13 @@ impl<'a, R: Machine> Walk<'a, R> {
         let rules = self.mirror.rules;
         let source = self.source(slot, "")?;
         self.change(slot, Change::MakeDir, "")?;
-        let nothing = Listing::Whole(Vec::new(self.alloc));
+        let nothing = DirectoryListing::Whole(Vec::new(self.alloc));
         self.action_queue.plan(rules, "", &source, &nothing)
     }
 
     /// Goes into a directory of the target that is made just now, in which nothing stands.
     fn descend_new<S: ClientSession>(&mut self, slot: &mut S, below: &str) -> Result<(), Trouble> {
-        let nothing = Listing::Whole(Vec::new(self.alloc));
+        let nothing = DirectoryListing::Whole(Vec::new(self.alloc));
         self.descend(slot, below, &nothing)
     }
 
@@ -394,10 +396,10 @@ impl<'a, R: Machine> Walk<'a, R> {
         &self,
         slot: &mut S,
         below: &str,
-    ) -> Result<Listing<Global>, Trouble> {
+    ) -> Result<DirectoryListing<Global>, Trouble> {
         match self.mirror.rules.way {
-            Way::Down => self.listed_from(slot, below, Way::Up),
-            Way::Up => self.listed_from(slot, below, Way::Down),
+            CopyDirection::Down => self.listed_from(slot, below, CopyDirection::Up),
+            CopyDirection::Up => self.listed_from(slot, below, CopyDirection::Down),
         }
     }
 
@@ -406,7 +408,7 @@ impl<'a, R: Machine> Walk<'a, R> {
         &mut self,
         slot: &mut S,
         below: &str,
-        target: &Listing<Global>,
+        target: &DirectoryListing<Global>,
     ) -> Result<(), Trouble> {
         let rules = self.mirror.rules;
         let source = self.source(slot, below)?;
@@ -418,12 +420,12 @@ impl<'a, R: Machine> Walk<'a, R> {
         &self,
         slot: &mut S,
         below: &str,
-        way: Way,
-    ) -> Result<Listing<Global>, Trouble> {
+        way: CopyDirection,
+    ) -> Result<DirectoryListing<Global>, Trouble> {
         let mirror = self.mirror;
         match way {
-            Way::Down => entries_there(self.alloc, slot, mirror, below),
-            Way::Up => {
+            CopyDirection::Down => entries_there(self.alloc, slot, mirror, below),
+            CopyDirection::Up => {
                 let folder = mirror.folder;
                 Ok(entries_here(self.rt, self.alloc, folder, below, mirror.excluded)?)
             }
@@ -454,8 +456,8 @@ impl<'a, R: Machine> Walk<'a, R> {
         below: &str,
     ) -> Result<(), Trouble> {
         match self.mirror.rules.way {
-            Way::Down => self.rt.change_below(change, self.mirror.folder, below)?,
-            Way::Up => change_there(self.alloc, slot, self.mirror, change, below)?,
+            CopyDirection::Down => self.rt.change_below(change, self.mirror.folder, below)?,
+            CopyDirection::Up => change_there(self.alloc, slot, self.mirror, change, below)?,
         }
         self.tally.add_change(change);
         Ok(())
@@ -467,8 +469,8 @@ impl<'a, R: Machine> Walk<'a, R> {
             return Ok(false);
         }
         match self.mirror.actions {
-            Actions::Json => self.tell_json(what, below)?,
-            Actions::Words => {
+            ActionOutput::Json => self.tell_json(what, below)?,
+            ActionOutput::Words => {
                 let name = shown(self.alloc, below)?;
                 self.rt.tell_would(what, name.as_str())?;
             }
@@ -478,7 +480,7 @@ impl<'a, R: Machine> Walk<'a, R> {
 
     /// Tells what was done, where each action is told; where that fails, it counts as a failure.
     pub(crate) fn tell_done(&mut self, what: &str, below: &str) {
-        if matches!(self.mirror.actions, Actions::Json) {
+        if matches!(self.mirror.actions, ActionOutput::Json) {
             if let Err(trouble) = self.tell_json(what, below) {
                 self.fail(below, trouble);
             }
@@ -503,14 +505,14 @@ impl<'a, R: Machine> Walk<'a, R> {
 }
 
 /// Whether a download of the file at this path was cut off, and goes on in its turn.
-fn is_cut_at<'a, R: Machine>(cut: &Option<Cut<'a, R>>, below: &str) -> bool {
+fn is_cut_at<'a, R: LocalMachine>(cut: &Option<Cut<'a, R>>, below: &str) -> bool {
     match cut {
         Some(cut) => cut.is_of(below),
         None => false,
     }
 }
 
-impl<'a, R: Machine> SessionTask<Result<Answer<Global>, SessionFault>> for Walk<'a, R> {
+impl<'a, R: LocalMachine> SessionTask<Result<Answer<Global>, SessionFault>> for MirrorWalk<'a, R> {
     fn play<S: ClientSession>(&mut self, slot: &mut S) -> Result<Answer<Global>, SessionFault> {
         self.begin();
         for _ in 0..u64::MAX {

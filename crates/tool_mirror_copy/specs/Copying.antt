@@ -1,10 +1,10 @@
 -- What a mirror asks of a file that LIST tells (RFC 959, section 4.1.3, leaves the form of its lines open), and how it sends one (own choice).
 use Rattle.std.specs.Prelude.{ℕ, Bool, true, false, Option, Some, None, nat_lt}
-use Rattle.tool_mirror_plan.specs.declared.actions.Way.{Way}
-use Rattle.tool_mirror_plan.specs.declared.actions.Way.TheVariants as Ways
+use Rattle.tool_mirror_plan.specs.declared.actions.CopyDirection.{CopyDirection}
+use Rattle.tool_mirror_plan.specs.declared.actions.CopyDirection.TheVariants as Ways
 
 -- the moment of a file is asked for: where the file may be fetched, since of it LIST tells the day at most, and else where LIST tells none
-abbrev pub asks_moment : Way → Option ℕ → Bool
+abbrev pub asks_moment : CopyDirection → Option ℕ → Bool
 asks_moment Ways.Down moment = true
 asks_moment Ways.Up None = true
 asks_moment Ways.Up (Some moment) = false

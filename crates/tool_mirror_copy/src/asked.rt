@@ -3,10 +3,10 @@ use ftp_facts::Text;
 use ftp_operation::How;
 use std::alloc::{AllocError, Global};
 use tool_files::Flush;
-use tool_mirror_plan::Rules;
-use tool_session::{Openings, ServerAddress};
 use tool_location::joined;
 use tool_login::User;
+use tool_mirror_plan::Rules;
+use tool_session::{Openings, ServerAddress};
 
 /// What is done of what is planned.
 #[derive(Clone, Copy)]
@@ -19,7 +19,7 @@ pub enum Doing {
 
 /// What of the actions goes to standard output.
 #[derive(Clone, Copy)]
-pub enum Actions {
+pub enum ActionOutput {
     /// Where nothing is done, what would be, in words.
     Words,
     /// An object of JSON for each that is done, or would be.
@@ -28,7 +28,7 @@ pub enum Actions {
 
 /// What is mirrored, and how.
 #[derive(Clone, Copy)]
-pub struct Mirror<'a> {
+pub struct MirrorRequest<'a> {
     pub server: ServerAddress<'a>,
     pub user: User<'a>,
     /// The directory of the server.
@@ -46,12 +46,12 @@ pub struct Mirror<'a> {
     /// The most octets of a file, which is held in memory.
     pub limit: u64,
     pub doing: Doing,
-    pub actions: Actions,
+    pub actions: ActionOutput,
     /// When it began, in seconds from the beginning of 1970, by this machine's clock: nothing was listed before.
     pub begun: u64,
 }
 
-impl<'a> Mirror<'a> {
+impl<'a> MirrorRequest<'a> {
     /// The path at the server of what is called `below` in the tree.
     pub fn there(&self, alloc: Global, below: &str) -> Result<String<Global>, AllocError> {
         joined(alloc, self.path, below)

@@ -1,5 +1,5 @@
 // What changes the target beside the octets of files.
-use crate::asked::Mirror;
+use crate::asked::MirrorRequest;
 use crate::server::done_by;
 use crate::trouble::Trouble;
 use ftp_facts::Text;
@@ -29,7 +29,7 @@ fn op_of(change: Change, path: Text<Global>) -> Op<Text<Global>> {
 pub fn change_there<S: ClientSession>(
     alloc: Global,
     slot: &mut S,
-    mirror: &Mirror<'_>,
+    mirror: &MirrorRequest<'_>,
     change: Change,
     below: &str,
 ) -> Result<(), Trouble> {

@@ -1,5 +1,5 @@
 // One file that is copied to this machine.
-use crate::asked::Mirror;
+use crate::asked::MirrorRequest;
 use crate::folder::facts_here;
 use crate::telling::shown;
 use crate::trouble::Trouble;
@@ -7,17 +7,17 @@ use ftp_facts::Moment;
 use ftp_operation::{Answer, Op};
 use std::alloc::{AllocError, Global};
 use std::io::Eprint;
-use tool_files::{LocalFiles, Places, Reading};
-use tool_listing::Facts;
-use tool_resume::{Arrival, Came, Downloading, Stamp};
+use tool_files::{LimitedContent, LocalFiles, Places};
+use tool_listing::ItemFacts;
+use tool_resume::{Arrival, Downloading, KnownMoment, ReceivedOctets};
 use tool_session::{ClientSession, Request};
 
 /// Moves the part of a file that came over its name here, last changed at the moment that the server told last of it. Gives how many octets it has.
 pub fn leave<R: Places + LocalFiles + Eprint>(
     rt: &R,
-    mirror: &Mirror<'_>,
+    mirror: &MirrorRequest<'_>,
     below: &str,
-    facts: Facts,
+    facts: ItemFacts,
     downloading: &Downloading<'_, R>,
 ) -> Result<u64, Trouble> {
     let moment = match downloading.moment() {
@@ -41,7 +41,7 @@ pub fn leave<R: Places + LocalFiles + Eprint>(
 /// Removes the part of a file that is to be here, where it has one.
 pub fn discard<R: Places + LocalFiles + Eprint>(
     rt: &R,
-    mirror: &Mirror<'_>,
+    mirror: &MirrorRequest<'_>,
     below: &str,
     downloading: &Downloading<'_, R>,
 ) {
@@ -51,7 +51,7 @@ pub fn discard<R: Places + LocalFiles + Eprint>(
 }
 
 /// The moment of a file, where it is known.
-pub fn moment_of(facts: Facts) -> Option<Moment> {
+pub fn moment_of(facts: ItemFacts) -> Option<Moment> {
     Moment::new(facts.moment?)
 }
 
@@ -60,16 +60,16 @@ pub fn moment_of(facts: Facts) -> Option<Moment> {
 pub fn begun<'a, R: Places + LocalFiles + Eprint>(
     rt: &'a R,
     alloc: Global,
-    mirror: &Mirror<'a>,
+    mirror: &MirrorRequest<'a>,
     below: &str,
-    facts: Facts,
+    facts: ItemFacts,
     limit: u64,
     to: Option<&str>,
 ) -> Result<Downloading<'a, R>, Trouble> {
     let there = mirror.there(alloc, below)?;
     let mut downloading = Downloading::new(rt, alloc, there.as_str(), mirror.how, mirror.openings)?;
     name(&mut downloading, alloc, below)?;
-    downloading.put_terms(limit, Stamp::Untold);
+    downloading.put_terms(limit, KnownMoment::Untold);
     if let Some(to) = to {
         downloading.pour_into(rt.begin_below(mirror.folder, to)?);
     }
@@ -90,7 +90,7 @@ fn name<R: LocalFiles + Eprint>(
 /// A download is of a file that is listed so, at this second or later.
 fn expect<R: LocalFiles + Eprint>(
     downloading: &mut Downloading<'_, R>,
-    facts: Facts,
+    facts: ItemFacts,
     asked_at: u64,
 ) {
     if let (Some(size), Some(moment)) = (facts.size, moment_of(facts)) {
@@ -137,9 +137,9 @@ pub fn is_current<R, S>(
     rt: &R,
     alloc: Global,
     slot: &mut S,
-    mirror: &Mirror<'_>,
+    mirror: &MirrorRequest<'_>,
     below: &str,
-    facts: Facts,
+    facts: ItemFacts,
 ) -> Result<bool, Trouble>
 where
     R: Places,
@@ -161,12 +161,12 @@ where
 /// Whether a file here has the octets that came.
 pub fn is_same<R: Places>(
     rt: &R,
-    mirror: &Mirror<'_>,
+    mirror: &MirrorRequest<'_>,
     below: &str,
-    came: &Came,
+    came: &ReceivedOctets,
 ) -> Result<bool, Trouble> {
     match rt.read_below(mirror.folder, below, came.count())? {
-        Reading::Content(content) => Ok(came.is(content.octets.as_slice())),
-        Reading::TooLarge(_) => Ok(false),
+        LimitedContent::Content(content) => Ok(came.is(content.octets.as_slice())),
+        LimitedContent::TooLarge(_) => Ok(false),
     }
 }

@@ -4,8 +4,8 @@ use std::alloc::{AllocError, Global};
 use std::fs::Metadata;
 use std::io;
 use std::os::unix::fs::MetadataExt;
-use tool_files::{Finding, Places, Sightings};
-use tool_listing::{Facts, Item, Kind, Listing, is_excluded};
+use tool_files::{DirectoryEntry, Places, Sightings};
+use tool_listing::{DirectoryListing, ItemFacts, ItemKind, ListedItem, is_excluded};
 use tool_session::MOST_ENTRIES;
 
 /// The entries of the directory `below` a folder. Links are not followed.
@@ -15,24 +15,24 @@ pub fn entries_here<R: Places>(
     folder: &str,
     below: &str,
     excluded: &[&str],
-) -> io::Result<Listing<Global>> {
+) -> io::Result<DirectoryListing<Global>> {
     match rt.sightings(folder, below, MOST_ENTRIES)? {
         Sightings::All(all) => Ok(items_of(alloc, all.as_slice(), below, excluded)?),
-        Sightings::TooMany => Ok(Listing::CutOff),
+        Sightings::TooMany => Ok(DirectoryListing::CutOff),
     }
 }
 
 fn items_of(
     alloc: Global,
-    all: &[Finding],
+    all: &[DirectoryEntry],
     below: &str,
     excluded: &[&str],
-) -> Result<Listing<Global>, AllocError> {
+) -> Result<DirectoryListing<Global>, AllocError> {
     let mut items = Vec::new(alloc);
     for finding in all {
         let kind = match &finding.found {
             Some(found) => kind_of(found),
-            None => Kind::Other,
+            None => ItemKind::Other,
         };
         put_item(
             alloc,
@@ -43,15 +43,15 @@ fn items_of(
             excluded,
         )?;
     }
-    Ok(Listing::Whole(items))
+    Ok(DirectoryListing::Whole(items))
 }
 
 /// Puts an entry of this name and this kind, unless it is left alone.
 pub(crate) fn put_item(
     alloc: Global,
-    items: &mut Vec<Item<Global>, Global>,
+    items: &mut Vec<ListedItem<Global>, Global>,
     name: &[u8],
-    kind: Kind,
+    kind: ItemKind,
     below: &str,
     excluded: &[&str],
 ) -> Result<(), AllocError> {
@@ -62,35 +62,35 @@ pub(crate) fn put_item(
     }
     path.extend_from_slice(name)?;
     let kind = if is_excluded(excluded, path.as_slice(), name) {
-        Kind::Excluded
+        ItemKind::Excluded
     } else {
         kind
     };
     let name = Text::copy_of(alloc, name)?;
-    items.push(Item { name, kind })?;
+    items.push(ListedItem { name, kind })?;
     Ok(())
 }
 
 /// What is known of the file `below` a folder; none where no file stands there, or the system tells nothing of it.
-pub fn facts_here<R: Places>(rt: &R, folder: &str, below: &str) -> Option<Facts> {
+pub fn facts_here<R: Places>(rt: &R, folder: &str, below: &str) -> Option<ItemFacts> {
     match rt.found(folder, below) {
         Ok(Some(found)) => match kind_of(&found) {
-            Kind::File(facts) => Some(facts),
-            Kind::Dir | Kind::Other | Kind::Excluded | Kind::Odd => None,
+            ItemKind::File(facts) => Some(facts),
+            ItemKind::Dir | ItemKind::Other | ItemKind::Excluded | ItemKind::Odd => None,
         },
         Ok(None) | Err(_) => None,
     }
 }
 
-fn kind_of(found: &Metadata) -> Kind {
+fn kind_of(found: &Metadata) -> ItemKind {
     if found.is_dir() {
-        Kind::Dir
+        ItemKind::Dir
     } else if found.is_file() {
-        Kind::File(Facts {
+        ItemKind::File(ItemFacts {
             size: Some(found.len()),
             moment: u64::try_from(found.mtime()).ok(),
         })
     } else {
-        Kind::Other
+        ItemKind::Other
     }
 }

@@ -13,7 +13,7 @@ mod telling;
 mod told;
 mod trouble;
 
-pub use asked::{Actions, Doing, Mirror};
+pub use asked::{ActionOutput, Doing, MirrorRequest};
 pub use changing::{change_there, word_of};
 pub use copying::{begun, discard, download, is_current, is_same, leave, moment_of};
 pub use folder::{entries_here, facts_here};

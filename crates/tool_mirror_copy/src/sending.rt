@@ -2,7 +2,7 @@
 ghost use Rattle.std.specs.Prelude.{◌≡◌};
 ghost use Rattle.tool_mirror_copy.specs.Copying.{is_drawn};
 
-use crate::asked::Mirror;
+use crate::asked::MirrorRequest;
 use crate::telling::shown;
 use crate::trouble::Trouble;
 use ftp_facts::Text;
@@ -10,8 +10,8 @@ use ftp_operation::{Answer, Op};
 use std::alloc::{AllocError, Global};
 use std::io;
 use std::io::Eprint;
-use tool_files::{Content, LocalFiles, OpenBelow, Places, Reading};
-use tool_resume::{Sending, Source, Uploading, Wrong, limit_held};
+use tool_files::{FileContent, LimitedContent, LocalFiles, OpenBelow, Places};
+use tool_resume::{Sending, UploadSource, Uploading, Wrong, limit_held};
 use tool_session::{ClientSession, Request, Ticket};
 
 /// The most octets of a file that is held in memory although it could be read as it goes: no more than are held of such a one anyway.
@@ -38,7 +38,7 @@ pub fn copy_up<R, S>(
     rt: &R,
     alloc: Global,
     slot: &mut S,
-    mirror: &Mirror<'_>,
+    mirror: &MirrorRequest<'_>,
     file: Upward<'_>,
     is_blind: &mut bool,
 ) -> Result<u64, Trouble>
@@ -71,7 +71,7 @@ fn copy_drawn<R, S>(
     rt: &R,
     alloc: Global,
     slot: &mut S,
-    mirror: &Mirror<'_>,
+    mirror: &MirrorRequest<'_>,
     (opened, file): (OpenBelow, Upward<'_>),
     is_blind: &mut bool,
 ) -> Result<u64, Trouble>
@@ -86,7 +86,7 @@ where
     }
     let there = mirror.there(alloc, file.to)?;
     let head = note_head(alloc, file.to)?;
-    let source = Source::file(path.as_str(), source);
+    let source = UploadSource::file(path.as_str(), source);
     let mut uploading = Uploading::new(
         rt,
         alloc,
@@ -117,7 +117,7 @@ pub fn foresee_drawn<R, S>(
     rt: &R,
     alloc: Global,
     slot: &mut S,
-    mirror: &Mirror<'_>,
+    mirror: &MirrorRequest<'_>,
     below: &str,
 ) -> Result<Option<Ticket>, Trouble>
 where
@@ -167,13 +167,13 @@ fn sent(
 /// The octets of a file here.
 pub fn octets_of<R: Places>(
     rt: &R,
-    mirror: &Mirror<'_>,
+    mirror: &MirrorRequest<'_>,
     below: &str,
 ) -> Result<Text<Global>, Trouble> {
     let limit = limit_held(mirror.limit);
     match rt.read_below(mirror.folder, below, limit)? {
-        Reading::Content(Content { octets, changed: _ }) => Ok(Text::from_vec(octets)),
-        Reading::TooLarge(size) => Err(Trouble::TooLarge(size, limit)),
+        LimitedContent::Content(FileContent { octets, changed: _ }) => Ok(Text::from_vec(octets)),
+        LimitedContent::TooLarge(size) => Err(Trouble::TooLarge(size, limit)),
     }
 }
 
@@ -183,7 +183,7 @@ fn uploaded<R, S>(
     rt: &R,
     alloc: Global,
     slot: &mut S,
-    mirror: &Mirror<'_>,
+    mirror: &MirrorRequest<'_>,
     below: &str,
     to: &str,
 ) -> Result<u64, Trouble>
@@ -206,7 +206,7 @@ fn upload<R, S>(
     rt: &R,
     alloc: Global,
     slot: &mut S,
-    mirror: &Mirror<'_>,
+    mirror: &MirrorRequest<'_>,
     below: &str,
     to: &str,
 ) -> Result<(Answer<Global>, u64), Trouble>
@@ -235,7 +235,7 @@ fn done(answer: &Answer<Global>, count: u64) -> Result<u64, Trouble> {
 /// A question for the size of a file of the server (RFC 3659, section 4).
 pub fn size_request(
     alloc: Global,
-    mirror: &Mirror<'_>,
+    mirror: &MirrorRequest<'_>,
     below: &str,
 ) -> Result<Request, AllocError> {
     let path = mirror.path(alloc, below)?;

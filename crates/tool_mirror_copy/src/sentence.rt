@@ -2,7 +2,7 @@
 use crate::trouble::Trouble;
 use std::fmt;
 use std::fmt::{Display, Formatter};
-use tool_mirror_plan::Reason;
+use tool_mirror_plan::RefusalReason;
 
 /// A sentence with up to two numbers.
 #[derive(Clone, Copy)]
@@ -25,9 +25,9 @@ impl Display for Sentence {
 }
 
 /// Why an entry is refused.
-pub fn reason_told(reason: Reason) -> Sentence {
+pub fn reason_told(reason: RefusalReason) -> Sentence {
     match reason {
-        Reason::Emptied(count) => Sentence::Around(
+        RefusalReason::Emptied(count) => Sentence::Around(
             "the source lists nothing there, and ",
             count as u64,
             " entries of the target would be removed; nothing is, without --delete-any",

@@ -1,13 +1,13 @@
 // What stands in a directory of a server, and what is asked of it.
-use crate::asked::Mirror;
+use crate::asked::MirrorRequest;
 use crate::told::told_there;
 use crate::trouble::Trouble;
 use ftp_facts::Text;
 use ftp_operation::{Answer, Op};
 use ftp_reply::code::{NOT_IMPLEMENTED, UNAVAILABLE, UNKNOWN};
 use std::alloc::{AllocError, Global};
-use tool_listing::Listing;
-use tool_session::{ClientSession, Ending, Request};
+use tool_listing::DirectoryListing;
+use tool_session::{ClientSession, DataEnding, Request};
 
 /// Asks a server to do something that has no other answer than that it is done.
 pub fn done_by<S: ClientSession>(slot: &mut S, op: Op<Text<Global>>) -> Result<(), Trouble> {
@@ -21,7 +21,7 @@ pub fn done_by<S: ClientSession>(slot: &mut S, op: Op<Text<Global>>) -> Result<(
 pub fn stands_there<S: ClientSession>(
     alloc: Global,
     slot: &mut S,
-    mirror: &Mirror<'_>,
+    mirror: &MirrorRequest<'_>,
     below: &str,
     is_dir: bool,
 ) -> Result<bool, Trouble> {
@@ -42,7 +42,7 @@ pub fn stands_there<S: ClientSession>(
 pub fn check_dir<S: ClientSession>(
     alloc: Global,
     slot: &mut S,
-    mirror: &Mirror<'_>,
+    mirror: &MirrorRequest<'_>,
 ) -> Result<(), Trouble> {
     let here = match &slot.answer(Request::One(Some(Op::Where))) {
         Answer::Path(here) => Text::copy_of(alloc, here.as_slice())?,
@@ -62,7 +62,7 @@ fn says_unknown(answer: &Answer<Global>) -> bool {
 fn file_stands_there<S: ClientSession>(
     alloc: Global,
     slot: &mut S,
-    mirror: &Mirror<'_>,
+    mirror: &MirrorRequest<'_>,
     below: &str,
 ) -> Result<bool, Trouble> {
     let path = mirror.path(alloc, below)?;
@@ -77,12 +77,12 @@ fn file_stands_there<S: ClientSession>(
 pub fn entries_there<S: ClientSession>(
     alloc: Global,
     slot: &mut S,
-    mirror: &Mirror<'_>,
+    mirror: &MirrorRequest<'_>,
     below: &str,
-) -> Result<Listing<Global>, Trouble> {
+) -> Result<DirectoryListing<Global>, Trouble> {
     let answer = listed(alloc, slot, mirror, below)?;
-    if slot.ending() == Ending::PastLimit {
-        return Ok(Listing::CutOff);
+    if slot.ending() == DataEnding::PastLimit {
+        return Ok(DirectoryListing::CutOff);
     }
     match &answer {
         Answer::Octets(text) => told_there(alloc, slot, mirror, below, text.as_slice()),
@@ -97,7 +97,7 @@ pub fn entries_there<S: ClientSession>(
 fn listed<S: ClientSession>(
     alloc: Global,
     slot: &mut S,
-    mirror: &Mirror<'_>,
+    mirror: &MirrorRequest<'_>,
     below: &str,
 ) -> Result<Answer<Global>, AllocError> {
     let answer = opened(alloc, slot, mirror, below)?;
@@ -112,7 +112,7 @@ fn listed<S: ClientSession>(
 fn opened<S: ClientSession>(
     alloc: Global,
     slot: &mut S,
-    mirror: &Mirror<'_>,
+    mirror: &MirrorRequest<'_>,
     below: &str,
 ) -> Result<Answer<Global>, AllocError> {
     let opened = slot.opened();
@@ -127,7 +127,7 @@ fn opened<S: ClientSession>(
 /// What asks for the entries of a directory.
 pub fn listing_request(
     alloc: Global,
-    mirror: &Mirror<'_>,
+    mirror: &MirrorRequest<'_>,
     below: &str,
 ) -> Result<Request, AllocError> {
     let path = mirror.path(alloc, below)?;

@@ -2,26 +2,28 @@
 ghost use Rattle.std.specs.Prelude.{◌≡◌};
 ghost use Rattle.tool_mirror_copy.specs.Copying.{asks_moment};
 
-use crate::asked::Mirror;
+use crate::asked::MirrorRequest;
 use crate::folder::put_item;
 use crate::trouble::Trouble;
 use ftp_facts::Text;
 use ftp_operation::{Answer, ListVerb, Op};
 use std::alloc::{AllocError, Global};
-use tool_listing::{Facts, Item, Kind, Listing, is_name, items_of_columns, items_of_facts};
-use tool_mirror_plan::Way;
-use tool_session::{ClientSession, MOST_ENTRIES, Request};
+use tool_listing::{
+    DirectoryListing, ItemFacts, ItemKind, ListedItem, is_name, items_of_columns, items_of_facts,
+};
 use tool_location::joined;
+use tool_mirror_plan::CopyDirection;
+use tool_session::{ClientSession, MOST_ENTRIES, Request};
 
 /// What stands in a directory, which is called `below` in the tree, by this text. Of a file that LIST tells its size and its moment are asked for, where LIST
 /// does not tell them well enough.
 pub(crate) fn told_there<S: ClientSession>(
     alloc: Global,
     slot: &mut S,
-    mirror: &Mirror<'_>,
+    mirror: &MirrorRequest<'_>,
     below: &str,
     text: &[u8],
-) -> Result<Listing<Global>, Trouble> {
+) -> Result<DirectoryListing<Global>, Trouble> {
     let is_columns = matches!(mirror.openings.list_verb(), ListVerb::List);
     let told = if is_columns {
         items_of_columns(alloc, text)?
@@ -29,22 +31,22 @@ pub(crate) fn told_there<S: ClientSession>(
         items_of_facts(alloc, text)?
     };
     if told.len() >= MOST_ENTRIES {
-        return Ok(Listing::CutOff);
+        return Ok(DirectoryListing::CutOff);
     }
     let mut items = kept(alloc, mirror, below, told.as_slice())?;
     if is_columns {
         ask_facts(alloc, slot, mirror, below, &mut items)?;
     }
-    Ok(Listing::Whole(items))
+    Ok(DirectoryListing::Whole(items))
 }
 
 /// The items, of which some are left alone.
 fn kept(
     alloc: Global,
-    mirror: &Mirror<'_>,
+    mirror: &MirrorRequest<'_>,
     below: &str,
-    told: &[Item<Global>],
-) -> Result<Vec<Item<Global>, Global>, AllocError> {
+    told: &[ListedItem<Global>],
+) -> Result<Vec<ListedItem<Global>, Global>, AllocError> {
     let mut items = Vec::new(alloc);
     for item in told {
         put_item(
@@ -63,9 +65,9 @@ fn kept(
 fn ask_facts<S: ClientSession>(
     alloc: Global,
     slot: &mut S,
-    mirror: &Mirror<'_>,
+    mirror: &MirrorRequest<'_>,
     below: &str,
-    items: &mut Vec<Item<Global>, Global>,
+    items: &mut Vec<ListedItem<Global>, Global>,
 ) -> Result<(), Trouble> {
     for place in 0..items.len() {
         let (_, coming) = items.as_slice().split_at(place.min(items.len()));
@@ -73,8 +75,8 @@ fn ask_facts<S: ClientSession>(
         let Some(item) = items.get_mut(place) else {
             return Ok(());
         };
-        if let Kind::File(facts) = item.kind {
-            item.kind = Kind::File(facts_asked(alloc, slot, mirror, below, item, facts)?);
+        if let ItemKind::File(facts) = item.kind {
+            item.kind = ItemKind::File(facts_asked(alloc, slot, mirror, below, item, facts)?);
         }
     }
     Ok(())
@@ -84,12 +86,12 @@ fn ask_facts<S: ClientSession>(
 fn foresee_moments<S: ClientSession>(
     alloc: Global,
     slot: &mut S,
-    mirror: &Mirror<'_>,
+    mirror: &MirrorRequest<'_>,
     below: &str,
-    coming: &[Item<Global>],
+    coming: &[ListedItem<Global>],
 ) -> Result<(), AllocError> {
     for item in coming.iter().take(slot.ahead()) {
-        let Kind::File(facts) = item.kind else {
+        let ItemKind::File(facts) = item.kind else {
             continue;
         };
         let (Some(name), true) = (
@@ -108,7 +110,7 @@ fn foresee_moments<S: ClientSession>(
 }
 
 /// The name of a file of which more may be asked.
-fn asked_name(item: &Item<Global>) -> Option<&str> {
+fn asked_name(item: &ListedItem<Global>) -> Option<&str> {
     match std::str::from_utf8(item.name.as_slice()) {
         Ok(name) if is_name(name.as_bytes()) => Some(name),
         _ => None,
@@ -116,12 +118,12 @@ fn asked_name(item: &Item<Global>) -> Option<&str> {
 }
 
 /// Whether a file's moment is asked for: where LIST does not tell it, and where the file may be fetched, since of a moment LIST tells the day at most.
-fn asks_moment(way: Way, moment: Option<u64>) -> bool
+fn asks_moment(way: CopyDirection, moment: Option<u64>) -> bool
     ensures { result ≡ asks_moment way moment }
 {
     match way {
-        Way::Down => true,
-        Way::Up => moment.is_none(),
+        CopyDirection::Down => true,
+        CopyDirection::Up => moment.is_none(),
     }
 }
 
@@ -129,11 +131,11 @@ fn asks_moment(way: Way, moment: Option<u64>) -> bool
 fn facts_asked<S: ClientSession>(
     alloc: Global,
     slot: &mut S,
-    mirror: &Mirror<'_>,
+    mirror: &MirrorRequest<'_>,
     below: &str,
-    item: &Item<Global>,
-    facts: Facts,
-) -> Result<Facts, Trouble> {
+    item: &ListedItem<Global>,
+    facts: ItemFacts,
+) -> Result<ItemFacts, Trouble> {
     let Some(name) = asked_name(item) else {
         return Ok(facts);
     };
@@ -143,19 +145,19 @@ fn facts_asked<S: ClientSession>(
         None => size_asked(slot, mirror, mirror.path(alloc, below.as_str())?)?,
     };
     if !asks_moment(mirror.rules.way, facts.moment) {
-        return Ok(Facts { size, ..facts });
+        return Ok(ItemFacts { size, ..facts });
     }
     let moment = match moment_asked(slot, mirror.path(alloc, below.as_str())?)? {
         Some(moment) => Some(moment),
         None => facts.moment,
     };
-    Ok(Facts { size, moment })
+    Ok(ItemFacts { size, moment })
 }
 
 /// The size of a file, where the server tells it.
 fn size_asked<S: ClientSession>(
     slot: &mut S,
-    mirror: &Mirror<'_>,
+    mirror: &MirrorRequest<'_>,
     path: Text<Global>,
 ) -> Result<Option<u64>, Trouble> {
     match &slot.answer(Request::One(Some(Op::Size(path, mirror.how)))) {

@@ -1,18 +1,18 @@
 -- Worked rows of mirrors. Each is a theorem that computes.
 use Rattle.std.specs.Prelude.{◌≡◌, ℕ, List, [], ◌∷◌, Some, None, codes}
-use Rattle.tool_listing.specs.declared.entries.item.Kind.{Kind}
-use Rattle.tool_listing.specs.declared.entries.item.Kind.TheVariants as Kinds
-use Rattle.tool_listing.specs.declared.entries.item.Facts.{Facts}
-use Rattle.tool_listing.specs.declared.entries.item.Item.{Item}
-use Rattle.tool_listing.specs.declared.entries.item.Listing.TheVariants as Listings
-use Rattle.tool_mirror_plan.specs.declared.actions.Way.TheVariants as Ways
+use Rattle.tool_listing.specs.declared.entries.item.ItemKind.{ItemKind}
+use Rattle.tool_listing.specs.declared.entries.item.ItemKind.TheVariants as Kinds
+use Rattle.tool_listing.specs.declared.entries.item.ItemFacts.{ItemFacts}
+use Rattle.tool_listing.specs.declared.entries.item.ListedItem.{ListedItem}
+use Rattle.tool_listing.specs.declared.entries.item.DirectoryListing.TheVariants as Listings
+use Rattle.tool_mirror_plan.specs.declared.actions.CopyDirection.TheVariants as Ways
 use Rattle.tool_mirror_plan.specs.declared.actions.Check.TheVariants as Checks
 use Rattle.tool_mirror_plan.specs.declared.actions.Extra.TheVariants as Extras
 use Rattle.tool_mirror_plan.specs.declared.actions.Rules.{Rules}
-use Rattle.tool_mirror_plan.specs.declared.actions.Reason.TheVariants as Reasons
+use Rattle.tool_mirror_plan.specs.declared.actions.RefusalReason.TheVariants as Reasons
 use Rattle.tool_mirror_plan.specs.declared.actions.Action.{Action}
 use Rattle.tool_mirror_plan.specs.declared.actions.Action.TheVariants as Does
-use Rattle.tool_mirror_plan.specs.declared.planning.Step.{Step}
+use Rattle.tool_mirror_plan.specs.declared.planning.PlanStep.{PlanStep}
 use Rattle.tool_mirror_plan.specs.Plan.{plan, refused, whole_plan}
 
 -- from a server, to a server, from one with octets compared; the last two remove what the target has alone, the last however much it is
@@ -32,24 +32,24 @@ abbrev pub down_any : Rules
 down_any = record { way = Ways.Down; check = Checks.ByFacts; extra = Extras.Any }
 
 -- a file of a size, changed last at a moment
-abbrev pub facts : ℕ → ℕ → Facts
+abbrev pub facts : ℕ → ℕ → ItemFacts
 facts size moment = record { size = Some size; moment = Some moment }
 
 -- one of which a server tells neither
-abbrev pub untold : Facts
+abbrev pub untold : ItemFacts
 untold = record { size = None; moment = None }
 
 -- an entry, and a step, of the name `a`; with another name
-abbrev pub item : List ℕ → Kind → Item ℕ
+abbrev pub item : List ℕ → ItemKind → ListedItem ℕ
 item name kind = record { name = name; kind = kind }
 
-abbrev pub a : Kind → List (Item ℕ)
+abbrev pub a : ItemKind → List (ListedItem ℕ)
 a kind = item (codes "a") kind ∷ []
 
-abbrev pub step : List ℕ → Action → Step ℕ
+abbrev pub step : List ℕ → Action → PlanStep ℕ
 step name action = record { action = action; name = name }
 
-abbrev pub of_a : Action → List (Step ℕ)
+abbrev pub of_a : Action → List (PlanStep ℕ)
 of_a action = step (codes "a") action ∷ []
 
 -- files where nothing, or a file, stands

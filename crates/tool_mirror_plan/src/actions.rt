@@ -3,11 +3,11 @@ ghost use Rattle.std.specs.Prelude.{◌≡◌};
 ghost use Rattle.tool_mirror_plan.specs.Actions.{alone, actions_for, differ, differs, dir_onto, file_onto, file_onto_file, in_place, is_later, is_untold, may_remove, nameless, onto, onto_by_facts, onto_by_octets, removal, removal_for};
 
 use std::alloc::Global;
-use tool_listing::{Facts, Item, Kind, is_name};
+use tool_listing::{ItemFacts, ItemKind, ListedItem, is_name};
 
 /// Which way a tree is copied.
 #[derive(Clone, Copy)]
-pub enum Way {
+pub enum CopyDirection {
     /// From a server to this machine.
     Down,
     /// From this machine to a server.
@@ -36,14 +36,14 @@ pub enum Extra {
 /// How a tree is mirrored.
 #[derive(Clone, Copy)]
 pub struct Rules {
-    pub way: Way,
+    pub way: CopyDirection,
     pub check: Check,
     pub extra: Extra,
 }
 
 /// Why an entry is refused.
 #[derive(Clone, Copy)]
-pub enum Reason {
+pub enum RefusalReason {
     /// Its name is none of a single file.
     Name,
     /// A directory stands where a file is to be.
@@ -60,21 +60,24 @@ pub enum Reason {
     Emptied(usize),
 }
 
-impl Reason {
+impl RefusalReason {
     /// Why, as it is told behind the name.
     pub fn sentence(self) -> &'static str {
         match self {
-            Reason::Name => "the name is none of a single file; it is left out",
-            Reason::Directory => {
+            RefusalReason::Name => "the name is none of a single file; it is left out",
+            RefusalReason::Directory => {
                 "a directory stands where a file is to be, and stays without --delete"
             }
-            Reason::File => "a file stands where a directory is to be, and stays without --delete",
-            Reason::Neither => {
+            RefusalReason::File =>
+                "a file stands where a directory is to be, and stays without --delete",
+            RefusalReason::Neither => {
                 "what stands there is neither file nor directory, and stays without --delete"
             }
-            Reason::Odd => "a line of the listing is no entry; it is left out",
-            Reason::CutOff => "more than 1,000,000 entries are listed; nothing is done there",
-            Reason::Emptied(_) => "the source lists nothing there, and what the target has stays",
+            RefusalReason::Odd => "a line of the listing is no entry; it is left out",
+            RefusalReason::CutOff =>
+                "more than 1,000,000 entries are listed; nothing is done there",
+            RefusalReason::Emptied(_) =>
+                "the source lists nothing there, and what the target has stays",
         }
     }
 }
@@ -83,9 +86,9 @@ impl Reason {
 #[derive(Clone, Copy)]
 pub enum Action {
     /// The file is copied, of which this is known.
-    Copy(Facts),
+    Copy(ItemFacts),
     /// The file is copied where its octets are others.
-    Compare(Facts),
+    Compare(ItemFacts),
     /// The directory is made, and gone into.
     MakeDir,
     /// The directory is gone into.
@@ -95,7 +98,7 @@ pub enum Action {
     RemoveDir,
     /// What is neither file nor directory is left out.
     PassOver,
-    Refuse(Reason),
+    Refuse(RefusalReason),
 }
 
 /// What is done of a name, in its order.
@@ -107,7 +110,7 @@ pub enum Actions {
 }
 
 /// What is done of an entry of the source, where this stands under its name in the target.
-pub fn actions_for(rules: Rules, item: &Item<Global>, target: Option<Kind>) -> Actions
+pub fn actions_for(rules: Rules, item: &ListedItem<Global>, target: Option<ItemKind>) -> Actions
     ensures { result ≡ actions_for rules item.now target }
 {
     if is_name(item.name.as_slice()) {
@@ -118,70 +121,81 @@ pub fn actions_for(rules: Rules, item: &Item<Global>, target: Option<Kind>) -> A
 }
 
 /// Why an entry is refused whose name is none of a single file.
-fn nameless(kind: Kind) -> Reason
+fn nameless(kind: ItemKind) -> RefusalReason
     ensures { result ≡ nameless kind }
 {
     match kind {
-        Kind::Odd => Reason::Odd,
-        Kind::File(_) | Kind::Dir | Kind::Other | Kind::Excluded => Reason::Name,
+        ItemKind::Odd => RefusalReason::Odd,
+        ItemKind::File(_) | ItemKind::Dir | ItemKind::Other | ItemKind::Excluded =>
+            RefusalReason::Name,
     }
 }
 
-fn onto(rules: Rules, source: Kind, target: Option<Kind>) -> Actions
+fn onto(rules: Rules, source: ItemKind, target: Option<ItemKind>) -> Actions
     ensures { result ≡ onto rules source target }
 {
     match source {
-        Kind::File(facts) => file_onto(rules, facts, target),
-        Kind::Dir => dir_onto(rules, target),
-        Kind::Other => Actions::One(Action::PassOver),
-        Kind::Excluded => Actions::Nothing,
-        Kind::Odd => Actions::One(Action::Refuse(Reason::Odd)),
+        ItemKind::File(facts) => file_onto(rules, facts, target),
+        ItemKind::Dir => dir_onto(rules, target),
+        ItemKind::Other => Actions::One(Action::PassOver),
+        ItemKind::Excluded => Actions::Nothing,
+        ItemKind::Odd => Actions::One(Action::Refuse(RefusalReason::Odd)),
     }
 }
 
-fn file_onto(rules: Rules, source: Facts, target: Option<Kind>) -> Actions
+fn file_onto(rules: Rules, source: ItemFacts, target: Option<ItemKind>) -> Actions
     ensures { result ≡ file_onto rules source target }
 {
     let copy = Action::Copy(source);
     match target {
         None => Actions::One(copy),
-        Some(Kind::File(found)) => file_onto_file(rules.check, rules.way, source, found),
-        Some(Kind::Dir) => in_place(rules.extra, Action::RemoveDir, copy, Reason::Directory),
-        Some(Kind::Other) => in_place(rules.extra, Action::RemoveFile, copy, Reason::Neither),
-        Some(Kind::Excluded) => Actions::Nothing,
-        Some(Kind::Odd) => Actions::One(Action::Refuse(Reason::Odd)),
+        Some(ItemKind::File(found)) => file_onto_file(rules.check, rules.way, source, found),
+        Some(ItemKind::Dir) => in_place(
+            rules.extra,
+            Action::RemoveDir,
+            copy,
+            RefusalReason::Directory,
+        ),
+        Some(ItemKind::Other) => in_place(
+            rules.extra,
+            Action::RemoveFile,
+            copy,
+            RefusalReason::Neither,
+        ),
+        Some(ItemKind::Excluded) => Actions::Nothing,
+        Some(ItemKind::Odd) => Actions::One(Action::Refuse(RefusalReason::Odd)),
     }
 }
 
-fn dir_onto(rules: Rules, target: Option<Kind>) -> Actions
+fn dir_onto(rules: Rules, target: Option<ItemKind>) -> Actions
     ensures { result ≡ dir_onto rules target }
 {
     match target {
         None => Actions::One(Action::MakeDir),
-        Some(Kind::File(_)) => {
+        Some(ItemKind::File(_)) => {
             in_place(
                 rules.extra,
                 Action::RemoveFile,
                 Action::MakeDir,
-                Reason::File,
+                RefusalReason::File,
             )
         }
-        Some(Kind::Dir) => Actions::One(Action::Enter),
-        Some(Kind::Other) => {
+        Some(ItemKind::Dir) => Actions::One(Action::Enter),
+        Some(ItemKind::Other) => {
             in_place(
                 rules.extra,
                 Action::RemoveFile,
                 Action::MakeDir,
-                Reason::Neither,
+                RefusalReason::Neither,
             )
         }
-        Some(Kind::Excluded) => Actions::Nothing,
-        Some(Kind::Odd) => Actions::One(Action::Refuse(Reason::Odd)),
+        Some(ItemKind::Excluded) => Actions::Nothing,
+        Some(ItemKind::Odd) => Actions::One(Action::Refuse(RefusalReason::Odd)),
     }
 }
 
 /// In the place of something else.
-fn in_place(extra: Extra, removal: Action, action: Action, reason: Reason) -> Actions
+fn in_place(extra: Extra, removal: Action, action: Action, reason: RefusalReason) -> Actions
     ensures { result ≡ in_place extra removal action reason }
 {
     match extra {
@@ -190,7 +204,7 @@ fn in_place(extra: Extra, removal: Action, action: Action, reason: Reason) -> Ac
     }
 }
 
-fn file_onto_file(check: Check, way: Way, source: Facts, target: Facts) -> Actions
+fn file_onto_file(check: Check, way: CopyDirection, source: ItemFacts, target: ItemFacts) -> Actions
     ensures { result ≡ file_onto_file check way source target }
 {
     match check {
@@ -202,16 +216,16 @@ fn file_onto_file(check: Check, way: Way, source: Facts, target: Facts) -> Actio
 }
 
 /// Whether a file of the source is another than that of the target.
-fn differs(way: Way, source: Facts, target: Facts) -> bool
+fn differs(way: CopyDirection, source: ItemFacts, target: ItemFacts) -> bool
     ensures { result ≡ differs way source target }
 {
     match way {
-        Way::Down => {
+        CopyDirection::Down => {
             is_untold(source)
                 || differ(source.size, target.size)
                 || differ(source.moment, target.moment)
         }
-        Way::Up => {
+        CopyDirection::Up => {
             is_untold(target)
                 || differ(source.size, target.size)
                 || is_later(source.moment, target.moment)
@@ -240,14 +254,14 @@ fn is_later(one: Option<u64>, other: Option<u64>) -> bool
 }
 
 /// Whether neither size nor moment is known.
-fn is_untold(facts: Facts) -> bool
+fn is_untold(facts: ItemFacts) -> bool
     ensures { result ≡ is_untold facts.size facts.moment }
 {
     facts.size.is_none() && facts.moment.is_none()
 }
 
 /// What is done of an entry of the target, where this stands under its name in the source.
-pub fn removal_for(rules: Rules, item: &Item<Global>, source: Option<Kind>) -> Actions
+pub fn removal_for(rules: Rules, item: &ListedItem<Global>, source: Option<ItemKind>) -> Actions
     ensures { result ≡ removal_for rules item.now source }
 {
     match source {
@@ -257,7 +271,7 @@ pub fn removal_for(rules: Rules, item: &Item<Global>, source: Option<Kind>) -> A
 }
 
 /// An entry that the target has alone.
-fn alone(extra: Extra, item: &Item<Global>) -> Actions
+fn alone(extra: Extra, item: &ListedItem<Global>) -> Actions
     ensures { result ≡ alone extra item.now }
 {
     match extra {
@@ -267,13 +281,13 @@ fn alone(extra: Extra, item: &Item<Global>) -> Actions
     }
 }
 
-fn removal(kind: Kind) -> Actions
+fn removal(kind: ItemKind) -> Actions
     ensures { result ≡ removal kind }
 {
     match kind {
-        Kind::File(_) | Kind::Other => Actions::One(Action::RemoveFile),
-        Kind::Dir => Actions::One(Action::RemoveDir),
-        Kind::Excluded | Kind::Odd => Actions::Nothing,
+        ItemKind::File(_) | ItemKind::Other => Actions::One(Action::RemoveFile),
+        ItemKind::Dir => Actions::One(Action::RemoveDir),
+        ItemKind::Excluded | ItemKind::Odd => Actions::Nothing,
     }
 }
 

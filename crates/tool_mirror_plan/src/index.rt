@@ -4,16 +4,16 @@ ghost use Rattle.tool_mirror_plan.specs.Index.{Indexes, earlier, found, kind_und
 
 use std::alloc::{AllocError, Global};
 use std::collections::BTreeMap;
-use tool_listing::{Item, Kind};
+use tool_listing::{ItemKind, ListedItem};
 
 /// What stands under each name of a directory: where several entries have one name, what the first is.
 pub(crate) fn kinds_of<'a>(
     alloc: Global,
-    items: &'a [Item<Global>],
-) -> Result<BTreeMap<&'a [u8], Kind, Global>, AllocError>
+    items: &'a [ListedItem<Global>],
+) -> Result<BTreeMap<&'a [u8], ItemKind, Global>, AllocError>
     ensures { IfOk result (λ kinds. Indexes kinds items.now) }
 {
-    let mut kinds: BTreeMap<&'a [u8], Kind, Global> = BTreeMap::new(alloc);
+    let mut kinds: BTreeMap<&'a [u8], ItemKind, Global> = BTreeMap::new(alloc);
     for item in items {
         put_first(&mut kinds, item)?;
     }
@@ -22,8 +22,8 @@ pub(crate) fn kinds_of<'a>(
 
 /// Puts an entry, unless another one of its name is there.
 fn put_first<'a>(
-    kinds: &mut BTreeMap<&'a [u8], Kind, Global>,
-    item: &'a Item<Global>,
+    kinds: &mut BTreeMap<&'a [u8], ItemKind, Global>,
+    item: &'a ListedItem<Global>,
 ) -> Result<(), AllocError>
     ensures { OnOk result ((name : List ℕ) → found kinds.new name ≡ earlier (found kinds.old name) (kind_under name item.now)) }
 {
@@ -35,7 +35,7 @@ fn put_first<'a>(
 }
 
 /// What stands under a name.
-pub(crate) fn stands(kinds: &BTreeMap<&[u8], Kind, Global>, name: &[u8]) -> Option<Kind>
+pub(crate) fn stands(kinds: &BTreeMap<&[u8], ItemKind, Global>, name: &[u8]) -> Option<ItemKind>
     ensures { result ≡ found kinds.now name.now }
 {
     kinds.get(name).copied()

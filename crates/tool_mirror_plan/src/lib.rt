@@ -7,6 +7,7 @@ mod planning;
 pub mod rows;
 
 pub use actions::{
-    Action, Actions, Check, Extra, Reason, Rules, Way, actions_for, may_remove, removal_for,
+    Action, Actions, Check, CopyDirection, Extra, RefusalReason, Rules, actions_for, may_remove,
+    removal_for,
 };
-pub use planning::{Step, plan};
+pub use planning::{PlanStep, plan};

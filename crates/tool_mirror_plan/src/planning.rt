@@ -3,15 +3,15 @@ ghost use Rattle.std.specs.Prelude.{◌≡◌, ◌++◌, IfOk, OnOk, flat_map};
 ghost use Rattle.tool_mirror_plan.specs.Plan.{clearing, clearing_all, copying, guarded, is_odd, is_unnamed, plan, refused, steps, whole_plan};
 ghost use Rattle.std.specs.List.{list_any};
 
-use crate::actions::{Action, Actions, Extra, Reason, Rules, actions_for, removal_for};
+use crate::actions::{Action, Actions, Extra, RefusalReason, Rules, actions_for, removal_for};
 use crate::index::{kinds_of, stands};
 use ftp_facts::Text;
 use std::alloc::{AllocError, Allocator, Global};
-use tool_listing::{Item, Kind, Listing, is_name};
+use tool_listing::{DirectoryListing, ItemKind, ListedItem, is_name};
 
 /// Something that is done of a name.
 #[derive(Drop)]
-pub struct Step<A: Allocator + Copy> {
+pub struct PlanStep<A: Allocator + Copy> {
     pub action: Action,
     pub name: Text<A>,
 }
@@ -21,16 +21,16 @@ pub struct Step<A: Allocator + Copy> {
 pub fn plan(
     alloc: Global,
     rules: Rules,
-    source: &Listing<Global>,
-    target: &Listing<Global>,
-) -> Result<Vec<Step<Global>, Global>, AllocError>
+    source: &DirectoryListing<Global>,
+    target: &DirectoryListing<Global>,
+) -> Result<Vec<PlanStep<Global>, Global>, AllocError>
     ensures { IfOk result (λ planned. planned.items ≡ plan rules source.now target.now) }
 {
     match (source, target) {
-        (Listing::Whole(source), Listing::Whole(target)) => {
+        (DirectoryListing::Whole(source), DirectoryListing::Whole(target)) => {
             whole_plan(alloc, rules, source.as_slice(), target.as_slice())
         }
-        _ => refused(alloc, Reason::CutOff),
+        _ => refused(alloc, RefusalReason::CutOff),
     }
 }
 
@@ -38,9 +38,9 @@ pub fn plan(
 fn whole_plan(
     alloc: Global,
     rules: Rules,
-    source: &[Item<Global>],
-    target: &[Item<Global>],
-) -> Result<Vec<Step<Global>, Global>, AllocError>
+    source: &[ListedItem<Global>],
+    target: &[ListedItem<Global>],
+) -> Result<Vec<PlanStep<Global>, Global>, AllocError>
     ensures { IfOk result (λ planned. planned.items ≡ whole_plan rules source.now target.now) }
 {
     let mut planned = Vec::new(alloc);
@@ -53,19 +53,22 @@ fn whole_plan(
 fn guarded(
     alloc: Global,
     extra: Extra,
-    source: &[Item<Global>],
-    planned: Vec<Step<Global>, Global>,
-) -> Result<Vec<Step<Global>, Global>, AllocError>
+    source: &[ListedItem<Global>],
+    planned: Vec<PlanStep<Global>, Global>,
+) -> Result<Vec<PlanStep<Global>, Global>, AllocError>
     ensures { IfOk result (λ kept. kept.items ≡ guarded extra source.now planned.items) }
 {
     if matches!(extra, Extra::Removed) && source.is_empty() && !planned.is_empty() {
-        return refused(alloc, Reason::Emptied(planned.len()));
+        return refused(alloc, RefusalReason::Emptied(planned.len()));
     }
     Ok(planned)
 }
 
 /// That nothing is done of a directory.
-fn refused(alloc: Global, reason: Reason) -> Result<Vec<Step<Global>, Global>, AllocError>
+fn refused(
+    alloc: Global,
+    reason: RefusalReason,
+) -> Result<Vec<PlanStep<Global>, Global>, AllocError>
     ensures { IfOk result (λ planned. planned.items ≡ refused reason) }
 {
     let mut planned = Vec::new(alloc);
@@ -76,9 +79,9 @@ fn refused(alloc: Global, reason: Reason) -> Result<Vec<Step<Global>, Global>, A
 fn put_copying(
     alloc: Global,
     rules: Rules,
-    source: &[Item<Global>],
-    target: &[Item<Global>],
-    planned: &mut Vec<Step<Global>, Global>,
+    source: &[ListedItem<Global>],
+    target: &[ListedItem<Global>],
+    planned: &mut Vec<PlanStep<Global>, Global>,
 ) -> Result<(), AllocError>
     ensures { OnOk result (planned.new.items ≡ planned.old.items ++ flat_map (copying rules target.now) source.now) }
 {
@@ -92,31 +95,31 @@ fn put_copying(
 }
 
 /// Whether a line of a listing is no entry and tells no name: whatever stands in the target may be it.
-fn has_unnamed(source: &[Item<Global>]) -> bool
+fn has_unnamed(source: &[ListedItem<Global>]) -> bool
     ensures { result ≡ list_any is_unnamed source.now }
 {
     source.iter().any(|item| is_unnamed(item))
 }
 
-fn is_unnamed(item: &Item<Global>) -> bool
+fn is_unnamed(item: &ListedItem<Global>) -> bool
     ensures { result ≡ is_unnamed item.now }
 {
     is_odd(item.kind) && !is_name(item.name.as_slice())
 }
 
-fn is_odd(kind: Kind) -> bool
+fn is_odd(kind: ItemKind) -> bool
     ensures { result ≡ is_odd kind }
 {
-    matches!(kind, Kind::Odd)
+    matches!(kind, ItemKind::Odd)
 }
 
 /// What is done of all entries of the target: nothing where the source has a line that tells no name.
 fn put_clearing_all(
     alloc: Global,
     rules: Rules,
-    source: &[Item<Global>],
-    target: &[Item<Global>],
-    planned: &mut Vec<Step<Global>, Global>,
+    source: &[ListedItem<Global>],
+    target: &[ListedItem<Global>],
+    planned: &mut Vec<PlanStep<Global>, Global>,
 ) -> Result<(), AllocError>
     ensures { OnOk result (planned.new.items ≡ planned.old.items ++ clearing_all rules source.now target.now) }
 {
@@ -129,9 +132,9 @@ fn put_clearing_all(
 fn put_clearing(
     alloc: Global,
     rules: Rules,
-    source: &[Item<Global>],
-    target: &[Item<Global>],
-    planned: &mut Vec<Step<Global>, Global>,
+    source: &[ListedItem<Global>],
+    target: &[ListedItem<Global>],
+    planned: &mut Vec<PlanStep<Global>, Global>,
 ) -> Result<(), AllocError>
     ensures { OnOk result (planned.new.items ≡ planned.old.items ++ flat_map (clearing rules source.now) target.now) }
 {
@@ -148,7 +151,7 @@ fn put_steps(
     alloc: Global,
     name: &[u8],
     actions: Actions,
-    planned: &mut Vec<Step<Global>, Global>,
+    planned: &mut Vec<PlanStep<Global>, Global>,
 ) -> Result<(), AllocError>
     ensures { OnOk result (planned.new.items ≡ planned.old.items ++ steps name.now actions) }
 {
@@ -166,11 +169,11 @@ fn put_step(
     alloc: Global,
     name: &[u8],
     action: Action,
-    planned: &mut Vec<Step<Global>, Global>,
+    planned: &mut Vec<PlanStep<Global>, Global>,
 ) -> Result<(), AllocError>
     ensures { OnOk result (planned.new.items ≡ planned.old.items ++ steps name.now (Actions.One action)) }
 {
     let name = Text::copy_of(alloc, name)?;
-    planned.push(Step { action, name })?;
+    planned.push(PlanStep { action, name })?;
     Ok(())
 }

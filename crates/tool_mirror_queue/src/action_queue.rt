@@ -1,11 +1,11 @@
 // What is still to be done, one thing after another.
-use crate::removals::{Counts, Settled};
+use crate::removals::{RemovalCounts, Settled};
 use std::alloc::{AllocError, Global};
 use std::mem;
-use tool_listing::{Item, Kind, Listing, is_name};
-use tool_mirror_copy::{Trouble, shown_below};
-use tool_mirror_plan::{Action, Extra, Rules, Step, may_remove, plan};
+use tool_listing::{DirectoryListing, ItemKind, ListedItem, is_name};
 use tool_location::joined;
+use tool_mirror_copy::{Trouble, shown_below};
+use tool_mirror_plan::{Action, Extra, PlanStep, Rules, may_remove, plan};
 
 /// How many things are done at most.
 const MOST_STEPS: u64 = 1_000_000;
@@ -55,7 +55,7 @@ pub struct ActionQueue {
     waiting: Vec<Work, Global>,
     /// What is removed or replaced, once all else is done and all is counted.
     removals: Vec<Work, Global>,
-    counts: Counts,
+    counts: RemovalCounts,
     /// How many things were planned.
     planned: u64,
     /// How many were taken up.
@@ -71,7 +71,7 @@ impl ActionQueue {
             alloc,
             waiting: Vec::new(alloc),
             removals: Vec::new(alloc),
-            counts: Counts {
+            counts: RemovalCounts {
                 held: 0,
                 removed: 0,
             },
@@ -142,23 +142,23 @@ impl ActionQueue {
         &mut self,
         rules: Rules,
         below: &str,
-        source: &Listing<Global>,
-        target: &Listing<Global>,
+        source: &DirectoryListing<Global>,
+        target: &DirectoryListing<Global>,
     ) -> Result<(), Trouble> {
         let steps = plan(self.alloc, rules, source, target)?;
         self.planned = self.planned.saturating_add(steps.len() as u64);
         if self.planned > MOST_STEPS {
             return Err(Trouble::TooMuch);
         }
-        if let Listing::Whole(items) = target {
+        if let DirectoryListing::Whole(items) = target {
             self.counts.add_held(items.len());
         }
         self.put_steps(below, steps.as_slice())?;
         Ok(())
     }
 
-    fn put_steps(&mut self, below: &str, steps: &[Step<Global>]) -> Result<(), AllocError> {
-        let mut next: Option<&Step<Global>> = None;
+    fn put_steps(&mut self, below: &str, steps: &[PlanStep<Global>]) -> Result<(), AllocError> {
+        let mut next: Option<&PlanStep<Global>> = None;
         for step in steps.iter().rev() {
             match next {
                 Some(after) if is_replaced(step, after) => {
@@ -181,7 +181,7 @@ impl ActionQueue {
         &mut self,
         queued_action: QueuedAction,
         below: &str,
-        step: &Step<Global>,
+        step: &PlanStep<Global>,
     ) -> Result<(), AllocError> {
         match std::str::from_utf8(step.name.as_slice()) {
             Ok(name) => {
@@ -231,7 +231,7 @@ impl ActionQueue {
         &mut self,
         number: usize,
         below: &str,
-        items: &[Item<Global>],
+        items: &[ListedItem<Global>],
     ) -> Result<(), Trouble> {
         self.counts.add_held(items.len());
         self.counts.add_removed(items.len());
@@ -249,11 +249,11 @@ impl ActionQueue {
         &mut self,
         number: usize,
         below: &str,
-        item: &Item<Global>,
+        item: &ListedItem<Global>,
     ) -> Result<(), AllocError> {
         match (item.kind, std::str::from_utf8(item.name.as_slice())) {
-            (Kind::Excluded | Kind::Odd, _) | (_, Err(_)) => self.spare(number),
-            (Kind::Dir, Ok(name)) if is_name(name.as_bytes()) => {
+            (ItemKind::Excluded | ItemKind::Odd, _) | (_, Err(_)) => self.spare(number),
+            (ItemKind::Dir, Ok(name)) if is_name(name.as_bytes()) => {
                 let below = joined(self.alloc, below, name)?;
                 self.waiting.push(Work {
                     queued_action: QueuedAction::Count(number),
@@ -283,7 +283,7 @@ impl ActionQueue {
 }
 
 /// Whether what a step removes gives way to what the next one makes.
-fn is_replaced(step: &Step<Global>, next: &Step<Global>) -> bool {
+fn is_replaced(step: &PlanStep<Global>, next: &PlanStep<Global>) -> bool {
     is_removal(step.action)
         && !is_removal(next.action)
         && step.name.as_slice() == next.name.as_slice()

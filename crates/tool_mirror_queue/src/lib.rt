@@ -6,5 +6,5 @@ mod removals;
 mod tally;
 
 pub use action_queue::{ActionQueue, QueuedAction, Work};
-pub use removals::{Counts, Settled, tell_too_many};
-pub use tally::{Progress, Tally};
+pub use removals::{RemovalCounts, Settled, tell_too_many};
+pub use tally::{MirrorTotals, Progress};

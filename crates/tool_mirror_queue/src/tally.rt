@@ -6,7 +6,7 @@ use tool_files::Change;
 
 /// What was done so far.
 #[derive(Clone, Copy)]
-pub struct Tally {
+pub struct MirrorTotals {
     pub files: u64,
     pub dirs: u64,
     pub removed: u64,
@@ -14,10 +14,10 @@ pub struct Tally {
     pub octets: u64,
 }
 
-impl Tally {
+impl MirrorTotals {
     /// Nothing yet.
-    pub fn new() -> Tally {
-        Tally {
+    pub fn new() -> MirrorTotals {
+        MirrorTotals {
             files: 0,
             dirs: 0,
             removed: 0,
@@ -47,7 +47,7 @@ impl Tally {
 }
 
 /// `12 files copied, 3 directories made, 1 removed, 0 failed; 48,211 octets`.
-impl Display for Tally {
+impl Display for MirrorTotals {
     fn fmt<W: fmt::Write>(&self, formatter: &mut Formatter<W>) -> fmt::Result {
         write!(
             formatter,
@@ -66,7 +66,7 @@ impl Display for Tally {
 /// How far a mirror is, where so many things wait.
 #[derive(Clone, Copy)]
 pub struct Progress {
-    pub tally: Tally,
+    pub tally: MirrorTotals,
     pub left: usize,
 }
 

@@ -5,4 +5,4 @@ pub mod connection;
 pub mod pool;
 
 pub use connection::{Channel, ChannelLink, ChannelPorts, TakesTurns};
-pub use pool::{Channels, MOST_CHANNELS, Slot, Stand};
+pub use pool::{Channels, MOST_CHANNELS, PoolSlot, Reliability};

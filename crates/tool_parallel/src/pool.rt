@@ -6,4 +6,4 @@ mod row;
 mod slot;
 
 pub use channels::{Channels, MOST_CHANNELS};
-pub use slot::{Slot, Stand};
+pub use slot::{PoolSlot, Reliability};

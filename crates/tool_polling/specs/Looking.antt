@@ -2,13 +2,13 @@
 use Rattle.std.specs.Prelude.{ℕ, Bool, false, ◌&&◌, zero, suc, ◌-◌, ◌*◌, ◌==◌, min, nat_le, nat_lt, Option, Some, None, if◌then◌else◌}
 use Rattle.ftp_ports.specs.declared.ports.Spoken.{Spoken}
 use Rattle.ftp_ports.specs.declared.ports.Spoken.TheVariants as Speaks
-use Rattle.tool_polling.specs.declared.hangup.Gift.{Gift}
-use Rattle.tool_polling.specs.declared.hangup.Gift.TheVariants as Gifts
-use Rattle.tool_polling.specs.declared.timeouts.Over.{Over}
+use Rattle.tool_polling.specs.declared.hangup.DataInput.{DataInput}
+use Rattle.tool_polling.specs.declared.hangup.DataInput.TheVariants as Gifts
+use Rattle.tool_polling.specs.declared.timeouts.TimeoutReason.{TimeoutReason}
 use Rattle.tool_polling.specs.declared.timeouts.Term.{Term}
 
 -- what is left, in milliseconds, of a limit of so many seconds; of none there is no term
-abbrev pub term_after : ℕ → ℕ → Over → Option Term
+abbrev pub term_after : ℕ → ℕ → TimeoutReason → Option Term
 term_after zero spent over = None
 term_after (suc limit) spent over = Some (record { left = suc limit * 1000 - spent; over = over })
 
@@ -23,7 +23,7 @@ abbrev pub stricter : ℕ → ℕ → ℕ
 stricter one other = if one == 0 then other else (if other == 0 then one else min one other)
 
 -- what is told of a control connection beside an upload: its end only where the upload's data connection gave nothing for 10,000 milliseconds
-abbrev pub told_beside : Spoken → Gift → Spoken
+abbrev pub told_beside : Spoken → DataInput → Spoken
 told_beside Speaks.Ended Gifts.Something = Speaks.Nothing
 told_beside Speaks.Ended (Gifts.NothingFor millis) = if nat_lt millis 10000 then Speaks.Nothing else Speaks.Ended
 told_beside Speaks.Octets gift = Speaks.Octets

@@ -1,9 +1,9 @@
 -- How long a session may last (own choice): a limit of silence is put off by each sign of life, and one of time by nothing.
 use Rattle.std.specs.Prelude.{◌≡◌, ℕ, suc, ◌*◌, ◌≤◌, ◌<◌, Bool, true, false, Option, Some, None, nat_lt, if◌then◌else◌}
 use Rattle.tool_polling.specs.Looking.{sooner_of, term_after}
-use Rattle.tool_polling.specs.declared.timeouts.Limits.{Limits}
-use Rattle.tool_polling.specs.declared.timeouts.Over.TheVariants as Overs
-use Rattle.tool_polling.specs.declared.timeouts.Stand.{Stand}
+use Rattle.tool_polling.specs.declared.timeouts.TimeLimits.{TimeLimits}
+use Rattle.tool_polling.specs.declared.timeouts.TimeoutReason.TheVariants as Overs
+use Rattle.tool_polling.specs.declared.timeouts.SessionTimes.{SessionTimes}
 use Rattle.tool_polling.specs.declared.timeouts.Term.{Term}
 use Rattle.tool_polling.specs.declared.timeouts.Transfers.{Transfers}
 use Rattle.tool_polling.specs.declared.timeouts.Transfers.TheVariants as Spared
@@ -14,25 +14,25 @@ while_waited None term = None
 while_waited (Some since) term = term since
 
 -- what is left of silence
-abbrev pub quiet_term : Limits → Stand → Option Term
+abbrev pub quiet_term : TimeLimits → SessionTimes → Option Term
 quiet_term limits stand =
     sooner_of (term_after limits.idle stand.quiet Overs.Idle)
     (while_waited stand.waited (λ since. term_after limits.idle_while_waited stand.quiet Overs.Waited))
 
 -- what is left until a login
-abbrev pub login_term : Limits → Stand → Option Term
+abbrev pub login_term : TimeLimits → SessionTimes → Option Term
 login_term limits stand =
     sooner_of (term_after limits.login stand.begun Overs.Login)
     (while_waited stand.waited (λ since. term_after limits.login_while_waited since Overs.LoginWaited))
 
 -- what is left of time
-abbrev pub fixed_term : Limits → Stand → Option Term
+abbrev pub fixed_term : TimeLimits → SessionTimes → Option Term
 fixed_term limits stand =
     sooner_of (while_waited stand.waited (λ since. term_after limits.session_while_waited since Overs.Session))
     (if stand.logged_in then None else login_term limits stand)
 
 -- what is left of a session
-abbrev pub term_of_session : Limits → Stand → Option Term
+abbrev pub term_of_session : TimeLimits → SessionTimes → Option Term
 term_of_session limits stand = sooner_of (quiet_term limits stand) (fixed_term limits stand)
 
 -- since when another client waits once an octet of a data connection went now: since now, where transfers are spared
@@ -55,11 +55,11 @@ IsOver (Some term) = term.left ≡ 0
 
 -- nobody holds the server: once another client waits for so many seconds, nothing is left of the session's time, whatever its client said or sent
 abbrev pub NobodyHolds : Type 0
-NobodyHolds = (limits : Limits) (stand : Stand) (seconds since : ℕ)
+NobodyHolds = (limits : TimeLimits) (stand : SessionTimes) (seconds since : ℕ)
     → limits.session_while_waited ≡ suc seconds → stand.waited ≡ Some since → suc seconds * 1000 ≤ since → IsOver (fixed_term limits stand)
 
 -- Who logged in keeps its session while another waits for less than so many seconds: with `waited_after`, while one octet of a data connection follows another
 -- within them
 abbrev pub WaitingIsCounted : Type 0
-WaitingIsCounted = (limits : Limits) (stand : Stand) (seconds since : ℕ) → stand.logged_in ≡ true
+WaitingIsCounted = (limits : TimeLimits) (stand : SessionTimes) (seconds since : ℕ) → stand.logged_in ≡ true
     → limits.session_while_waited ≡ suc seconds → stand.waited ≡ Some since → since < suc seconds * 1000 → IsOver (fixed_term limits stand) → ⊥

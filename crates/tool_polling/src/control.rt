@@ -2,7 +2,7 @@
 ghost use Rattle.std.specs.Prelude.{◌≡◌, ◌<◌, ◌≤◌, IfOk, length};
 ghost use Rattle.std.specs.Global.{Global};
 
-use crate::line::{Line, Waiting, hidden_after};
+use crate::line::{ControlLine, PendingInput, hidden_after};
 use std::alloc::Global;
 use std::io;
 use std::io::{Error, ErrorKind, Read, Write};
@@ -13,11 +13,11 @@ use tool_sockets::send_now;
 /// for the data mark 242, so that an ABOR whose last octet is urgent is a line, and a Synch is whole. Where timeouts is over, the connection has ended.
 #[derive(Drop)]
 pub struct LineReader {
-    line: Rc<Line, Global>,
+    line: Rc<ControlLine, Global>,
 }
 
 impl LineReader {
-    pub fn new(line: Rc<Line, Global>) -> LineReader {
+    pub fn new(line: Rc<ControlLine, Global>) -> LineReader {
         LineReader { line }
     }
 
@@ -49,7 +49,7 @@ impl LineReader {
     }
 
     /// Reads, with the octet that was hidden before what was read in front of it; how much that is, and what can be read after it.
-    fn read_front(&mut self, room: &mut [u8]) -> io::Result<(usize, Waiting)>
+    fn read_front(&mut self, room: &mut [u8]) -> io::Result<(usize, PendingInput)>
         requires { 0 < length room.old }
         ensures within { IfOk result (λ read. read.0 ≤ length room.new) }
     {
@@ -93,7 +93,7 @@ impl LineReader {
 
     /// The octet that is hidden behind what was read last, where nothing else stands behind that yet: who asks whether the connection has
     /// more to read is told of no urgent octet.
-    fn hidden_behind(&mut self, after: Waiting) -> Option<u8> {
+    fn hidden_behind(&mut self, after: PendingInput) -> Option<u8> {
         if !after.is_urgent || after.has_more {
             return None;
         }
@@ -124,11 +124,11 @@ impl Read for LineReader {
 /// Writes a control connection, where there is room; a write for which there is none fails, and with it the session.
 #[derive(Drop)]
 pub struct LineWriter {
-    line: Rc<Line, Global>,
+    line: Rc<ControlLine, Global>,
 }
 
 impl LineWriter {
-    pub fn new(line: Rc<Line, Global>) -> LineWriter {
+    pub fn new(line: Rc<ControlLine, Global>) -> LineWriter {
         LineWriter { line }
     }
 }
@@ -152,7 +152,7 @@ struct Behind {
     hidden: Option<u8>,
     count: usize,
     /// What can be read after it, as far as nothing of that is given already.
-    after: Waiting,
+    after: PendingInput,
 }
 
 impl Behind {
@@ -166,7 +166,7 @@ impl Behind {
         Ok(Behind {
             hidden,
             count: 0,
-            after: Waiting {
+            after: PendingInput {
                 is_urgent: false,
                 has_more: false,
             },

@@ -18,7 +18,7 @@ pub(crate) enum Hangup {
 
 /// What a data connection gives over which octets come.
 #[derive(Clone, Copy)]
-pub(crate) enum Gift {
+pub(crate) enum DataInput {
     /// Octets, its end, or its break.
     Something,
     /// Nothing for so many milliseconds, since the control connection ended or since the last octet.
@@ -26,12 +26,12 @@ pub(crate) enum Gift {
 }
 
 /// What is told of a control connection that has this, beside an upload whose data connection gives that.
-pub(crate) fn told_beside(control: Spoken, gift: Gift) -> Spoken
+pub(crate) fn told_beside(control: Spoken, gift: DataInput) -> Spoken
     ensures { result ≡ told_beside control gift }
 {
     match (control, gift) {
-        (Spoken::Ended, Gift::Something) => Spoken::Nothing,
-        (Spoken::Ended, Gift::NothingFor(millis)) if millis < HELD_MILLIS => Spoken::Nothing,
+        (Spoken::Ended, DataInput::Something) => Spoken::Nothing,
+        (Spoken::Ended, DataInput::NothingFor(millis)) if millis < HELD_MILLIS => Spoken::Nothing,
         (control, _) => control,
     }
 }

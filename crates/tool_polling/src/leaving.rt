@@ -2,7 +2,7 @@
 ghost use Rattle.std.specs.Global.{Global};
 
 use crate::awaits::Awaits;
-use crate::line::Line;
+use crate::line::ControlLine;
 use crate::link::LineLink;
 use libc::net as c;
 use std::alloc::Global;
@@ -22,7 +22,7 @@ const LAST_READS: u32 = 16;
 /// A control connection behind its last reply, and the last data connection, until their peers have ended them too.
 #[derive(Drop)]
 pub struct Leaving {
-    line: Option<Rc<Line, Global>>,
+    line: Option<Rc<ControlLine, Global>>,
     link: Option<LineLink>,
     /// Until when each is waited for.
     line_until: u64,
@@ -31,7 +31,7 @@ pub struct Leaving {
 
 impl Leaving {
     /// Sends nothing more over the control connection, where that is to be kept.
-    pub fn new(line: Option<Rc<Line, Global>>, link: Option<LineLink>) -> Leaving {
+    pub fn new(line: Option<Rc<ControlLine, Global>>, link: Option<LineLink>) -> Leaving {
         let now = monotonic_millis();
         Leaving {
             line: line.filter(|line| line.end().is_ok()),
@@ -73,7 +73,7 @@ impl Leaving {
 }
 
 /// Reads what a client says after the last reply; whether it may say more.
-fn may_say_more(line: &Line) -> bool {
+fn may_say_more(line: &ControlLine) -> bool {
     let mut rest = [0u8; 1024];
     let mut reader = &line.stream;
     for _ in 0..LAST_READS {

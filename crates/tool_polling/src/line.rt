@@ -3,7 +3,7 @@ ghost use Rattle.std.specs.Prelude.{◌≡◌};
 ghost use Rattle.tool_polling.specs.Looking.{hidden};
 
 use crate::awaits::{Awaits, look};
-use crate::timeouts::{Limits, Over, Timeouts};
+use crate::timeouts::{TimeLimits, TimeoutReason, Timeouts};
 use ftp_ports::Spoken;
 use libc::net as c;
 use libc::types::pollfd;
@@ -33,7 +33,7 @@ const MOVED: usize = 32_768;
 
 /// A control connection; how long its client is waited for; and what it has had of a turn. Who reads, writes and looks at it has a share of it each.
 #[derive(Drop)]
-pub struct Line {
+pub struct ControlLine {
     pub(crate) stream: TcpStream,
     pub timeouts: Timeouts,
     /// Whether the urgent octet that waits was put back already.
@@ -41,7 +41,7 @@ pub struct Line {
     /// The last octet that was read.
     pub(crate) last: Cell<u8>,
     /// What the last look found to be read, until it is read.
-    seen: Cell<Option<Waiting>>,
+    seen: Cell<Option<PendingInput>>,
     /// Until when no reply goes.
     held: Cell<u64>,
     /// How much room for replies is left of that which the last look told of.
@@ -60,21 +60,21 @@ pub struct Line {
 
 /// What of a control connection can be read.
 #[derive(Clone, Copy)]
-pub(crate) struct Waiting {
+pub(crate) struct PendingInput {
     /// An urgent octet waits that was not put back yet.
     pub(crate) is_urgent: bool,
     /// Other octets or the end do.
     pub(crate) has_more: bool,
 }
 
-impl Line {
+impl ControlLine {
     /// A control connection that was taken now. Nothing waits for it from then on.
-    pub fn new(stream: TcpStream, limits: Limits) -> io::Result<Line> {
+    pub fn new(stream: TcpStream, limits: TimeLimits) -> io::Result<ControlLine> {
         stream.set_nonblocking(true)?;
         stream.set_nodelay(true)?;
         keep_alive(&stream)?;
         limit_room(&stream, REPLIES)?;
-        Ok(Line {
+        Ok(ControlLine {
             stream,
             timeouts: Timeouts::new(limits),
             given: Cell::new(false),
@@ -200,7 +200,7 @@ impl Line {
     }
 
     /// What can be read now.
-    pub(crate) fn waiting(&self) -> Waiting {
+    pub(crate) fn waiting(&self) -> PendingInput {
         let mut rows = [self.row(events_of(!self.given.get()))];
         look(&mut rows);
         waiting_by(rows[0].revents)
@@ -208,18 +208,18 @@ impl Line {
 
     /// What can be read after octets that were read, before which this could: asked only where an urgent octet stood before them, or may be hidden behind the
     /// last one.
-    pub(crate) fn left_behind(&self, before: Waiting) -> Waiting {
+    pub(crate) fn left_behind(&self, before: PendingInput) -> PendingInput {
         if before.is_urgent || hidden_after(self.last.get()).is_some() {
             return self.waiting();
         }
-        Waiting {
+        PendingInput {
             is_urgent: false,
             has_more: false,
         }
     }
 
     /// What can be read, by the last look where nothing was read since; it is read now.
-    pub(crate) fn take_seen(&self) -> Waiting {
+    pub(crate) fn take_seen(&self) -> PendingInput {
         self.forget();
         match self.seen.replace(None) {
             Some(waiting) => waiting,
@@ -256,7 +256,7 @@ impl Line {
     }
 
     /// What can be read: as the round's poll told, where there are octets and nothing is hidden before them, else by a look.
-    fn looked(&self) -> Waiting {
+    fn looked(&self) -> PendingInput {
         let told = waiting_by(self.told.get().told(&self.stream));
         if told.has_more && hidden_after(self.last.get()).is_none() {
             told
@@ -351,8 +351,8 @@ fn events_of(asks_urgent: bool) -> i16 {
 }
 
 /// What can be read by the events of a control connection.
-fn waiting_by(events: i16) -> Waiting {
-    Waiting {
+fn waiting_by(events: i16) -> PendingInput {
+    PendingInput {
         is_urgent: events & c::POLLPRI != 0,
         has_more: events & (c::POLLIN | c::POLLRDHUP | c::POLLHUP | c::POLLERR) != 0,
     }

@@ -2,8 +2,8 @@
 ghost use Rattle.std.specs.Global.{Global};
 
 use crate::awaits::{Awaits, look};
-use crate::hangup::{Gift, HELD_MILLIS, Hangup, told_beside};
-use crate::line::Line;
+use crate::hangup::{DataInput, HELD_MILLIS, Hangup, told_beside};
+use crate::line::ControlLine;
 use ftp_ports::{Beside, Duplex, For, Ready, Spoken};
 use libc::net as c;
 use libc::types::pollfd;
@@ -31,7 +31,7 @@ const SPARED_ROOM: i32 = 65_536;
 /// connection while the peer takes some within 30 seconds.
 #[derive(Drop)]
 pub struct LineLink {
-    line: Rc<Line, Global>,
+    line: Rc<ControlLine, Global>,
     stream: TcpStream,
     /// Until when octets wait after the end of the control connection: what goes then is no sign of life.
     outlives: Option<u64>,
@@ -70,7 +70,7 @@ fn lost() -> Error {
 impl LineLink {
     /// A data connection beside its control connection.
     pub(crate) fn new(
-        line: Rc<Line, Global>,
+        line: Rc<ControlLine, Global>,
         stream: TcpStream,
         hangup: Hangup,
     ) -> io::Result<LineLink> {
@@ -200,13 +200,13 @@ impl LineLink {
     }
 
     /// What the data connection gives beside a control connection that has ended.
-    fn gift(&mut self, other: Other) -> Gift {
+    fn gift(&mut self, other: Other) -> DataInput {
         let now = monotonic_millis();
         let since = self.quiet_since.unwrap_or(now);
         self.quiet_since = Some(since);
         match other {
-            Other::Ready => Gift::Something,
-            Other::Waits => Gift::NothingFor(now.saturating_sub(since)),
+            Other::Ready => DataInput::Something,
+            Other::Waits => DataInput::NothingFor(now.saturating_sub(since)),
         }
     }
 

@@ -1,6 +1,6 @@
 // A data connection that a server opens: it is begun, and looked at until it stands or failed.
 use crate::awaits::{Awaits, look};
-use crate::line::Line;
+use crate::line::ControlLine;
 use ftp_endpoint::Endpoint;
 use libc::net as c;
 use std::net::TcpStream;
@@ -8,24 +8,24 @@ use tool_sockets::{OPENING_MILLIS, Sockets, addr_of, asking, monotonic_millis};
 
 /// A connection that was begun.
 #[derive(Drop)]
-pub(crate) struct Opening {
+pub(crate) struct PendingConnection {
     /// None where the system began none.
     begun: Option<mio::net::TcpStream>,
     /// Until when it is waited for.
     until: u64,
 }
 
-impl Opening {
+impl PendingConnection {
     /// Begins one to an endpoint.
-    pub(crate) fn begin<R: Sockets>(net: &R, endpoint: Endpoint) -> Opening {
-        Opening {
+    pub(crate) fn begin<R: Sockets>(net: &R, endpoint: Endpoint) -> PendingConnection {
+        PendingConnection {
             begun: net.connecting(addr_of(endpoint)).ok(),
             until: monotonic_millis().saturating_add(OPENING_MILLIS),
         }
     }
 
     /// Whether it stands or failed, within 30 seconds and while timeouts and the control connection last.
-    pub(crate) fn looks(&self, line: &Line) -> Result<(), Awaits> {
+    pub(crate) fn looks(&self, line: &ControlLine) -> Result<(), Awaits> {
         let Some(begun) = &self.begun else {
             return Ok(());
         };

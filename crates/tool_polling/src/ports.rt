@@ -4,10 +4,10 @@ ghost use Rattle.std.specs.Global.{Global};
 ghost use Rattle.ftp_ports.specs.Asking.{Closes};
 
 use crate::awaits::Awaits;
-use crate::hangup::{Gift, Hangup, told_beside};
-use crate::line::Line;
+use crate::hangup::{DataInput, Hangup, told_beside};
+use crate::line::ControlLine;
 use crate::link::{LineLink, events_beside};
-use crate::opening::Opening;
+use crate::opening::PendingConnection;
 use crate::passive::{Listening, PassivePorts};
 use ftp_endpoint::{Endpoint, Host};
 use ftp_ports::{Accepted, Awaited, Beside, For, Ports, Ready, Spoken, Whole};
@@ -24,7 +24,7 @@ const FOREIGN: u32 = 16;
 
 /// What came at a port.
 #[derive(Drop)]
-enum Came {
+enum PortArrival {
     /// A connection of the client's host.
     Stream(TcpStream, Host),
     /// The system gives none.
@@ -36,7 +36,7 @@ enum Came {
 #[derive(Drop)]
 pub struct LinePorts<'a, R: Sockets> {
     net: &'a R,
-    line: Rc<Line, Global>,
+    line: Rc<ControlLine, Global>,
     passive: &'a PassivePorts,
     /// The address of this end.
     here: IpAddr,
@@ -45,9 +45,9 @@ pub struct LinePorts<'a, R: Sockets> {
     /// Whether nobody was looked for there yet.
     is_new: bool,
     /// What came at the port that is listened at, until it is accepted.
-    came: Option<Came>,
+    came: Option<PortArrival>,
     /// A connection that this end opens.
-    opening: Option<Opening>,
+    opening: Option<PendingConnection>,
     /// A connection that was ended, until what the peer sent too much is read.
     leaving: Option<LineLink>,
     /// What the last look that told of nothing waits for.
@@ -62,7 +62,7 @@ impl<'a, R: Sockets> LinePorts<'a, R> {
     /// None is open yet.
     pub fn new(
         net: &'a R,
-        line: Rc<Line, Global>,
+        line: Rc<ControlLine, Global>,
         passive: &'a PassivePorts,
     ) -> io::Result<LinePorts<'a, R>> {
         let here = line.here()?.ip().to_canonical();
@@ -88,7 +88,7 @@ impl<'a, R: Sockets> LinePorts<'a, R> {
     /// ended or broke, or gave nothing for ten seconds.
     pub fn serving(
         net: &'a R,
-        line: Rc<Line, Global>,
+        line: Rc<ControlLine, Global>,
         passive: &'a PassivePorts,
     ) -> io::Result<LinePorts<'a, R>> {
         let mut ports = LinePorts::new(net, line, passive)?;
@@ -172,7 +172,7 @@ impl<'a, R: Sockets> LinePorts<'a, R> {
     /// Takes the next connection of the client's host that came, if one did; others are let go.
     fn take_next(&mut self) {
         let Some(listening) = &self.listening else {
-            self.came = Some(Came::Failed);
+            self.came = Some(PortArrival::Failed);
             return;
         };
         for _ in 0..FOREIGN {
@@ -180,13 +180,13 @@ impl<'a, R: Sockets> LinePorts<'a, R> {
                 Ok((stream, peer)) => {
                     let host = host_of(peer);
                     if host == self.client {
-                        self.came = Some(Came::Stream(stream, host));
+                        self.came = Some(PortArrival::Stream(stream, host));
                         return;
                     }
                 }
                 Err(error) if error.kind() == ErrorKind::WouldBlock => return,
                 Err(_) => {
-                    self.came = Some(Came::Failed);
+                    self.came = Some(PortArrival::Failed);
                     return;
                 }
             }
@@ -223,7 +223,7 @@ impl<'a, R: Sockets> LinePorts<'a, R> {
         if self.opening.is_none() {
             self.rest();
             self.drain();
-            self.opening = Some(Opening::begin(self.net, endpoint));
+            self.opening = Some(PendingConnection::begin(self.net, endpoint));
         }
         match &self.opening {
             Some(opening) => opening.looks(&self.line),
@@ -260,14 +260,14 @@ impl<'a, R: Sockets> Ports for LinePorts<'a, R> {
 
     fn accept(&mut self, hears: bool) -> Accepted<LineLink> {
         match self.came.take() {
-            Some(Came::Stream(stream, host)) => {
+            Some(PortArrival::Stream(stream, host)) => {
                 self.rest();
                 match self.linked(stream) {
                     Some(link) => Accepted::Came(link, host),
                     None => Accepted::Refused,
                 }
             }
-            Some(Came::Failed) => Accepted::Refused,
+            Some(PortArrival::Failed) => Accepted::Refused,
             None => self.unaccepted(hears),
         }
     }
@@ -309,7 +309,7 @@ impl<'a, R: Sockets> Ports for LinePorts<'a, R> {
         if control == Spoken::Ended && self.line.has_unread() {
             return Spoken::Octets;
         }
-        told_beside(control, Gift::Something)
+        told_beside(control, DataInput::Something)
     }
 
     /// What sockets are asked is not told.

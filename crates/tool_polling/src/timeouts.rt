@@ -8,7 +8,7 @@ use tool_sockets::monotonic_millis;
 
 /// How long a server waits for its client, in seconds; 0: without a limit.
 #[derive(Clone, Copy)]
-pub struct Limits {
+pub struct TimeLimits {
     /// From the beginning of a session to its login.
     pub login: u32,
     /// Without a command, a reply, or an octet of a data connection.
@@ -23,7 +23,7 @@ pub struct Limits {
 
 /// Why a client is not waited for any more.
 #[derive(Clone, Copy)]
-pub enum Over {
+pub enum TimeoutReason {
     /// Nobody logged in for so long.
     Login,
     /// Nothing was said or sent for so long.
@@ -58,12 +58,12 @@ pub(crate) enum Transfers {
 #[derive(Clone, Copy)]
 pub(crate) struct Term {
     pub(crate) left: u64,
-    pub(crate) over: Over,
+    pub(crate) over: TimeoutReason,
 }
 
 /// How a session stands: milliseconds since it began, since something was done in it, and since another client began to wait, if one does.
 #[derive(Clone, Copy)]
-pub(crate) struct Stand {
+pub(crate) struct SessionTimes {
     pub(crate) begun: u64,
     pub(crate) quiet: u64,
     pub(crate) waited: Option<u64>,
@@ -74,13 +74,13 @@ pub(crate) struct Stand {
 /// is waited for any more; time is that of the system's monotonic clock, in milliseconds.
 #[derive(Drop)]
 pub struct Timeouts {
-    limits: Limits,
+    limits: TimeLimits,
     begun: u64,
     last: Cell<u64>,
     /// Whether the peer said a line since anything else was done.
     has_heard: Cell<bool>,
     logged_in: Cell<bool>,
-    over: Cell<Option<Over>>,
+    over: Cell<Option<TimeoutReason>>,
     /// Since when another client waits.
     waited: Cell<Option<u64>>,
     transfers: Cell<Transfers>,
@@ -90,7 +90,7 @@ pub struct Timeouts {
 
 impl Timeouts {
     /// The timeouts of a session that begins now.
-    pub fn new(limits: Limits) -> Timeouts {
+    pub fn new(limits: TimeLimits) -> Timeouts {
         let now = monotonic_millis();
         Timeouts {
             limits,
@@ -168,12 +168,12 @@ impl Timeouts {
     }
 
     /// Nothing is waited for any more.
-    pub fn end(&self, over: Over) {
+    pub fn end(&self, over: TimeoutReason) {
         self.over.set(Some(over));
     }
 
     /// Why nothing is waited for any more; none while something is.
-    pub fn over(&self) -> Option<Over> {
+    pub fn over(&self) -> Option<TimeoutReason> {
         self.over.get()
     }
 
@@ -183,7 +183,7 @@ impl Timeouts {
     }
 
     /// Why timeouts is over now, if it is.
-    pub(crate) fn spent(&self) -> Option<Over> {
+    pub(crate) fn spent(&self) -> Option<TimeoutReason> {
         match self.term() {
             Some(term) if term.left == 0 => Some(term.over),
             _ => None,
@@ -206,13 +206,13 @@ impl Timeouts {
 
     /// Why the session might be ended for another client that comes now, and for how many milliseconds it might have been: since nothing was said or
     /// sent for as long as may be while others wait, or nobody logged in.
-    pub fn spare(&self) -> Option<(Over, u64)> {
+    pub fn spare(&self) -> Option<(TimeoutReason, u64)> {
         let stand = self.stand();
         let quiet = passed(self.limits.idle_while_waited, stand.quiet);
         let login = passed(self.limits.login_while_waited, stand.begun);
         match (quiet, login) {
-            (Some(since), _) => Some((Over::Waited, since)),
-            (None, Some(since)) if !stand.logged_in => Some((Over::LoginWaited, since)),
+            (Some(since), _) => Some((TimeoutReason::Waited, since)),
+            (None, Some(since)) if !stand.logged_in => Some((TimeoutReason::LoginWaited, since)),
             _ => None,
         }
     }
@@ -226,9 +226,9 @@ impl Timeouts {
     }
 
     /// How the session stands now.
-    fn stand(&self) -> Stand {
+    fn stand(&self) -> SessionTimes {
         let now = monotonic_millis();
-        Stand {
+        SessionTimes {
             begun: now.saturating_sub(self.begun),
             quiet: now.saturating_sub(self.last.get()),
             waited: self.waited.get().map(|since| now.saturating_sub(since)),
@@ -276,41 +276,41 @@ fn passed(limit: u32, spent: u64) -> Option<u64> {
 }
 
 /// What is left of the limits of a session that stands so; none where it has none.
-fn term_of_session(limits: Limits, stand: Stand) -> Option<Term>
+fn term_of_session(limits: TimeLimits, stand: SessionTimes) -> Option<Term>
     ensures { result ≡ term_of_session limits stand }
 {
     sooner(quiet_term(limits, stand), fixed_term(limits, stand))
 }
 
 /// What is left of those that a sign of life puts off.
-fn quiet_term(limits: Limits, stand: Stand) -> Option<Term>
+fn quiet_term(limits: TimeLimits, stand: SessionTimes) -> Option<Term>
     ensures { result ≡ quiet_term limits stand }
 {
-    let idle = term_of(limits.idle, stand.quiet, Over::Idle);
+    let idle = term_of(limits.idle, stand.quiet, TimeoutReason::Idle);
     match stand.waited {
         Some(_) => sooner(
             idle,
-            term_of(limits.idle_while_waited, stand.quiet, Over::Waited),
+            term_of(limits.idle_while_waited, stand.quiet, TimeoutReason::Waited),
         ),
         None => idle,
     }
 }
 
 /// What is left of those that nothing puts off.
-fn fixed_term(limits: Limits, stand: Stand) -> Option<Term>
+fn fixed_term(limits: TimeLimits, stand: SessionTimes) -> Option<Term>
     ensures { result ≡ fixed_term limits stand }
 {
     let session = match stand.waited {
-        Some(since) => term_of(limits.session_while_waited, since, Over::Session),
+        Some(since) => term_of(limits.session_while_waited, since, TimeoutReason::Session),
         None => None,
     };
     if stand.logged_in {
         return session;
     }
-    let login = term_of(limits.login, stand.begun, Over::Login);
+    let login = term_of(limits.login, stand.begun, TimeoutReason::Login);
     match stand.waited {
         Some(since) => {
-            let waited = term_of(limits.login_while_waited, since, Over::LoginWaited);
+            let waited = term_of(limits.login_while_waited, since, TimeoutReason::LoginWaited);
             sooner(session, sooner(login, waited))
         }
         None => login,
@@ -318,7 +318,7 @@ fn fixed_term(limits: Limits, stand: Stand) -> Option<Term>
 }
 
 /// What is left of a limit after so many milliseconds; none where there is no limit.
-fn term_of(limit: u32, spent: u64, over: Over) -> Option<Term>
+fn term_of(limit: u32, spent: u64, over: TimeoutReason) -> Option<Term>
     ensures { result ≡ term_after limit spent over }
 {
     if limit == 0 {

@@ -5,11 +5,11 @@ use Rattle.tool_resume.specs.declared.step.There.{There}
 use Rattle.tool_resume.specs.declared.step.There.TheVariants as Theres
 use Rattle.tool_resume.specs.declared.step.Ended.{Ended}
 use Rattle.tool_resume.specs.declared.step.Ended.TheVariants as Ends
-use Rattle.tool_resume.specs.declared.step.Front.{Front}
-use Rattle.tool_resume.specs.declared.step.Front.TheVariants as Fronts
-use Rattle.tool_resume.specs.declared.step.Step.{Step}
-use Rattle.tool_resume.specs.declared.step.Step.TheVariants as Steps
-use Rattle.tool_resume.specs.declared.step.Transfer.{Transfer}
+use Rattle.tool_resume.specs.declared.step.FrontOwner.{FrontOwner}
+use Rattle.tool_resume.specs.declared.step.FrontOwner.TheVariants as Fronts
+use Rattle.tool_resume.specs.declared.step.NextStep.{NextStep}
+use Rattle.tool_resume.specs.declared.step.NextStep.TheVariants as Steps
+use Rattle.tool_resume.specs.declared.step.TransferState.{TransferState}
 
 -- so many octets where a file goes to are known to be of this transfer: nothing stood there before, or something of another size
 abbrev pub is_own : There → ℕ → Bool
@@ -19,11 +19,11 @@ is_own Theres.Untold count = false
 is_own Theres.Lost count = false
 
 -- from where a try goes on where so many octets are there
-abbrev pub goes_on : Transfer → ℕ → Step
+abbrev pub goes_on : TransferState → ℕ → NextStep
 goes_on t count = if is_own t.older count then Steps.From count else Steps.From 0
 
 -- behind a try that the server says is done: what is there has to have the file's size
-abbrev pub behind_done : Transfer → There → Step
+abbrev pub behind_done : TransferState → There → NextStep
 behind_done t (Theres.Octets count) =
     if count == t.total then Steps.Done
     else (if not (nat_le count t.total) || t.left == 0 then Steps.Wrong count else goes_on t count)
@@ -32,7 +32,7 @@ behind_done t Theres.Untold = Steps.Done
 behind_done t Theres.Lost = Steps.Done
 
 -- behind one whose data connection broke
-abbrev pub behind_broken : Transfer → There → Step
+abbrev pub behind_broken : TransferState → There → NextStep
 behind_broken t (Theres.Octets count) =
     if t.left == 0 then Steps.Tell else (if nat_le count t.total && is_own t.older count then Steps.From count else Steps.From 0)
 behind_broken t Theres.Nothing = if t.left == 0 then Steps.Tell else Steps.From 0
@@ -40,7 +40,7 @@ behind_broken t Theres.Untold = Steps.Tell
 behind_broken t Theres.Lost = if t.left == 0 then Steps.Tell else Steps.Lost
 
 -- behind one that was refused by 451 although its data connection was opened
-abbrev pub behind_failed : Transfer → There → Step
+abbrev pub behind_failed : TransferState → There → NextStep
 behind_failed t (Theres.Octets count) =
     if t.left == 0 then Steps.Tell else (if nat_le count t.total && is_own t.older count then Steps.From count else Steps.Tell)
 behind_failed t Theres.Nothing = Steps.Tell
@@ -48,7 +48,7 @@ behind_failed t Theres.Untold = Steps.Tell
 behind_failed t Theres.Lost = if t.left == 0 then Steps.Tell else Steps.Lost
 
 -- behind one that the server says is done, whose data connection did not end: all has to be there, and it is not tried again
-abbrev pub behind_unended : Transfer → There → Step
+abbrev pub behind_unended : TransferState → There → NextStep
 behind_unended t (Theres.Octets count) = if count == t.total then Steps.Done else Steps.Tell
 behind_unended t Theres.Nothing = Steps.Tell
 behind_unended t Theres.Untold = Steps.Tell
@@ -59,13 +59,13 @@ abbrev pub front_from : ℕ → ℕ
 front_from count = count - 65536
 
 -- where a try would go on behind so many octets, of which the last are these: behind the source's own alone
-abbrev pub behind_front : ℕ → Front → Step
+abbrev pub behind_front : ℕ → FrontOwner → NextStep
 behind_front count Fronts.Own = Steps.From count
 behind_front count Fronts.Other = Steps.From 0
 behind_front count Fronts.Lost = Steps.Lost
 
 -- behind each, where this is there
-abbrev pub follows : Transfer → Ended → There → Step
+abbrev pub follows : TransferState → Ended → There → NextStep
 follows t Ends.Done there = behind_done t there
 follows t Ends.Broken there = behind_broken t there
 follows t Ends.Failed there = behind_failed t there

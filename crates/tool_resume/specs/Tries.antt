@@ -3,9 +3,9 @@
 use Rattle.std.specs.Prelude.{ℕ, ◌==◌, ◌&&◌, ◌||◌, Bool, true, false, not, nat_lt, Option, Some, None, if◌then◌else◌}
 use Rattle.tool_resume.specs.declared.step.Ended.{Ended}
 use Rattle.tool_resume.specs.declared.step.Ended.TheVariants as Ends
-use Rattle.tool_resume.specs.declared.step.Step.{Step}
-use Rattle.tool_resume.specs.declared.step.Step.TheVariants as Steps
-use Rattle.tool_resume.specs.declared.version.Version.{Version}
+use Rattle.tool_resume.specs.declared.step.NextStep.{NextStep}
+use Rattle.tool_resume.specs.declared.step.NextStep.TheVariants as Steps
+use Rattle.tool_resume.specs.declared.version.FileVersion.{FileVersion}
 use Rattle.tool_resume.specs.Version.{resumes, size_told, stays}
 
 -- all octets came, as far as the size is told
@@ -24,13 +24,13 @@ is_past (Some total) came = nat_lt total came
 is_past None came = false
 
 -- after a try that the server says is done, where the file is the one of before: all of it has to be there
-abbrev pub after_same : ℕ → Version → Version → ℕ → Step
+abbrev pub after_same : ℕ → FileVersion → FileVersion → ℕ → NextStep
 after_same left before now came =
     if is_all (size_told now.size) came then Steps.Done
     else (if left == 0 || is_past (size_told now.size) came then Steps.Wrong came else Steps.From (resumes before now came))
 
 -- after one that the server says is done: where the file is another one by now, the download begins anew
-abbrev pub after_done : ℕ → Version → Version → ℕ → Step
+abbrev pub after_done : ℕ → FileVersion → FileVersion → ℕ → NextStep
 after_done left before now came =
     if stays before now then after_same left before now came else (if left == 0 then Steps.Tell else Steps.From 0)
 
@@ -40,20 +40,20 @@ is_sized None = false
 is_sized (Some total) = true
 
 -- after one that broke off
-abbrev pub after_break : ℕ → Version → Version → ℕ → Step
+abbrev pub after_break : ℕ → FileVersion → FileVersion → ℕ → NextStep
 after_break left before now came =
     if left == 0 || not (is_sized (size_told before.size)) then Steps.Tell else Steps.From (resumes before now came)
 
 -- after one that the server says is done, whose data connection did not end: all has to be there, and it is not tried again
-abbrev pub after_unended : Version → Version → ℕ → Step
+abbrev pub after_unended : FileVersion → FileVersion → ℕ → NextStep
 after_unended before now came = if stays before now && is_whole (size_told now.size) came then Steps.Done else Steps.Tell
 
 -- no data connection was opened
-abbrev pub after_unopened : ℕ → Step
+abbrev pub after_unopened : ℕ → NextStep
 after_unopened left = if left == 0 then Steps.Tell else Steps.Again
 
 -- after each, where the server told this of the file before what came, and this now
-abbrev pub after : ℕ → Ended → Version → Version → ℕ → Step
+abbrev pub after : ℕ → Ended → FileVersion → FileVersion → ℕ → NextStep
 after left Ends.Done before now came = after_done left before now came
 after left Ends.Broken before now came = after_break left before now came
 after left Ends.Failed before now came = after_break left before now came
@@ -62,7 +62,7 @@ after left Ends.Unopened before now came = after_unopened left
 
 -- after each, where the control connection ended before the server told which file it has: what the server says is done is only looked at over another
 -- one, and takes no further try
-abbrev pub after_loss : ℕ → Ended → Step
+abbrev pub after_loss : ℕ → Ended → NextStep
 after_loss left Ends.Done = Steps.Lost
 after_loss left Ends.Broken = if left == 0 then Steps.Tell else Steps.Lost
 after_loss left Ends.Failed = if left == 0 then Steps.Tell else Steps.Lost
@@ -70,6 +70,6 @@ after_loss left Ends.Unended = if left == 0 then Steps.Tell else Steps.Lost
 after_loss left Ends.Unopened = after_unopened left
 
 -- after a try of a download of which so many octets came so far, where so many tries may still begin
-abbrev pub follows_download : ℕ → Ended → ℕ → Version → Option Version → Step
+abbrev pub follows_download : ℕ → Ended → ℕ → FileVersion → Option FileVersion → NextStep
 follows_download left ended came before (Some now) = after left ended before now came
 follows_download left ended came before None = after_loss left ended

@@ -5,7 +5,7 @@ use Rattle.tool_resume.specs.declared.version.Size.{Size}
 use Rattle.tool_resume.specs.declared.version.Size.TheVariants as Sizes
 use Rattle.tool_resume.specs.declared.version.LastChange.{LastChange}
 use Rattle.tool_resume.specs.declared.version.LastChange.TheVariants as Changes
-use Rattle.tool_resume.specs.declared.version.Version.{Version}
+use Rattle.tool_resume.specs.declared.version.FileVersion.{FileVersion}
 use Rattle.tool_resume.specs.declared.version.Arrival.{Arrival}
 use Rattle.tool_resume.specs.declared.version.Arrival.TheVariants as Arrivals
 
@@ -46,11 +46,11 @@ settled_moment (Changes.Recent moment) = None
 settled_moment Changes.Untold = None
 
 -- the server has the file of before, as far as it tells: its size and its moment are those of before
-abbrev pub stays : Version → Version → Bool
+abbrev pub stays : FileVersion → FileVersion → Bool
 stays before now = is_as_before (size_told before.size) (size_told now.size) && is_as_before (moment_told before.changed) (moment_told now.changed)
 
 -- the file is seen to be the one of before: its size and its moment were told, and are told again, and a change in between had another moment
-abbrev pub is_seen_again : Version → Version → Bool
+abbrev pub is_seen_again : FileVersion → FileVersion → Bool
 is_seen_again before now = is_told_again (size_told before.size) (size_told now.size) && is_told_again (settled_moment before.changed) (moment_told now.changed)
 
 -- so many octets are not more than the file has, where its size is told
@@ -59,7 +59,7 @@ has_so_many (Some total) came = nat_le came total
 has_so_many None came = false
 
 -- a download goes on after what came, where the file is seen to be the one of before; else it begins anew
-abbrev pub resumes : Version → Version → ℕ → ℕ
+abbrev pub resumes : FileVersion → FileVersion → ℕ → ℕ
 resumes before now came = if is_seen_again before now && has_so_many (size_told now.size) came then came else 0
 
 -- it is told that the file has more octets than the limit
@@ -84,5 +84,5 @@ arrived_of limit same Sizes.Uncounted came = unknown_if same
 
 -- how a download stands that the server says is done, of which so many octets came, where the server told this of the file before they came, and this
 -- after the last of them
-abbrev pub arrived : ℕ → Version → Version → ℕ → Arrival
+abbrev pub arrived : ℕ → FileVersion → FileVersion → ℕ → Arrival
 arrived limit before now came = arrived_of limit (stays before now) now.size came

@@ -7,10 +7,10 @@ use ftp_wire::Sink;
 use std::alloc::{AllocError, Global};
 use std::io::{Error, ErrorKind};
 use tool_files::OpenPart;
-use tool_session::{Poured, SharedFile};
+use tool_session::{FileDownloadStream, SharedFile};
 
 /// The octets that came: in a part of a file, to which they go as they come, or in memory, in pieces, none of which is copied.
-pub struct Came {
+pub struct ReceivedOctets {
     pieces: Vec<Text<Global>, Global>,
     part: Option<OpenPart>,
     count: u64,
@@ -19,7 +19,7 @@ pub struct Came {
 }
 
 /// By hand: a derived drop is proved again, part by part, wherever octets are let go.
-impl Drop for Came {
+impl Drop for ReceivedOctets {
     fn drop(self) {
         let Self {
             pieces: _,
@@ -30,10 +30,10 @@ impl Drop for Came {
     }
 }
 
-impl Came {
+impl ReceivedOctets {
     /// Nothing yet; what comes is held in memory.
-    pub fn new(alloc: Global) -> Came {
-        Came {
+    pub fn new(alloc: Global) -> ReceivedOctets {
+        ReceivedOctets {
             pieces: Vec::new(alloc),
             part: None,
             count: 0,
@@ -42,8 +42,8 @@ impl Came {
     }
 
     /// So many octets, which a part has; what comes goes behind them.
-    pub(crate) fn into_part(alloc: Global, part: OpenPart, count: u64) -> Came {
-        Came {
+    pub(crate) fn into_part(alloc: Global, part: OpenPart, count: u64) -> ReceivedOctets {
+        ReceivedOctets {
             pieces: Vec::new(alloc),
             part: Some(part),
             count,
@@ -87,7 +87,7 @@ impl Came {
     pub(crate) fn sink_transfer(
         &self,
         settings: Representation,
-    ) -> Result<Option<Poured>, AllocError> {
+    ) -> Result<Option<FileDownloadStream>, AllocError> {
         match &self.part {
             Some(part) => {
                 let writer = SharedFile::new(part.shared()?);
@@ -149,7 +149,10 @@ impl Came {
 
 /// How many octets a data connection brought to a part that was answered so, and why that failed, if it did. Where the answer says that they are a whole
 /// file, a CR that was held goes there too.
-pub(crate) fn poured(home: Option<Poured>, answer: &Answer<Global>) -> (u64, Option<Error>) {
+pub(crate) fn poured(
+    home: Option<FileDownloadStream>,
+    answer: &Answer<Global>,
+) -> (u64, Option<Error>) {
     let Some(mut sink_transfer) = home else {
         return (0, Some(Error::from(ErrorKind::NotConnected)));
     };

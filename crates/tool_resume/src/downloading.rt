@@ -2,10 +2,15 @@
 // is sent and not all came. After each try the server is asked once more which file it has: octets of two files are never joined.
 mod ahead;
 
-use crate::came::{Came, poured};
+use crate::came::{ReceivedOctets, poured};
 use crate::noting::Noting;
-use crate::telling::Part;
+use crate::step::{Ended, NextStep};
+use crate::telling::ToldPart;
+use crate::tries::follows_download;
 use crate::trying::{ended_of, is_counted, moment_request, size_request};
+use crate::version::{
+    Arrival, FileVersion, LastChange, Size, arrived, is_too_large, last_change, resumes,
+};
 use ftp_client_steps::MOST_TRIES;
 use ftp_facts::{Moment, Text};
 use ftp_operation::{Answer, How, Op};
@@ -15,15 +20,13 @@ use std::io::Eprint;
 use std::{io, mem};
 use tool_files::{LocalFiles, OpenPart};
 use tool_session::{
-    ClientSession, Ending, Openings, Poured, Request, SessionFault, SessionTask, Terms, Ticket, say,
+    ClientSession, DataEnding, FileDownloadStream, Openings, Request, SessionFault, SessionTask,
+    Terms, Ticket, say,
 };
-use crate::step::{Ended, Step};
-use crate::tries::follows_download;
-use crate::version::{Arrival, LastChange, Size, Version, arrived, is_too_large, last_change, resumes};
 
 /// What is known of the moment of the file's last change.
 #[derive(Clone, Copy)]
-pub enum Stamp {
+pub enum KnownMoment {
     /// The server is not asked for it.
     Unasked,
     /// The server does not tell it, or was not asked yet.
@@ -35,7 +38,7 @@ pub enum Stamp {
 
 /// What is asked over a control connection before a first try over it.
 #[derive(Clone, Copy)]
-enum Sight {
+enum VersionCheck {
     /// Which file the server has.
     Asked,
     /// Nothing: the server has just listed the file.
@@ -56,19 +59,19 @@ pub struct Downloading<'a, R> {
     /// The most octets that the file may have.
     limit: u64,
     /// What came so far.
-    came: Came,
+    came: ReceivedOctets,
     /// Where a note stands beside the part that it goes to.
     noting: Option<Noting>,
     /// How many tries may still begin, over all control connections.
     left: u64,
     /// Which file the server had before the first octet of what came.
-    begun: Version,
+    begun: FileVersion,
     /// What the server told last of the file.
     size: Size,
-    stamp: Stamp,
+    stamp: KnownMoment,
     /// When it was asked for that, or before that, in seconds from the beginning of 1970, by this machine's clock.
     asked_at: u64,
-    sight: Sight,
+    sight: VersionCheck,
     /// By which its first try is answered, where all of the file was asked for ahead.
     ahead: Option<Ticket>,
 }
@@ -121,23 +124,23 @@ impl<'a, R: LocalFiles + Eprint> Downloading<'a, R> {
             how,
             openings,
             limit: u64::MAX,
-            came: Came::new(alloc),
+            came: ReceivedOctets::new(alloc),
             noting: None,
             left: MOST_TRIES,
-            begun: Version {
+            begun: FileVersion {
                 size,
                 changed: LastChange::Untold,
             },
             size,
-            stamp: Stamp::Unasked,
+            stamp: KnownMoment::Unasked,
             asked_at: 0,
-            sight: Sight::Asked,
+            sight: VersionCheck::Asked,
             ahead: None,
         })
     }
 
     /// The file may have `limit` octets at most, and its moment is asked for where `stamp` is `Untold`.
-    pub fn put_terms(&mut self, limit: u64, stamp: Stamp) {
+    pub fn put_terms(&mut self, limit: u64, stamp: KnownMoment) {
         self.limit = limit;
         self.stamp = stamp;
     }
@@ -150,18 +153,18 @@ impl<'a, R: LocalFiles + Eprint> Downloading<'a, R> {
 
     /// What comes goes to this part of a file, as it comes, and none of it is held in memory.
     pub fn pour_into(&mut self, part: OpenPart) {
-        self.came = Came::into_part(self.alloc, part, 0);
+        self.came = ReceivedOctets::into_part(self.alloc, part, 0);
     }
 
     /// The same, where the part has octets of a file of this size that was changed last at this moment, as its note says, which is none of a recent
     /// moment: the download goes on behind them where the server has that file still, and else begins anew. Without a moment, and in settings in which octets are not counted, it begins anew.
     pub fn go_on_in(&mut self, part: OpenPart, count: u64, total: u64, moment: Option<Moment>) {
-        self.came = Came::into_part(self.alloc, part, count);
+        self.came = ReceivedOctets::into_part(self.alloc, part, count);
         match moment {
             Some(moment) if is_counted(self.how) => {
                 self.size = Size::Told(total);
-                self.stamp = Stamp::Told(moment);
-                self.begun = Version {
+                self.stamp = KnownMoment::Told(moment);
+                self.begun = FileVersion {
                     size: self.size,
                     changed: LastChange::Settled(moment.seconds),
                 };
@@ -182,14 +185,14 @@ impl<'a, R: LocalFiles + Eprint> Downloading<'a, R> {
         if is_counted(self.how) {
             self.asked_at = asked_at;
             self.size = Size::Told(total);
-            self.stamp = Stamp::Told(moment);
+            self.stamp = KnownMoment::Told(moment);
             self.begun = self.version();
-            self.sight = Sight::Listed;
+            self.sight = VersionCheck::Listed;
         }
     }
 
     /// What came.
-    pub fn came(&self) -> &Came {
+    pub fn came(&self) -> &ReceivedOctets {
         &self.came
     }
 
@@ -199,21 +202,21 @@ impl<'a, R: LocalFiles + Eprint> Downloading<'a, R> {
     }
 
     /// Which file what came is of, as far as the server told before its first octet.
-    pub fn begun(&self) -> Version {
+    pub fn begun(&self) -> FileVersion {
         self.begun
     }
 
     /// The moment that the server told last, if it was asked and tells one.
     pub fn moment(&self) -> Option<Moment> {
         match self.stamp {
-            Stamp::Told(moment) => Some(moment),
-            Stamp::Unasked | Stamp::Untold | Stamp::Strange => None,
+            KnownMoment::Told(moment) => Some(moment),
+            KnownMoment::Unasked | KnownMoment::Untold | KnownMoment::Strange => None,
         }
     }
 
     /// Whether no further try may begin, and none is looked at any more.
     pub fn is_spent(&self) -> bool {
-        self.left == 0 && !matches!(self.sight, Sight::Said)
+        self.left == 0 && !matches!(self.sight, VersionCheck::Said)
     }
 
     /// How it stands, once the server said that it is done.
@@ -222,8 +225,8 @@ impl<'a, R: LocalFiles + Eprint> Downloading<'a, R> {
     }
 
     /// Which file the server has, as far as it told.
-    fn version(&self) -> Version {
-        Version {
+    fn version(&self) -> FileVersion {
+        FileVersion {
             size: self.size,
             changed: last_change(self.moment().map(|moment| moment.seconds), self.asked_at),
         }
@@ -231,13 +234,13 @@ impl<'a, R: LocalFiles + Eprint> Downloading<'a, R> {
 
     /// Tries until the server answers: over this control connection, after what came over those before.
     pub fn answer<S: ClientSession>(&mut self, slot: &mut S) -> Answer<Global> {
-        if matches!(self.sight, Sight::Listed) {
-            self.sight = Sight::Asked;
+        if matches!(self.sight, VersionCheck::Listed) {
+            self.sight = VersionCheck::Asked;
             return self.tries(slot);
         }
         match self.begin(slot) {
-            Turn::GoesOn => self.tries(slot),
-            Turn::Over(answer) => answer,
+            DownloadTurn::GoesOn => self.tries(slot),
+            DownloadTurn::Over(answer) => answer,
         }
     }
 
@@ -245,8 +248,8 @@ impl<'a, R: LocalFiles + Eprint> Downloading<'a, R> {
     fn tries<S: ClientSession>(&mut self, slot: &mut S) -> Answer<Global> {
         for _ in 0..self.left {
             match self.turn(slot) {
-                Turn::GoesOn => {}
-                Turn::Over(answer) => return answer,
+                DownloadTurn::GoesOn => {}
+                DownloadTurn::Over(answer) => return answer,
             }
         }
         Answer::Lost
@@ -254,20 +257,20 @@ impl<'a, R: LocalFiles + Eprint> Downloading<'a, R> {
 
     /// Asks which file the server has before the first try over a control connection. Where it said before that it is done, that is judged by it; else
     /// the download goes on after what came, where that is of this file.
-    fn begin<S: ClientSession>(&mut self, slot: &mut S) -> Turn {
+    fn begin<S: ClientSession>(&mut self, slot: &mut S) -> DownloadTurn {
         if !self.look(slot) {
-            return Turn::Over(Answer::Lost);
+            return DownloadTurn::Over(Answer::Lost);
         }
         if is_too_large(self.limit, self.size) {
-            return Turn::Over(Answer::Done);
+            return DownloadTurn::Over(Answer::Done);
         }
-        let is_said = matches!(self.sight, Sight::Said);
-        self.sight = Sight::Asked;
+        let is_said = matches!(self.sight, VersionCheck::Said);
+        self.sight = VersionCheck::Asked;
         self.take_up(is_said)
     }
 
     /// Judges what came over the control connections before by the file that the server has now.
-    fn take_up(&mut self, is_said: bool) -> Turn {
+    fn take_up(&mut self, is_said: bool) -> DownloadTurn {
         let came = self.came.count();
         let now = self.version();
         if is_said {
@@ -279,7 +282,7 @@ impl<'a, R: LocalFiles + Eprint> Downloading<'a, R> {
         } else {
             self.begun = now;
         }
-        Turn::GoesOn
+        DownloadTurn::GoesOn
     }
 
     /// Asks which file the server has: for its size and its moment. Says whether anything more is answered over this control connection.
@@ -293,7 +296,7 @@ impl<'a, R: LocalFiles + Eprint> Downloading<'a, R> {
     /// The same after a try; what the server did not tell before it is not asked for.
     fn look_again<S: ClientSession>(&mut self, slot: &mut S) -> bool {
         (!matches!(self.size, Size::Told(_)) || self.see(slot))
-            && (!matches!(self.stamp, Stamp::Told(_)) || self.look_at_moment(slot))
+            && (!matches!(self.stamp, KnownMoment::Told(_)) || self.look_at_moment(slot))
     }
 
     /// Asks for the size; says whether anything more is answered over this control connection.
@@ -318,16 +321,16 @@ impl<'a, R: LocalFiles + Eprint> Downloading<'a, R> {
     /// Asks for the moment; says whether anything more is answered over this control connection.
     fn look_at_moment<S: ClientSession>(&mut self, slot: &mut S) -> bool {
         match self.stamp {
-            Stamp::Unasked | Stamp::Strange => return true,
-            Stamp::Untold | Stamp::Told(_) => {}
+            KnownMoment::Unasked | KnownMoment::Strange => return true,
+            KnownMoment::Untold | KnownMoment::Told(_) => {}
         }
         match &answer_to(slot, moment_request(self.alloc, self.path.as_str())) {
-            Answer::Stamp(moment) => self.stamp = Stamp::Told(*moment),
-            Answer::Strange => self.stamp = Stamp::Strange,
+            Answer::Stamp(moment) => self.stamp = KnownMoment::Told(*moment),
+            Answer::Strange => self.stamp = KnownMoment::Strange,
             Answer::Lost => return false,
-            _ => self.stamp = Stamp::Untold,
+            _ => self.stamp = KnownMoment::Untold,
         }
-        !matches!(self.stamp, Stamp::Strange)
+        !matches!(self.stamp, KnownMoment::Strange)
     }
 
     /// What the server answers to the question for the size.
@@ -336,24 +339,24 @@ impl<'a, R: LocalFiles + Eprint> Downloading<'a, R> {
     }
 
     /// One try, behind what came so far.
-    fn turn<S: ClientSession>(&mut self, slot: &mut S) -> Turn {
+    fn turn<S: ClientSession>(&mut self, slot: &mut S) -> DownloadTurn {
         let opened = slot.opened();
         let before = self.came.count();
         let was_ahead = self.is_ahead();
         self.left = self.left.saturating_sub(1);
         self.note();
         let Ok(asked) = self.asked(slot) else {
-            return Turn::Over(Answer::Memory);
+            return DownloadTurn::Over(Answer::Memory);
         };
         let answer = self.take(asked, slot.came(), before);
         if self.came.fault().is_some() {
             drop(answer);
-            return Turn::Over(Answer::Memory);
+            return DownloadTurn::Over(Answer::Memory);
         }
-        if slot.ending() == Ending::PastLimit {
+        if slot.ending() == DataEnding::PastLimit {
             drop(answer);
             self.size = Size::Past;
-            return Turn::Over(Answer::Done);
+            return DownloadTurn::Over(Answer::Done);
         }
         if !was_ahead {
             self.asked_at = self.rt.present();
@@ -411,7 +414,7 @@ impl<'a, R: LocalFiles + Eprint> Downloading<'a, R> {
     }
 
     /// What went to the part before this was answered.
-    fn take_poured(&mut self, home: Cell<Option<Poured>>, answer: &Answer<Global>) {
+    fn take_poured(&mut self, home: Cell<Option<FileDownloadStream>>, answer: &Answer<Global>) {
         let (count, fault) = poured(home.into_inner(), answer);
         self.came.took(count, fault);
     }
@@ -483,16 +486,16 @@ impl<'a, R: LocalFiles + Eprint> Downloading<'a, R> {
         slot: &mut S,
         answer: &Answer<Global>,
         is_opened: bool,
-    ) -> Step {
-        let is_unended = slot.ending() == Ending::Unended;
+    ) -> NextStep {
+        let is_unended = slot.ending() == DataEnding::Unended;
         match ended_of(answer, is_opened, is_unended) {
             Some(ended) => self.judge(slot, ended),
-            None => Step::Tell,
+            None => NextStep::Tell,
         }
     }
 
     /// What follows a try that ended so. Which file the server has is asked where anything may follow.
-    fn judge<S: ClientSession>(&mut self, slot: &mut S, ended: Ended) -> Step {
+    fn judge<S: ClientSession>(&mut self, slot: &mut S, ended: Ended) -> NextStep {
         let is_sized = matches!(self.size, Size::Told(_));
         let is_asked = match ended {
             Ended::Done => true,
@@ -506,32 +509,32 @@ impl<'a, R: LocalFiles + Eprint> Downloading<'a, R> {
             None
         };
         if now.is_none() && matches!(ended, Ended::Done) {
-            self.sight = Sight::Said;
+            self.sight = VersionCheck::Said;
         }
         follows_download(self.left, ended, self.came.count(), self.begun, now)
     }
 
     /// Takes a step. An answer that is none of the end is let go by a call: where it is let go at an arm's end, it is proved part by part.
-    fn follow(&mut self, answer: Answer<Global>, step: Step) -> Turn {
+    fn follow(&mut self, answer: Answer<Global>, step: NextStep) -> DownloadTurn {
         match step {
-            Step::From(next) => {
+            NextStep::From(next) => {
                 drop(answer);
                 self.go_on(next);
-                Turn::GoesOn
+                DownloadTurn::GoesOn
             }
-            Step::Again => {
+            NextStep::Again => {
                 drop(answer);
-                Turn::GoesOn
+                DownloadTurn::GoesOn
             }
-            Step::Lost => {
+            NextStep::Lost => {
                 drop(answer);
-                Turn::Over(Answer::Lost)
+                DownloadTurn::Over(Answer::Lost)
             }
-            Step::Done => {
+            NextStep::Done => {
                 drop(answer);
-                Turn::Over(Answer::Done)
+                DownloadTurn::Over(Answer::Done)
             }
-            Step::Tell | Step::Wrong(_) | Step::Missing => Turn::Over(answer),
+            NextStep::Tell | NextStep::Wrong(_) | NextStep::Missing => DownloadTurn::Over(answer),
         }
     }
 
@@ -553,7 +556,7 @@ impl<'a, R: LocalFiles + Eprint> Downloading<'a, R> {
             self.begin_anew();
             let _told = say(self.rt, self.head.as_str(), &"the download begins anew", "");
         } else if let Size::Told(total) = self.size {
-            let part = Part {
+            let part = ToldPart {
                 count: from,
                 between: " of ",
                 total,
@@ -583,7 +586,7 @@ fn answer_to<S: ClientSession>(
 
 /// What a try leads to.
 #[derive(Drop)]
-enum Turn {
+enum DownloadTurn {
     /// Another try, behind what came.
     GoesOn,
     Over(Answer<Global>),

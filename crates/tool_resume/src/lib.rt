@@ -16,17 +16,19 @@ mod trying;
 mod uploading;
 mod version;
 
-pub use came::Came;
-pub use downloading::{Downloading, Stamp};
+pub use came::ReceivedOctets;
+pub use downloading::{Downloading, KnownMoment};
 pub use foreseeing::download_row;
 pub use held::limit_held;
 pub use sending::Sending;
-pub use source::Source;
-pub use step::{Ended, Front, Step, There, Transfer, behind_front, follows, front_from};
-pub use telling::{Part, tell, tell_too_large};
+pub use source::UploadSource;
+pub use step::{
+    Ended, FrontOwner, NextStep, There, TransferState, behind_front, follows, front_from,
+};
+pub use telling::{ToldPart, tell, tell_too_large};
 pub use tries::follows_download;
 pub use trying::is_counted;
 pub use uploading::{Uploading, Wrong};
 pub use version::{
-    Arrival, LastChange, Size, Version, arrived, is_too_large, last_change, resumes, stays,
+    Arrival, FileVersion, LastChange, Size, arrived, is_too_large, last_change, resumes, stays,
 };

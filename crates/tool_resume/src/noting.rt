@@ -1,8 +1,8 @@
 // The note beside the part of a download, as octets come.
+use crate::version::{FileVersion, LastChange, Size};
 use std::alloc::{AllocError, Global};
 use std::io;
 use tool_files::{GROWING, LocalFiles, Note, OpenPart, note_of};
-use crate::version::{LastChange, Size, Version};
 
 /// Of which file the part of a download is, for the note beside it.
 pub(crate) struct Noting {
@@ -46,7 +46,7 @@ impl Noting {
         rt: &R,
         alloc: Global,
         part: &OpenPart,
-        begun: Version,
+        begun: FileVersion,
     ) -> io::Result<()> {
         if !self.is_growing {
             self.is_growing = self.write(rt, alloc, part, begun, GROWING)?;
@@ -61,10 +61,10 @@ impl Noting {
         rt: &R,
         alloc: Global,
         part: &OpenPart,
-        begun: Version,
+        begun: FileVersion,
         count: u64,
     ) -> io::Result<bool> {
-        let Version {
+        let FileVersion {
             size: Size::Told(size),
             changed: LastChange::Settled(moment),
         } = begun

@@ -9,10 +9,10 @@ use std::time::SystemTime;
 use tool_files::{LocalFiles, OpenSource};
 
 /// What a data connection of an upload carries: octets of a file, as they are read.
-pub(crate) type Drawn = SourceTransfer<ReaderSource<File>, Global>;
+pub(crate) type FileUploadStream = SourceTransfer<ReaderSource<File>, Global>;
 
 /// The octets of an upload.
-pub enum Source<'a> {
+pub enum UploadSource<'a> {
     /// Those of a file, which are read as they go.
     File(FileSource<'a>),
     /// Those that can be had only once, as from standard input: they stay here.
@@ -30,10 +30,10 @@ pub struct FileSource<'a> {
 }
 
 /// By hand: a derived drop is proved again, part by part, wherever octets are let go.
-impl<'a> Drop for Source<'a> {
+impl<'a> Drop for UploadSource<'a> {
     fn drop(self) {
         match self {
-            Source::File(_) | Source::Kept(_) => {}
+            UploadSource::File(_) | UploadSource::Kept(_) => {}
         }
     }
 }
@@ -50,10 +50,10 @@ impl<'a> Drop for FileSource<'a> {
     }
 }
 
-impl<'a> Source<'a> {
+impl<'a> UploadSource<'a> {
     /// A file of this name, open at its first octet.
-    pub fn file(name: &'a str, opened: OpenSource) -> Source<'a> {
-        Source::File(FileSource {
+    pub fn file(name: &'a str, opened: OpenSource) -> UploadSource<'a> {
+        UploadSource::File(FileSource {
             name,
             total: opened.total,
             changed: opened.changed,
@@ -64,8 +64,8 @@ impl<'a> Source<'a> {
     /// How many octets there are.
     pub(crate) fn total(&self) -> u64 {
         match self {
-            Source::File(file) => file.total,
-            Source::Kept(octets) => octets.len() as u64,
+            UploadSource::File(file) => file.total,
+            UploadSource::Kept(octets) => octets.len() as u64,
         }
     }
 
@@ -77,10 +77,10 @@ impl<'a> Source<'a> {
         alloc: Global,
         how: How,
         from: u64,
-    ) -> io::Result<Option<Drawn>> {
+    ) -> io::Result<Option<FileUploadStream>> {
         match self {
-            Source::File(file) => Ok(Some(file.source_transfer(rt, alloc, how, from)?)),
-            Source::Kept(_) => Ok(None),
+            UploadSource::File(file) => Ok(Some(file.source_transfer(rt, alloc, how, from)?)),
+            UploadSource::Kept(_) => Ok(None),
         }
     }
 
@@ -92,11 +92,11 @@ impl<'a> Source<'a> {
         (from, to): (u64, u64),
     ) -> io::Result<Vec<u8, Global>> {
         match self {
-            Source::File(file) => {
+            UploadSource::File(file) => {
                 let mut opened = file.open_again(rt, from)?;
                 read_piece(alloc, &mut opened.opened, to.saturating_sub(from))
             }
-            Source::Kept(octets) => {
+            UploadSource::Kept(octets) => {
                 let (front, _) = octets.split_at(octets.len().min(to as usize));
                 let (_, piece) = front.split_at(front.len().min(from as usize));
                 Ok(Vec::from_slice(alloc, piece)?)
@@ -106,7 +106,7 @@ impl<'a> Source<'a> {
 
     /// Why what a data connection carried is not the file as it was opened first: it could not be read, or it has changed by the last octet where all is said
     /// to be done; none where it is.
-    pub(crate) fn fault(&self, home: Option<Drawn>, is_done: bool) -> Option<Error> {
+    pub(crate) fn fault(&self, home: Option<FileUploadStream>, is_done: bool) -> Option<Error> {
         let Some(source_transfer) = home else {
             return Some(Error::from(ErrorKind::NotConnected));
         };
@@ -116,16 +116,16 @@ impl<'a> Source<'a> {
             return fault;
         }
         match self {
-            Source::File(file) => file.check(reader_source.reader()).err(),
-            Source::Kept(_) => None,
+            UploadSource::File(file) => file.check(reader_source.reader()).err(),
+            UploadSource::Kept(_) => None,
         }
     }
 
     /// A copy of those that stay here, from one of them on; none of a file.
     pub(crate) fn copy_from(&self, alloc: Global, from: u64) -> io::Result<Vec<u8, Global>> {
         match self {
-            Source::File(_) => Ok(Vec::new(alloc)),
-            Source::Kept(octets) => {
+            UploadSource::File(_) => Ok(Vec::new(alloc)),
+            UploadSource::Kept(octets) => {
                 let (_, rest) = octets.split_at(octets.len().min(from as usize));
                 Ok(Vec::from_slice(alloc, rest)?)
             }
@@ -141,7 +141,7 @@ impl<'a> FileSource<'a> {
         alloc: Global,
         how: How,
         from: u64,
-    ) -> io::Result<Drawn> {
+    ) -> io::Result<FileUploadStream> {
         let opened = match self.opened.take() {
             Some(opened) => opened,
             None => self.open_again(rt, from)?,

@@ -32,7 +32,7 @@ pub enum Ended {
 
 /// How far a transfer is.
 #[derive(Clone, Copy)]
-pub struct Transfer {
+pub struct TransferState {
     /// How many octets the file has.
     pub total: u64,
     /// How many tries may still begin.
@@ -43,7 +43,7 @@ pub struct Transfer {
 
 /// What follows a try.
 #[derive(Clone, Copy)]
-pub enum Step {
+pub enum NextStep {
     /// A try from this octet of the file on.
     From(u64),
     /// The same try once more.
@@ -65,7 +65,7 @@ const READ_BACK: u64 = 65_536;
 
 /// What the last octets are of the front that a server has of an upload, which are read back before the upload goes on behind it.
 #[derive(Clone, Copy)]
-pub enum Front {
+pub enum FrontOwner {
     /// The source's own at that place.
     Own,
     /// Others, or the server does not give them.
@@ -82,13 +82,13 @@ pub fn front_from(count: u64) -> u64
 }
 
 /// What follows where a try would go on behind so many octets, of which the last are these: it goes on behind the source's own alone, and else begins anew.
-pub fn behind_front(count: u64, front: Front) -> Step
+pub fn behind_front(count: u64, front: FrontOwner) -> NextStep
     ensures { result ≡ behind_front count front }
 {
     match front {
-        Front::Own => Step::From(count),
-        Front::Other => Step::From(0),
-        Front::Lost => Step::Lost,
+        FrontOwner::Own => NextStep::From(count),
+        FrontOwner::Other => NextStep::From(0),
+        FrontOwner::Lost => NextStep::Lost,
     }
 }
 
@@ -96,7 +96,7 @@ pub fn behind_front(count: u64, front: Front) -> Step
 ///
 /// A 226 is believed only where the size is the file's, or is not told. A try goes on behind the octets that are there only where these are known to
 /// be of this transfer, and else begins anew.
-pub fn follows(transfer: Transfer, ended: Ended, there: There) -> Step
+pub fn follows(transfer: TransferState, ended: Ended, there: There) -> NextStep
     ensures { result ≡ follows transfer ended there }
 {
     match ended {
@@ -105,9 +105,9 @@ pub fn follows(transfer: Transfer, ended: Ended, there: There) -> Step
         Ended::Failed => behind_failed(transfer, there),
         Ended::Unopened => {
             if transfer.left == 0 {
-                Step::Tell
+                NextStep::Tell
             } else {
-                Step::Again
+                NextStep::Again
             }
         }
         Ended::Unended => behind_unended(transfer, there),
@@ -115,79 +115,79 @@ pub fn follows(transfer: Transfer, ended: Ended, there: There) -> Step
 }
 
 /// Behind a try that the server says is done, whose data connection did not end.
-fn behind_unended(transfer: Transfer, there: There) -> Step
+fn behind_unended(transfer: TransferState, there: There) -> NextStep
     ensures { result ≡ behind_unended transfer there }
 {
     match there {
-        There::Octets(count) if count == transfer.total => Step::Done,
-        _ => Step::Tell,
+        There::Octets(count) if count == transfer.total => NextStep::Done,
+        _ => NextStep::Tell,
     }
 }
 
 /// Behind a try that the server says is done.
-fn behind_done(transfer: Transfer, there: There) -> Step
+fn behind_done(transfer: TransferState, there: There) -> NextStep
     ensures { result ≡ behind_done transfer there }
 {
     match there {
         There::Octets(count) => behind_octets(transfer, count),
-        There::Nothing => Step::Missing,
-        There::Untold | There::Lost => Step::Done,
+        There::Nothing => NextStep::Missing,
+        There::Untold | There::Lost => NextStep::Done,
     }
 }
 
 /// Behind a try that the server says is done, where so many octets are there.
-fn behind_octets(transfer: Transfer, count: u64) -> Step
+fn behind_octets(transfer: TransferState, count: u64) -> NextStep
     ensures { result ≡ behind_done transfer (There.Octets count) }
 {
     if count == transfer.total {
-        Step::Done
+        NextStep::Done
     } else if count > transfer.total || transfer.left == 0 {
-        Step::Wrong(count)
+        NextStep::Wrong(count)
     } else if is_own(transfer.older, count) {
-        Step::From(count)
+        NextStep::From(count)
     } else {
-        Step::From(0)
+        NextStep::From(0)
     }
 }
 
 /// Behind a try whose data connection broke.
-fn behind_broken(transfer: Transfer, there: There) -> Step
+fn behind_broken(transfer: TransferState, there: There) -> NextStep
     ensures { result ≡ behind_broken transfer there }
 {
     if transfer.left == 0 {
-        return Step::Tell;
+        return NextStep::Tell;
     }
     match there {
         There::Octets(count) => {
             if count <= transfer.total && is_own(transfer.older, count) {
-                Step::From(count)
+                NextStep::From(count)
             } else {
-                Step::From(0)
+                NextStep::From(0)
             }
         }
-        There::Nothing => Step::From(0),
-        There::Untold => Step::Tell,
-        There::Lost => Step::Lost,
+        There::Nothing => NextStep::From(0),
+        There::Untold => NextStep::Tell,
+        There::Lost => NextStep::Lost,
     }
 }
 
 /// Behind a try that was refused by 451: it was given up in its middle only where the server is seen to have octets of it.
-fn behind_failed(transfer: Transfer, there: There) -> Step
+fn behind_failed(transfer: TransferState, there: There) -> NextStep
     ensures { result ≡ behind_failed transfer there }
 {
     if transfer.left == 0 {
-        return Step::Tell;
+        return NextStep::Tell;
     }
     match there {
         There::Octets(count) => {
             if count <= transfer.total && is_own(transfer.older, count) {
-                Step::From(count)
+                NextStep::From(count)
             } else {
-                Step::Tell
+                NextStep::Tell
             }
         }
-        There::Nothing | There::Untold => Step::Tell,
-        There::Lost => Step::Lost,
+        There::Nothing | There::Untold => NextStep::Tell,
+        There::Lost => NextStep::Lost,
     }
 }
 

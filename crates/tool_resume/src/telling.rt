@@ -4,7 +4,7 @@ use std::alloc::Global;
 use std::fmt::{Display, Formatter};
 use std::io::Eprint;
 use std::{fmt, io};
-use tool_session::{LastReply, Refusal, Stranger, told};
+use tool_session::{LastReply, ServerRefusal, Stranger, told};
 use tool_terminal::{Shown, Status};
 
 /// Tells on standard error why an operation at a path was not done, and gives the exit status; `stranger` is how another host may have come to be at the
@@ -14,29 +14,29 @@ pub fn tell<R: Eprint>(
     path: &str,
     stranger: Stranger,
     answer: &Answer<Global>,
-    noticed: &LastReply,
+    last_reply: &LastReply,
 ) -> io::Result<Status> {
     let status = status(answer);
     match answer {
         Answer::Refused(code) => {
             let why = Refused {
                 path: Shown(path.as_bytes()),
-                refusal: noticed.refusal(*code),
+                refusal: last_reply.refusal(*code),
             };
             told(rt, "error: ", &why, "", status)
         }
         Answer::Lost => told(
             rt,
             "error: the control connection ended",
-            &noticed.farewell(),
-            extent_of(noticed.is_mute()),
+            &last_reply.farewell(),
+            extent_of(last_reply.is_mute()),
             status,
         ),
         Answer::Foreign => told(rt, "error: ", &stranger.sentence(), "", status),
         Answer::Strange => told(
             rt,
             "error: the server says what has no place",
-            &noticed.said(),
+            &last_reply.said(),
             "",
             status,
         ),
@@ -48,7 +48,7 @@ pub fn tell<R: Eprint>(
 #[derive(Clone, Copy)]
 struct Refused<'a> {
     path: Shown<'a>,
-    refusal: Refusal<'a>,
+    refusal: ServerRefusal<'a>,
 }
 
 impl<'a> Display for Refused<'a> {
@@ -90,7 +90,7 @@ fn status(answer: &Answer<Global>) -> Status {
 pub fn tell_too_large<R: Eprint>(rt: &R, name: &str, size: u64, limit: u64) -> io::Result<Status> {
     let part = TooLarge {
         name: Shown(name.as_bytes()),
-        part: Part {
+        part: ToldPart {
             count: size,
             between: " octets are past the limit of ",
             total: limit,
@@ -109,7 +109,7 @@ pub fn tell_too_large<R: Eprint>(rt: &R, name: &str, size: u64, limit: u64) -> i
 #[derive(Clone, Copy)]
 struct TooLarge<'a> {
     name: Shown<'a>,
-    part: Part<'a>,
+    part: ToldPart<'a>,
 }
 
 impl<'a> Display for TooLarge<'a> {
@@ -120,13 +120,13 @@ impl<'a> Display for TooLarge<'a> {
 
 /// How much of a file there is, as it is told: both numbers, and a text between them.
 #[derive(Clone, Copy)]
-pub struct Part<'a> {
+pub struct ToldPart<'a> {
     pub count: u64,
     pub between: &'a str,
     pub total: u64,
 }
 
-impl<'a> Display for Part<'a> {
+impl<'a> Display for ToldPart<'a> {
     fn fmt<W: fmt::Write>(&self, formatter: &mut Formatter<W>) -> fmt::Result {
         write!(formatter, "{}{}{}", self.count, self.between, self.total)
     }
@@ -135,7 +135,7 @@ impl<'a> Display for Part<'a> {
 /// How much of a file a server has, as it is told.
 #[derive(Clone, Copy)]
 pub(crate) struct Had<'a> {
-    pub(crate) part: Part<'a>,
+    pub(crate) part: ToldPart<'a>,
 }
 
 impl<'a> Display for Had<'a> {

@@ -2,8 +2,8 @@
 ghost use Rattle.std.specs.Prelude.{◌≡◌};
 ghost use Rattle.tool_resume.specs.Tries.{after, after_break, after_done, after_loss, after_same, after_unended, after_unopened, follows_download, is_all, is_past, is_sized, is_whole};
 
-use crate::step::{Ended, Step};
-use crate::version::{Version, resumes, size_told, stays};
+use crate::step::{Ended, NextStep};
+use crate::version::{FileVersion, resumes, size_told, stays};
 
 /// What follows a try of a download that ended so, where so many tries may still begin, so many octets came so far, the server told `before` of the
 /// file before the first of them, and tells `now` after the try; none where its control connection ended before it did.
@@ -14,9 +14,9 @@ pub fn follows_download(
     left: u64,
     ended: Ended,
     came: u64,
-    before: Version,
-    now: Option<Version>,
-) -> Step
+    before: FileVersion,
+    now: Option<FileVersion>,
+) -> NextStep
     ensures { result ≡ follows_download left ended came before now }
 {
     match now {
@@ -26,7 +26,7 @@ pub fn follows_download(
 }
 
 /// After each end of a try.
-fn after(left: u64, ended: Ended, before: Version, now: Version, came: u64) -> Step
+fn after(left: u64, ended: Ended, before: FileVersion, now: FileVersion, came: u64) -> NextStep
     ensures { result ≡ after left ended before now came }
 {
     match ended {
@@ -38,72 +38,80 @@ fn after(left: u64, ended: Ended, before: Version, now: Version, came: u64) -> S
 }
 
 /// After a try whose control connection ended before the server told which file it has.
-fn after_loss(left: u64, ended: Ended) -> Step
+fn after_loss(left: u64, ended: Ended) -> NextStep
     ensures { result ≡ after_loss left ended }
 {
     match ended {
-        Ended::Done => Step::Lost,
+        Ended::Done => NextStep::Lost,
         Ended::Unopened => after_unopened(left),
         Ended::Broken | Ended::Failed | Ended::Unended => {
-            if left == 0 { Step::Tell } else { Step::Lost }
+            if left == 0 {
+                NextStep::Tell
+            } else {
+                NextStep::Lost
+            }
         }
     }
 }
 
 /// After a try that the server says is done.
-fn after_done(left: u64, before: Version, now: Version, came: u64) -> Step
+fn after_done(left: u64, before: FileVersion, now: FileVersion, came: u64) -> NextStep
     ensures { result ≡ after_done left before now came }
 {
     if stays(before, now) {
         after_same(left, before, now, came)
     } else if left == 0 {
-        Step::Tell
+        NextStep::Tell
     } else {
-        Step::From(0)
+        NextStep::From(0)
     }
 }
 
 /// After a try that the server says is done, where the file is the one of before.
-fn after_same(left: u64, before: Version, now: Version, came: u64) -> Step
+fn after_same(left: u64, before: FileVersion, now: FileVersion, came: u64) -> NextStep
     ensures { result ≡ after_same left before now came }
 {
     let total = size_told(now.size);
     if is_all(total, came) {
-        Step::Done
+        NextStep::Done
     } else if left == 0 || is_past(total, came) {
-        Step::Wrong(came)
+        NextStep::Wrong(came)
     } else {
-        Step::From(resumes(before, now, came))
+        NextStep::From(resumes(before, now, came))
     }
 }
 
 /// After a try that broke off.
-fn after_break(left: u64, before: Version, now: Version, came: u64) -> Step
+fn after_break(left: u64, before: FileVersion, now: FileVersion, came: u64) -> NextStep
     ensures { result ≡ after_break left before now came }
 {
     if left == 0 || !is_sized(size_told(before.size)) {
-        Step::Tell
+        NextStep::Tell
     } else {
-        Step::From(resumes(before, now, came))
+        NextStep::From(resumes(before, now, came))
     }
 }
 
 /// After a try that the server says is done, whose data connection did not end.
-fn after_unended(before: Version, now: Version, came: u64) -> Step
+fn after_unended(before: FileVersion, now: FileVersion, came: u64) -> NextStep
     ensures { result ≡ after_unended before now came }
 {
     if stays(before, now) && is_whole(size_told(now.size), came) {
-        Step::Done
+        NextStep::Done
     } else {
-        Step::Tell
+        NextStep::Tell
     }
 }
 
 /// After a try for which no data connection was opened.
-fn after_unopened(left: u64) -> Step
+fn after_unopened(left: u64) -> NextStep
     ensures { result ≡ after_unopened left }
 {
-    if left == 0 { Step::Tell } else { Step::Again }
+    if left == 0 {
+        NextStep::Tell
+    } else {
+        NextStep::Again
+    }
 }
 
 /// Whether all octets came, as far as the size is told.

@@ -1,16 +1,16 @@
 // What uploads and downloads that go on have in common.
 ghost use Rattle.std.specs.Prelude.{◌≡◌};
 ghost use Rattle.ftp_operation.specs.declared.answer.Answer.{Answer};
-ghost use Rattle.tool_resume.specs.declared.step.Front.{Front};
+ghost use Rattle.tool_resume.specs.declared.step.FrontOwner.{FrontOwner};
 ghost use Rattle.tool_resume.specs.Trying.{ended_by, there_by};
 
+use crate::step::{Ended, FrontOwner, There};
 use ftp_facts::Text;
 use ftp_operation::{Answer, How, Op};
 use ftp_reply::code::{GIVEN_UP, UNAVAILABLE};
 use ftp_settings::{Kind, Structure};
 use std::alloc::{AllocError, Global};
 use tool_session::Request;
-use crate::step::{Ended, Front, There};
 
 /// Whether SIZE counts the octets of the transfer: in type I and file structure.
 pub fn is_counted(how: How) -> bool {
@@ -58,18 +58,18 @@ pub(crate) fn there_of(answer: &Answer<Global>) -> There
 }
 
 /// What was read back of the end of a front, beside the source's own octets at that place.
-pub(crate) fn front_of(answer: &Answer<Global>, own: &[u8]) -> Front
-    ensures { result ≡ Front.Own → answer.now ≡ Answer.Octets own.now }
+pub(crate) fn front_of(answer: &Answer<Global>, own: &[u8]) -> FrontOwner
+    ensures { result ≡ FrontOwner.Own → answer.now ≡ Answer.Octets own.now }
 {
     match answer {
         Answer::Octets(octets) => {
             if octets.as_slice() == own {
-                Front::Own
+                FrontOwner::Own
             } else {
-                Front::Other
+                FrontOwner::Other
             }
         }
-        Answer::Lost | Answer::Strange => Front::Lost,
-        _ => Front::Other,
+        Answer::Lost | Answer::Strange => FrontOwner::Lost,
+        _ => FrontOwner::Other,
     }
 }

@@ -1,6 +1,9 @@
 // An upload, which goes on where the server has it: over breaks, and where a 226 came and not all is there.
-use crate::source::{Drawn, Source};
-use crate::telling::{Had, Part, tell};
+use crate::source::{FileUploadStream, UploadSource};
+use crate::step::{
+    Ended, FrontOwner, NextStep, There, TransferState, behind_front, follows, front_from,
+};
+use crate::telling::{Had, ToldPart, tell};
 use crate::trying::{ended_of, front_of, is_counted, size_request, there_of};
 use ftp_client_steps::MOST_TRIES;
 use ftp_facts::Text;
@@ -12,10 +15,9 @@ use std::io;
 use std::io::Eprint;
 use tool_files::LocalFiles;
 use tool_session::{
-    ClientSession, Ending, LastReply, Openings, Phase, Request, SessionFault, SessionTask, Terms,
-    Ticket, at, say, told,
+    ClientSession, DataEnding, LastReply, Openings, Phase, Request, SessionFault, SessionTask,
+    Terms, Ticket, at, say, told,
 };
-use crate::step::{Ended, Front, Step, There, Transfer, behind_front, follows, front_from};
 use tool_terminal::{Span, Status};
 
 /// What stands for the octets of a file in an operation of which others go: some, so that their end is awaited.
@@ -27,11 +29,11 @@ pub struct Uploading<'a, R> {
     alloc: Global,
     /// What its notes begin with.
     head: &'a str,
-    source: Source<'a>,
+    source: UploadSource<'a>,
     path: &'a str,
     how: How,
     openings: &'a Openings,
-    upload: Transfer,
+    upload: TransferState,
     /// Whether a control connection ended behind the question for the size of what stands there.
     is_blind: bool,
     /// What the server has, where it says that all is done and that is not the file.
@@ -67,7 +69,7 @@ impl<'a, R: LocalFiles + Eprint> Uploading<'a, R> {
     pub fn new(
         rt: &'a R,
         alloc: Global,
-        source: Source<'a>,
+        source: UploadSource<'a>,
         path: &'a str,
         how: How,
         openings: &'a Openings,
@@ -76,7 +78,7 @@ impl<'a, R: LocalFiles + Eprint> Uploading<'a, R> {
             rt,
             alloc,
             head: "note: ",
-            upload: Transfer {
+            upload: TransferState {
                 total: source.total(),
                 left: MOST_TRIES,
                 older: There::Untold,
@@ -125,8 +127,8 @@ impl<'a, R: LocalFiles + Eprint> Uploading<'a, R> {
         let mut from = 0;
         for _ in 0..self.upload.left {
             match self.turn(slot, from)? {
-                Turn::From(next) => from = next,
-                Turn::Over(answer) => return Ok(answer),
+                UploadTurn::From(next) => from = next,
+                UploadTurn::Over(answer) => return Ok(answer),
             }
         }
         Ok(Answer::Lost)
@@ -160,7 +162,7 @@ impl<'a, R: LocalFiles + Eprint> Uploading<'a, R> {
     }
 
     /// One try, from an octet of the file on: where the next one begins, or the answer where there is none.
-    fn turn<S: ClientSession>(&mut self, slot: &mut S, from: u64) -> io::Result<Turn> {
+    fn turn<S: ClientSession>(&mut self, slot: &mut S, from: u64) -> io::Result<UploadTurn> {
         let opened = slot.opened();
         self.upload.left = self.upload.left.saturating_sub(1);
         let answer = self.asked(slot, from)?;
@@ -170,8 +172,12 @@ impl<'a, R: LocalFiles + Eprint> Uploading<'a, R> {
     }
 
     /// The same step; one that goes on behind what the server has, once that is read back.
-    fn step_seen<S: ClientSession>(&mut self, slot: &mut S, step: Step) -> io::Result<Step> {
-        let Step::From(count) = step else {
+    fn step_seen<S: ClientSession>(
+        &mut self,
+        slot: &mut S,
+        step: NextStep,
+    ) -> io::Result<NextStep> {
+        let NextStep::From(count) = step else {
             return Ok(step);
         };
         if count == 0 {
@@ -181,7 +187,7 @@ impl<'a, R: LocalFiles + Eprint> Uploading<'a, R> {
     }
 
     /// What the last octets are of the front that the server has, of so many.
-    fn front<S: ClientSession>(&mut self, slot: &mut S, count: u64) -> io::Result<Front> {
+    fn front<S: ClientSession>(&mut self, slot: &mut S, count: u64) -> io::Result<FrontOwner> {
         let start = front_from(count);
         let own = self.source.piece(self.rt, self.alloc, (start, count))?;
         let opened = slot.opened();
@@ -192,8 +198,8 @@ impl<'a, R: LocalFiles + Eprint> Uploading<'a, R> {
         let front = front_of(&answer, own.as_slice());
         drop(answer);
         Ok(match slot.ending() {
-            Ending::PastLimit => Front::Other,
-            Ending::Answered | Ending::Unended => front,
+            DataEnding::PastLimit => FrontOwner::Other,
+            DataEnding::Answered | DataEnding::Unended => front,
         })
     }
 
@@ -262,7 +268,7 @@ impl<'a, R: LocalFiles + Eprint> Uploading<'a, R> {
         &mut self,
         slot: &mut S,
         request: &Request,
-        home: &Cell<Option<Drawn>>,
+        home: &Cell<Option<FileUploadStream>>,
     ) -> Option<Answer<Global>> {
         let ticket = self.ahead.take()?;
         slot.answer_ahead(ticket, request, home)
@@ -286,12 +292,12 @@ impl<'a, R: LocalFiles + Eprint> Uploading<'a, R> {
         slot: &mut S,
         answer: &Answer<Global>,
         is_opened: bool,
-    ) -> Step {
+    ) -> NextStep {
         match ended_of(answer, is_opened, false) {
             Some(ended) if is_counted(self.how) => {
                 follows(self.upload, ended, self.there_behind(slot, ended))
             }
-            _ => Step::Tell,
+            _ => NextStep::Tell,
         }
     }
 
@@ -305,30 +311,30 @@ impl<'a, R: LocalFiles + Eprint> Uploading<'a, R> {
     }
 
     /// Takes a step. An answer that is none of the end is let go by a call: where it is let go at an arm's end, it is proved part by part.
-    fn follow(&mut self, answer: Answer<Global>, step: Step, from: u64) -> Turn {
+    fn follow(&mut self, answer: Answer<Global>, step: NextStep, from: u64) -> UploadTurn {
         match step {
-            Step::From(next) => {
+            NextStep::From(next) => {
                 drop(answer);
                 self.go_on(next);
-                Turn::From(next)
+                UploadTurn::From(next)
             }
-            Step::Again => {
+            NextStep::Again => {
                 drop(answer);
-                Turn::From(from)
+                UploadTurn::From(from)
             }
-            Step::Lost => {
+            NextStep::Lost => {
                 drop(answer);
-                Turn::Over(Answer::Lost)
+                UploadTurn::Over(Answer::Lost)
             }
-            Step::Wrong(count) => {
+            NextStep::Wrong(count) => {
                 self.wrong = Some(Wrong::Octets(count));
-                Turn::Over(answer)
+                UploadTurn::Over(answer)
             }
-            Step::Missing => {
+            NextStep::Missing => {
                 self.wrong = Some(Wrong::Nothing);
-                Turn::Over(answer)
+                UploadTurn::Over(answer)
             }
-            Step::Done | Step::Tell => Turn::Over(answer),
+            NextStep::Done | NextStep::Tell => UploadTurn::Over(answer),
         }
     }
 
@@ -339,7 +345,7 @@ impl<'a, R: LocalFiles + Eprint> Uploading<'a, R> {
             return;
         }
         self.upload.older = There::Nothing;
-        let part = Part {
+        let part = ToldPart {
             count: from,
             between: " of ",
             total: self.upload.total,
@@ -348,14 +354,14 @@ impl<'a, R: LocalFiles + Eprint> Uploading<'a, R> {
     }
 
     /// Tells how many tries the upload took, or why it is not done, and gives the exit status.
-    pub fn finish(&self, answer: &Answer<Global>, noticed: &LastReply) -> io::Result<Status> {
+    pub fn finish(&self, answer: &Answer<Global>, last_reply: &LastReply) -> io::Result<Status> {
         match (answer, self.wrong) {
-            (Answer::Done, None) => self.tell_tries(noticed.opened().saturating_sub(self.looks)),
+            (Answer::Done, None) => self.tell_tries(last_reply.opened().saturating_sub(self.looks)),
             (Answer::Done, Some(Wrong::Octets(count))) => self.tell_wrong(count),
-            (Answer::Done, Some(Wrong::Nothing)) => self.tell_missing(noticed),
+            (Answer::Done, Some(Wrong::Nothing)) => self.tell_missing(last_reply),
             _ => {
                 let stranger = self.openings.stranger(self.how);
-                tell(self.rt, self.path, stranger, answer, noticed)
+                tell(self.rt, self.path, stranger, answer, last_reply)
             }
         }
     }
@@ -377,7 +383,7 @@ impl<'a, R: LocalFiles + Eprint> Uploading<'a, R> {
 
     /// Tells that the server has not what it says that it has.
     fn tell_wrong(&self, count: u64) -> io::Result<Status> {
-        let part = Part {
+        let part = ToldPart {
             count,
             between: " octets of a file that has ",
             total: self.upload.total,
@@ -392,11 +398,11 @@ impl<'a, R: LocalFiles + Eprint> Uploading<'a, R> {
     }
 
     /// Tells that the server says that it is done, and then that there is no such file.
-    fn tell_missing(&self, noticed: &LastReply) -> io::Result<Status> {
+    fn tell_missing(&self, last_reply: &LastReply) -> io::Result<Status> {
         told(
             self.rt,
             "error: the server says that it is done, and tells no size of it: ",
-            &noticed.refusal(UNAVAILABLE),
+            &last_reply.refusal(UNAVAILABLE),
             "",
             Status::Refused,
         )
@@ -412,7 +418,7 @@ impl<'a, R: LocalFiles + Eprint> SessionTask<Result<Answer<Global>, SessionFault
 
 /// What a try leads to.
 #[derive(Drop)]
-enum Turn {
+enum UploadTurn {
     /// Another try, from this octet of the file on.
     From(u64),
     Over(Answer<Global>),

@@ -32,7 +32,7 @@ pub enum LastChange {
 
 /// Which file a server has at a path, as far as it tells.
 #[derive(Clone, Copy)]
-pub struct Version {
+pub struct FileVersion {
     pub size: Size,
     pub changed: LastChange,
 }
@@ -98,7 +98,7 @@ fn settled_moment(changed: LastChange) -> Option<u64>
 
 /// Where a download goes on of which so many octets came of the file `before`, where the server has the file `now`: after them where it tells size and
 /// moment, these are those of before, and a change since it was asked before had another moment; else it begins anew.
-pub fn resumes(before: Version, now: Version, came: u64) -> u64
+pub fn resumes(before: FileVersion, now: FileVersion, came: u64) -> u64
     ensures { result ≡ resumes before now came }
 {
     if is_seen_again(before, now) && has_so_many(size_told(now.size), came) {
@@ -109,7 +109,7 @@ pub fn resumes(before: Version, now: Version, came: u64) -> u64
 }
 
 /// Whether the server has the file of before, as far as it tells.
-pub fn stays(before: Version, now: Version) -> bool
+pub fn stays(before: FileVersion, now: FileVersion) -> bool
     ensures { result ≡ stays before now }
 {
     is_as_before(size_told(before.size), size_told(now.size))
@@ -117,7 +117,7 @@ pub fn stays(before: Version, now: Version) -> bool
 }
 
 /// Whether size and moment were told, so long behind the moment that a later change had another one, and are told again.
-fn is_seen_again(before: Version, now: Version) -> bool
+fn is_seen_again(before: FileVersion, now: FileVersion) -> bool
     ensures { result ≡ is_seen_again before now }
 {
     is_told_again(size_told(before.size), size_told(now.size))
@@ -176,7 +176,7 @@ pub fn is_too_large(limit: u64, size: Size) -> bool
 
 /// How a download stands that the server says is done, of which so many octets came, where a file may have `limit` octets, and the server told
 /// `before` of it before they came, and `now` after the last of them.
-pub fn arrived(limit: u64, before: Version, now: Version, count: u64) -> Arrival
+pub fn arrived(limit: u64, before: FileVersion, now: FileVersion, count: u64) -> Arrival
     ensures { result ≡ arrived limit before now count }
 {
     let same = stays(before, now);

@@ -13,7 +13,7 @@ use Rattle.tool_scheduler.specs.Order.{LeavesOne, Takes, first_ready, is_ready, 
 use Rattle.tool_scheduler.specs.Rounds.{AreEnded, AreRounds, AreTaken, Began, Comes, Action, Ended, Gave, Goes, IsDone, IsNext, LeavesAddress, LeavesPlace, Spares}
 use Rattle.tool_scheduler.specs.Rounds.{Standing, Step, Steps, Turns, action_of, host_in, is_same, is_taken, ones, standing, start, told_if}
 use Rattle.tool_scheduler.specs.declared.slot.Turn.{Turn}
-use Rattle.tool_scheduler.specs.declared.waiting.Waiting.{Waiting}
+use Rattle.tool_scheduler.specs.declared.waiting.WaitQueue.{WaitQueue}
 
 -- ---- what was told
 
@@ -253,7 +253,7 @@ told_taken h0 h1 turn there is told = subst (λ b. Adds h0 h1 (told_if b turn)) 
 
 -- a turn of one of an address that had none
 pub gives_first :
-    (h0 h1 h2 : Option (List Action)) (from : Standing) (old new : Waiting) (order rest : List ℕ) (place : ℕ)
+    (h0 h1 h2 : Option (List Action)) (from : Standing) (old new : WaitQueue) (order rest : List ℕ) (place : ℕ)
     → Comes h0 h1 from (standing old order false) → Takes old.first order place rest → LeavesAddress old.hosts place old.first new.first
     → LeavesPlace place old.ready new.ready → new.hosts ≡ old.hosts → Adds h1 h2 (Gave place ∷ []) → Comes h0 h2 from (standing new rest false)
 gives_first h0 h1 h2 from old new order rest place comes takes first ready hosts told =
@@ -261,19 +261,19 @@ gives_first h0 h1 h2 from old new order rest place comes takes first ready hosts
     (record { next = inl (refl, refl, takes); first = first; ready = ready; hosts = hosts })
 
 -- so many wait in this order once one of each address had its turn
-abbrev pub Others : (old new : Option (List Action)) → Standing → Waiting → (order : List ℕ) → Type 0
+abbrev pub Others : (old new : Option (List Action)) → Standing → WaitQueue → (order : List ℕ) → Type 0
 Others old new from waiting order =
     (others : Bool) × Comes old new from (standing waiting order others) × IsDone (standing waiting order others)
 
 -- as the turns of the others begin
 pub others_begin :
-    (told : Option (List Action)) (waiting : Waiting) (order : List ℕ) → first_ready waiting.first order ≡ None
+    (told : Option (List Action)) (waiting : WaitQueue) (order : List ℕ) → first_ready waiting.first order ≡ None
     → Others told told (standing waiting order false) waiting order
 others_begin told waiting order none = (false, comes_nothing told (standing waiting order false), inr none)
 
 -- a turn of one of the others
 pub gives_other :
-    (h0 h1 h2 : Option (List Action)) (from : Standing) (old new : Waiting) (order rest : List ℕ) (place : ℕ)
+    (h0 h1 h2 : Option (List Action)) (from : Standing) (old new : WaitQueue) (order rest : List ℕ) (place : ℕ)
     → Others h0 h1 from old order → Takes old.ready order place rest → LeavesAddress old.hosts place old.first new.first
     → LeavesPlace place old.ready new.ready → new.hosts ≡ old.hosts → Adds h1 h2 (Gave place ∷ []) → Others h0 h2 from new rest
 gives_other h0 h1 h2 from old new order rest place (others, comes, done) takes first ready hosts told = (
@@ -285,7 +285,7 @@ gives_other h0 h1 h2 from old new order rest place (others, comes, done) takes f
 
 -- where the turns of the others end
 pub others_go :
-    (h0 h1 : Option (List Action)) (from : Standing) (waiting : Waiting) (order : List ℕ) → Others h0 h1 from waiting order → Goes h0 h1 from order
+    (h0 h1 : Option (List Action)) (from : Standing) (waiting : WaitQueue) (order : List ℕ) → Others h0 h1 from waiting order → Goes h0 h1 from order
 others_go h0 h1 from waiting order (others, (actions, told, steps), done) = (actions, standing waiting order others, told, steps, done, refl)
 
 -- a round: it begins, one of each address has its turn, and then others

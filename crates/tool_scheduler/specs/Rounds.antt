@@ -6,7 +6,7 @@ use Rattle.ftp_ports.specs.Asking.{Adds}
 use Rattle.tool_scheduler.specs.Order.{Takes, first_ready, is_ready}
 use Rattle.tool_scheduler.specs.declared.slot.Turn.{Turn}
 use Rattle.tool_scheduler.specs.declared.slot.Turn.TheVariants.{Next, Last}
-use Rattle.tool_scheduler.specs.declared.waiting.Waiting.{Waiting}
+use Rattle.tool_scheduler.specs.declared.waiting.WaitQueue.{WaitQueue}
 
 -- what whoever slots clients is told of rounds
 pub data Action : Type 0 where
@@ -43,7 +43,7 @@ abbrev pub start : (count : ℕ) → Standing
 start count = record { order = range_with_len 0 count; first = []; ready = []; hosts = []; others = true }
 
 -- so many wait, in this order
-abbrev pub standing : Waiting → (order : List ℕ) → (others : Bool) → Standing
+abbrev pub standing : WaitQueue → (order : List ℕ) → (others : Bool) → Standing
 standing waiting order others =
     record { order = order; first = waiting.first; ready = waiting.ready; hosts = waiting.hosts; others = others }
 

@@ -2,7 +2,7 @@
 ghost use Rattle.std.specs.Global.{Global};
 
 use crate::rows::Rows;
-use crate::slot::{Course, Slot, Turn};
+use crate::slot::{Slot, Turn, TurnResult};
 use ftp_ports::TURNS;
 use std::alloc::{AllocError, Global};
 use tool_polling::{Awaits, Leaving};
@@ -17,9 +17,9 @@ pub fn serve_alone<T, S: Slot<T>>(
     let mut rows = Rows::new(alloc, 1)?;
     for _ in 0..TURNS {
         match session.turn(Turn::Next(0), rows.take(0), tree) {
-            Course::Over => break,
-            Course::More => {}
-            Course::Later => await_session(&mut rows, session),
+            TurnResult::Over => break,
+            TurnResult::More => {}
+            TurnResult::Later => await_session(&mut rows, session),
         }
     }
     let (leaving, went_well) = session.leave();

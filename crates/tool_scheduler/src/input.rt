@@ -1,5 +1,5 @@
 // Standard input, whose end stops the server.
-use crate::house::Input;
+use crate::session_limits::Input;
 use libc::net as c;
 use libc::types::pollfd;
 use tool_polling::Awaits;

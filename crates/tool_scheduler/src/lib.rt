@@ -3,20 +3,20 @@
 
 mod alone;
 mod crowd;
-mod door;
-mod house;
 mod input;
 pub mod laws;
+mod listening_port;
 mod order;
 mod rounds;
 mod rows;
+mod session_limits;
 mod slot;
 mod table;
 mod waiting;
 
 pub use alone::serve_alone;
-pub use house::{Full, House, Input};
 pub use input::is_input_open;
-pub use order::Order;
+pub use order::TurnOrder;
 pub use rounds::serve_rounds;
-pub use slot::{Course, Slot, Slots, Turn};
+pub use session_limits::{Full, Input, SessionLimits};
+pub use slot::{Slot, Slots, Turn, TurnResult};

@@ -8,11 +8,11 @@ use std::marker::Model;
 
 /// Places, the one whose last turn is the oldest first.
 #[derive(Drop)]
-pub struct Order<A: Allocator> {
+pub struct TurnOrder<A: Allocator> {
     places: Vec<usize, A>,
 }
 
-impl<A: Allocator> Model for Order<A> {
+impl<A: Allocator> Model for TurnOrder<A> {
     ghost use Rattle.std.specs.Prelude.{List, ℕ};
 
     ghost Value = { List ℕ };
@@ -20,13 +20,13 @@ impl<A: Allocator> Model for Order<A> {
     ghost view = { λ order. order.places.items };
 }
 
-impl<A: Allocator> Order<A> {
+impl<A: Allocator> TurnOrder<A> {
     /// So many places, from 0 on.
-    pub fn new(alloc: A, count: usize) -> Result<Order<A>, AllocError>
+    pub fn new(alloc: A, count: usize) -> Result<TurnOrder<A>, AllocError>
         ensures places { IfOk result (λ order. order ≡ range_with_len 0 count) }
     {
         let places = places_below(alloc, count)?;
-        Ok(Order { places })
+        Ok(TurnOrder { places })
     }
 
     /// The first place that is ready and whose next turn may hash a password, if one is.

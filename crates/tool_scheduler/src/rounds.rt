@@ -6,18 +6,18 @@ ghost use Rattle.tool_scheduler.specs.Order.{first_ready};
 ghost use Rattle.tool_scheduler.specs.Rounds.{AreRounds, AreTaken, Comes, Gave, Goes, IsDone, LeavesAddress, LeavesPlace, Spares, Standing};
 ghost use Rattle.tool_scheduler.specs.Rounds.{is_taken, place_of, standing, told_if};
 
-use crate::door::{Caller, Door};
-use crate::house::{Full, House};
 use crate::input::Heeded;
-use crate::order::Order;
+use crate::listening_port::{Caller, ListeningPort};
+use crate::order::TurnOrder;
 use crate::rows::Rows;
-use crate::slot::{Course, Slot, Slots, Turn};
-use crate::table::{Table, Taken, awaits_at, crowded_in, spare_in};
-use crate::waiting::{MOST_SLOTS, Waiting, leave_one};
+use crate::session_limits::{Full, SessionLimits};
+use crate::slot::{Slot, Slots, Turn, TurnResult};
+use crate::table::{Table, TakenSlot, awaits_at, crowded_in, spare_in};
+use crate::waiting::{MOST_SLOTS, WaitQueue, leave_one};
 use ftp_ports::TURNS;
 use std::alloc::{AllocError, Global};
 use std::net::{SocketAddr, TcpListener, TcpStream};
-use tool_polling::{Awaits, Leaving, Over};
+use tool_polling::{Awaits, Leaving, TimeoutReason};
 use tool_sockets::monotonic_millis;
 
 /// The most connections that are kept a moment behind their last reply; others are dropped at once.
@@ -41,16 +41,16 @@ const FIRST_SLOT: usize = 2;
 #[tactic(auto, using(crate::proofs::RoundLemmas::goes_rounds, crate::proofs::RoundLemmas::no_rounds, crate::proofs::RoundLemmas::rounds_begin))]
 pub fn serve_rounds<M: Slots>(
     alloc: Global,
-    house: House,
+    session_limits: SessionLimits,
     listener: &TcpListener,
     slots: &M,
     tree: &mut M::Tree,
 ) -> Result<bool, AllocError>
-    ensures { AreRounds (min house.at_once 64) (M.Slot.history tree.old) (M.Slot.history tree.new) }
+    ensures { AreRounds (min session_limits.at_once 64) (M.Slot.history tree.old) (M.Slot.history tree.new) }
 {
-    let count = house.at_once.min(MOST_SLOTS);
-    let mut order = Order::new(alloc, count)?;
-    let mut rounds = Rounds::new(alloc, house, count, listener, slots)?;
+    let count = session_limits.at_once.min(MOST_SLOTS);
+    let mut order = TurnOrder::new(alloc, count)?;
+    let mut rounds = Rounds::new(alloc, session_limits, count, listener, slots)?;
     for _ in 0..TURNS {
         if rounds.is_over() {
             break;
@@ -62,9 +62,9 @@ pub fn serve_rounds<M: Slots>(
 
 /// All that is served, and who waits to be.
 struct Rounds<'a, M: Slots> {
-    house: House,
+    session_limits: SessionLimits,
     slots: &'a M,
-    door: Door<'a>,
+    listening_port: ListeningPort<'a>,
     input: Heeded,
     table: Table<M::Slot>,
     leaving: Vec<Leaving, Global>,
@@ -75,9 +75,9 @@ struct Rounds<'a, M: Slots> {
 impl<'a, M: Slots> Drop for Rounds<'a, M> {
     fn drop(self) {
         let Self {
-            house: _,
+            session_limits: _,
             slots: _,
-            door: _,
+            listening_port: _,
             input: _,
             table: _,
             leaving: _,
@@ -91,7 +91,7 @@ impl<'a, M: Slots> Rounds<'a, M> {
     /// Nobody is served yet, of so many slots.
     fn new(
         alloc: Global,
-        house: House,
+        session_limits: SessionLimits,
         count: usize,
         listener: &'a TcpListener,
         slots: &'a M,
@@ -100,10 +100,10 @@ impl<'a, M: Slots> Rounds<'a, M> {
         let leaving = Vec::with_capacity(alloc, MOST_LEAVING)?;
         let rows = Rows::new(alloc, FIRST_SLOT + MOST_SLOTS + MOST_LEAVING)?;
         Ok(Rounds {
-            house,
+            session_limits,
             slots,
-            door: Door::new(listener),
-            input: Heeded::new(house.input),
+            listening_port: ListeningPort::new(listener),
+            input: Heeded::new(session_limits.input),
             table,
             leaving,
             rows,
@@ -118,11 +118,11 @@ impl<'a, M: Slots> Rounds<'a, M> {
 
     /// Whether no client is taken any more.
     fn takes_nobody(&self) -> bool {
-        self.input.stops().is_some() || self.house.sessions == Some(0)
+        self.input.stops().is_some() || self.session_limits.sessions == Some(0)
     }
 
     /// One round.
-    fn round(&mut self, order: &mut Order<Global>, tree: &mut M::Tree)
+    fn round(&mut self, order: &mut TurnOrder<Global>, tree: &mut M::Tree)
         ensures { (old : Standing) → IsDone old → old.order ≡ order.old → Goes (M.Slot.history tree.old) (M.Slot.history tree.new) old order.new }
     {
         self.stop_some();
@@ -145,7 +145,7 @@ impl<'a, M: Slots> Rounds<'a, M> {
         for place in 0..self.table.count() {
             if let Some(taken) = self.table.at(place) {
                 if is_late || !taken.session.is_busy() {
-                    taken.session.timeouts().end(Over::Stopped);
+                    taken.session.timeouts().end(TimeoutReason::Stopped);
                 }
             }
         }
@@ -174,15 +174,15 @@ impl<'a, M: Slots> Rounds<'a, M> {
             None => !self.takes_nobody(),
         };
         if is_looked_at {
-            self.door.awaits(self.rows.now())
+            self.listening_port.awaits(self.rows.now())
         } else {
             Awaits::nothing()
         }
     }
 
     /// The session beside which others wait at the door, of one who serves one at a time.
-    fn only_one(&self) -> Option<&Taken<M::Slot>> {
-        if self.house.at_once == 1 {
+    fn only_one(&self) -> Option<&TakenSlot<M::Slot>> {
+        if self.session_limits.at_once == 1 {
             self.table.at(0)
         } else {
             None
@@ -197,7 +197,7 @@ impl<'a, M: Slots> Rounds<'a, M> {
     /// A turn of one session of each address, of those that are ready; and then, while the round is short, of the others. Of those whose next turn may hash a
     /// password only one is ready.
     #[tactic(auto, using(crate::proofs::RoundLemmas::taken_one))]
-    fn turns(&mut self, order: &mut Order<Global>, tree: &mut M::Tree)
+    fn turns(&mut self, order: &mut TurnOrder<Global>, tree: &mut M::Tree)
         ensures { (old : Standing) → IsDone old → old.order ≡ order.old → Goes (M.Slot.history tree.old) (M.Slot.history tree.new) old order.new }
     {
         let mut ready = self.ready();
@@ -205,7 +205,7 @@ impl<'a, M: Slots> Rounds<'a, M> {
         leave_one(order, &hashing, &mut ready);
         let hosts = self.hosts();
         self.slots.begin_round(&ready, &hosts, tree);
-        let mut waiting = Waiting {
+        let mut waiting = WaitQueue {
             first: ready,
             ready,
             hosts,
@@ -216,7 +216,12 @@ impl<'a, M: Slots> Rounds<'a, M> {
 
     /// A turn of one session of each address.
     #[tactic(auto, using(crate::proofs::RoundLemmas::comes_nothing))]
-    fn first_turns(&mut self, order: &mut Order<Global>, waiting: &mut Waiting, tree: &mut M::Tree)
+    fn first_turns(
+        &mut self,
+        order: &mut TurnOrder<Global>,
+        waiting: &mut WaitQueue,
+        tree: &mut M::Tree,
+    )
         requires first { AreTaken waiting.old.first self.old.table.slots.items }
         requires ready { AreTaken waiting.old.ready self.old.table.slots.items }
         ensures told { Comes (M.Slot.history tree.old) (M.Slot.history tree.new)
@@ -231,7 +236,12 @@ impl<'a, M: Slots> Rounds<'a, M> {
 
     /// Turns of the others, until the round is long. Who is ready after that has a turn in the next one.
     #[tactic(auto, using(crate::proofs::RoundLemmas::others_begin, crate::proofs::RoundLemmas::others_go))]
-    fn other_turns(&mut self, order: &mut Order<Global>, waiting: &mut Waiting, tree: &mut M::Tree)
+    fn other_turns(
+        &mut self,
+        order: &mut TurnOrder<Global>,
+        waiting: &mut WaitQueue,
+        tree: &mut M::Tree,
+    )
         requires done { first_ready waiting.old.first order.old ≡ None }
         requires ready { AreTaken waiting.old.ready self.old.table.slots.items }
         ensures { Goes (M.Slot.history tree.old) (M.Slot.history tree.new) (standing waiting.old order.old false) order.new }
@@ -250,7 +260,7 @@ impl<'a, M: Slots> Rounds<'a, M> {
 
     /// A turn of one that is ready, in order.
     #[tactic(auto, using(crate::proofs::RoundLemmas::taken_place, crate::proofs::RoundLemmas::taken_address, crate::proofs::RoundLemmas::told_taken))]
-    fn give(&mut self, place: usize, waiting: &mut Waiting, tree: &mut M::Tree)
+    fn give(&mut self, place: usize, waiting: &mut WaitQueue, tree: &mut M::Tree)
         requires { is_taken self.old.table.slots.items place ≡ true }
         ensures told { Adds (M.Slot.history tree.old) (M.Slot.history tree.new) (Gave place ∷ []) }
         ensures first { LeavesAddress waiting.old.hosts place waiting.old.first waiting.new.first }
@@ -303,7 +313,7 @@ impl<'a, M: Slots> Rounds<'a, M> {
         let Some(taken) = self.table.at(place) else {
             return false;
         };
-        if let Course::More = taken.course {
+        if let TurnResult::More = taken.course {
             return true;
         }
         taken.session.awaits().until <= self.rows.now()
@@ -325,15 +335,15 @@ impl<'a, M: Slots> Rounds<'a, M> {
         };
         taken.course = taken.session.turn(turn, told, tree);
         match taken.course {
-            Course::Over => self.leave(taken),
-            Course::Later | Course::More => self.table.put(place, taken),
+            TurnResult::Over => self.leave(taken),
+            TurnResult::Later | TurnResult::More => self.table.put(place, taken),
         }
     }
 
     /// A session is over. A session is large, and a function pays at each call for the room of all that it may hold: so this one, which drops one, and
     /// `slot`, which makes one, are no part of a turn and of a round.
     #[inline(never)]
-    fn leave(&mut self, taken: Taken<M::Slot>)
+    fn leave(&mut self, taken: TakenSlot<M::Slot>)
         ensures { self.new.table ≡ self.old.table }
     {
         let mut taken = taken;
@@ -367,7 +377,7 @@ impl<'a, M: Slots> Rounds<'a, M> {
             if self.takes_nobody() || self.only_one().is_some() {
                 return;
             }
-            match self.door.next() {
+            match self.listening_port.next() {
                 Caller::Nobody => return,
                 Caller::Failed(error) => self.slots.none_came(error),
                 Caller::Client(stream, peer) => self.welcome(stream, peer, tree),
@@ -393,12 +403,12 @@ impl<'a, M: Slots> Rounds<'a, M> {
     /// Why there is no slot for a client that counts as this one.
     fn full(&self, host: u128) -> Option<Full> {
         let taken = self.table.taken();
-        self.house.full(taken, self.table.of_host(host))
+        self.session_limits.full(taken, self.table.of_host(host))
     }
 
     /// The session that might be ended for another client for the longest time, and why: of those from its address, where that has too many. Where there is
     /// none, and its address has no slot, one of the address that has the most.
-    fn spared(&self, why: Full, host: u128) -> Option<(usize, Over)> {
+    fn spared(&self, why: Full, host: u128) -> Option<(usize, TimeoutReason)> {
         if let Full::Host = why {
             return spare_in(&self.table, Some(host));
         }
@@ -425,7 +435,10 @@ impl<'a, M: Slots> Rounds<'a, M> {
     /// Slots a client; one that could not be in_slot counts as a session that failed.
     #[inline(never)]
     fn slot(&mut self, stream: TcpStream, peer: SocketAddr, tree: &M::Tree) {
-        self.house.sessions = self.house.sessions.map(|count| count.saturating_sub(1));
+        self.session_limits.sessions = self
+            .session_limits
+            .sessions
+            .map(|count| count.saturating_sub(1));
         match self.slots.slot(stream, peer, tree) {
             Some(session) => self.table.take(session, self.slots.host(peer)),
             None => self.went_well = false,

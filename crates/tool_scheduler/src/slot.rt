@@ -3,16 +3,16 @@ ghost use Rattle.std.specs.Prelude.{◌≡◌, ◌∷◌, [], List, None, Option
 ghost use Rattle.ftp_ports.specs.Asking.{Adds};
 ghost use Rattle.tool_scheduler.specs.Rounds.{Action, Began, action_of, place_of};
 
-use crate::house::Full;
+use crate::session_limits::Full;
 use std::alloc::Global;
 use std::io;
 use std::net::{SocketAddr, TcpStream};
 use std::rc::Rc;
-use tool_polling::{Awaits, Leaving, Line, Timeouts};
+use tool_polling::{Awaits, ControlLine, Leaving, Timeouts};
 
 /// How a turn of a session ended.
 #[derive(Clone, Copy)]
-pub enum Course {
+pub enum TurnResult {
     /// It waits.
     Later,
     /// It goes on at once, where others had their turn.
@@ -48,7 +48,7 @@ pub trait Slot<T>: Drop {
     ghost history: { T → Option (List Action) } = { λ tree. None };
 
     /// Goes on until it waits, is over, or has had its part; `told` is what the last poll told of what it waited for.
-    fn turn(&mut self, turn: Turn, told: Awaits, tree: &mut T) -> Course
+    fn turn(&mut self, turn: Turn, told: Awaits, tree: &mut T) -> TurnResult
         ensures { Adds (history tree.old) (history tree.new) (action_of turn ∷ []) };
 
     /// What it waits for.
@@ -90,7 +90,12 @@ pub trait Slots {
         ensures { Adds (Self.Slot.history tree.old) (Self.Slot.history tree.new) (Began ready.now hosts.now ∷ []) };
 
     /// A client for whom there is no slot was told so, and its connection.
-    fn turn_away(&self, stream: TcpStream, peer: SocketAddr, why: Full) -> Option<Rc<Line, Global>>;
+    fn turn_away(
+        &self,
+        stream: TcpStream,
+        peer: SocketAddr,
+        why: Full,
+    ) -> Option<Rc<ControlLine, Global>>;
 
     /// The system gave no connection.
     fn none_came(&self, error: io::Error);

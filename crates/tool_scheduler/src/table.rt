@@ -4,26 +4,26 @@ ghost use Rattle.std.specs.Prelude.{◌≡◌, ◌≢◌, ◌↔◌, ℕ, IsTrue
 ghost use Rattle.tool_scheduler.specs.Rounds.{is_taken};
 
 use crate::crowd::{Sitting, crowded_place};
-use crate::slot::{Course, Slot};
+use crate::slot::{Slot, TurnResult};
 use crate::waiting::MOST_SLOTS;
 use std::alloc::{AllocError, Global};
-use tool_polling::{Awaits, Over};
+use tool_polling::{Awaits, TimeoutReason};
 use tool_sockets::monotonic_millis;
 
 /// A slot that is taken.
 #[derive(Drop)]
-pub(crate) struct Taken<S: Drop> {
+pub(crate) struct TakenSlot<S: Drop> {
     pub(crate) session: Box<S, Global>,
     /// As whom its client counts.
     pub(crate) host: u128,
     /// How its last turn ended.
-    pub(crate) course: Course,
+    pub(crate) course: TurnResult,
 }
 
 /// Slots, each with a session or without.
 #[derive(Drop)]
 pub(crate) struct Table<S: Drop> {
-    pub(crate) slots: Vec<Option<Taken<S>>, Global>,
+    pub(crate) slots: Vec<Option<TakenSlot<S>>, Global>,
 }
 
 impl<S: Drop> Table<S> {
@@ -55,14 +55,14 @@ impl<S: Drop> Table<S> {
     }
 
     /// The session in a slot.
-    pub(crate) fn at(&self, place: usize) -> Option<&Taken<S>>
+    pub(crate) fn at(&self, place: usize) -> Option<&TakenSlot<S>>
         ensures { IsTrue (is_taken self.now.slots.items place) ↔ IsSome result }
     {
         self.slots.get(place)?.as_ref()
     }
 
     /// Frees a slot, and gives the session that had it.
-    pub(crate) fn free(&mut self, place: usize) -> Option<Taken<S>>
+    pub(crate) fn free(&mut self, place: usize) -> Option<TakenSlot<S>>
         ensures had { IsTrue (is_taken self.old.slots.items place) ↔ IsSome result }
         ensures others { (other : ℕ) → other ≢ place → is_taken self.new.slots.items other ≡ is_taken self.old.slots.items other }
     {
@@ -70,7 +70,7 @@ impl<S: Drop> Table<S> {
     }
 
     /// Puts back a session into its slot.
-    pub(crate) fn put(&mut self, place: usize, taken: Taken<S>)
+    pub(crate) fn put(&mut self, place: usize, taken: TakenSlot<S>)
         ensures others { (other : ℕ) → other ≢ place → is_taken self.new.slots.items other ≡ is_taken self.old.slots.items other }
     {
         if let Some(slot) = self.slots.get_mut(place) {
@@ -82,10 +82,10 @@ impl<S: Drop> Table<S> {
     pub(crate) fn take(&mut self, session: Box<S, Global>, host: u128) {
         for slot in self.slots.iter_mut() {
             if slot.is_none() {
-                *slot = Some(Taken {
+                *slot = Some(TakenSlot {
                     session,
                     host,
-                    course: Course::More,
+                    course: TurnResult::More,
                 });
                 return;
             }
@@ -99,7 +99,7 @@ pub(crate) fn awaits_at<T, S: Slot<T>>(table: &Table<S>, place: usize) -> Awaits
         return Awaits::nothing();
     };
     let mut awaits = taken.session.awaits();
-    if let Course::More = taken.course {
+    if let TurnResult::More = taken.course {
         awaits.until = 0;
     }
     if let Some(left) = taken.session.timeouts().left() {
@@ -109,13 +109,13 @@ pub(crate) fn awaits_at<T, S: Slot<T>>(table: &Table<S>, place: usize) -> Awaits
 }
 
 /// The session that gives its slot to an address that has none, and why, where one does.
-pub(crate) fn crowded_in<T, S: Slot<T>>(table: &Table<S>) -> Option<(usize, Over)> {
+pub(crate) fn crowded_in<T, S: Slot<T>>(table: &Table<S>) -> Option<(usize, TimeoutReason)> {
     let mut slots = [None; MOST_SLOTS];
     for (place, slot) in slots.iter_mut().enumerate() {
         *slot = sitting_at(table, place);
     }
     let place = crowded_place(&slots)?;
-    Some((place, Over::Crowded))
+    Some((place, TimeoutReason::Crowded))
 }
 
 /// The session in a slot, as far as it tells whether it gives that away.
@@ -133,7 +133,7 @@ fn sitting_at<T, S: Slot<T>>(table: &Table<S>, place: usize) -> Option<Sitting> 
 pub(crate) fn spare_in<T, S: Slot<T>>(
     table: &Table<S>,
     of_host: Option<u128>,
-) -> Option<(usize, Over)> {
+) -> Option<(usize, TimeoutReason)> {
     let mut longest = None;
     for place in 0..table.count() {
         let spare = table

@@ -4,7 +4,7 @@ ghost use Rattle.std.specs.Global.{Global};
 ghost use Rattle.tool_scheduler.specs.Order.{LeavesOne, is_let, is_ready};
 ghost use Rattle.tool_scheduler.specs.Rounds.{LeavesAddress, LeavesPlace, host_in};
 
-use crate::order::{Order, is_ready};
+use crate::order::{TurnOrder, is_ready};
 use std::alloc::Global;
 
 /// The most slots.
@@ -12,7 +12,7 @@ pub(crate) const MOST_SLOTS: usize = 64;
 
 /// Who waits for a turn in a round.
 #[derive(Clone, Copy)]
-pub(crate) struct Waiting {
+pub(crate) struct WaitQueue {
     /// The sessions that are ready, and of whose address none had a turn.
     pub(crate) first: [bool; MOST_SLOTS],
     /// The sessions that are ready and had none themselves.
@@ -21,7 +21,7 @@ pub(crate) struct Waiting {
     pub(crate) hosts: [u128; MOST_SLOTS],
 }
 
-impl Waiting {
+impl WaitQueue {
     /// One of them had a turn.
     pub(crate) fn had_turn(&mut self, place: usize)
         ensures first { LeavesAddress self.old.hosts place self.old.first self.new.first }
@@ -36,7 +36,7 @@ impl Waiting {
 
 /// Of the sessions that are ready and may hash a password in their next turn only the one whose last turn is the oldest stays ready.
 pub(crate) fn leave_one(
-    order: &Order<Global>,
+    order: &TurnOrder<Global>,
     hashing: &[bool; MOST_SLOTS],
     ready: &mut [bool; MOST_SLOTS],
 )

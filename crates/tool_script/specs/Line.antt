@@ -26,12 +26,12 @@ use Rattle.tool_script.specs.declared.verb.OnPath.{OnPath}
 use Rattle.tool_script.specs.declared.verb.OnPath.TheVariants.{ChangeDir, MakeDir, RemoveDir, Delete, Modified, Facts}
 use Rattle.tool_script.specs.declared.verb.Taking.{Taking}
 use Rattle.tool_script.specs.declared.verb.Taking.TheVariants.{Get, Size, Entries, Names}
-use Rattle.tool_script.specs.declared.verb.Part.{Part}
-use Rattle.tool_script.specs.declared.verb.Part.TheVariants.{GetFrom, Peek}
+use Rattle.tool_script.specs.declared.verb.PartVerb.{PartVerb}
+use Rattle.tool_script.specs.declared.verb.PartVerb.TheVariants.{GetFrom, Peek}
 use Rattle.tool_script.specs.declared.verb.Giving.{Giving}
 use Rattle.tool_script.specs.declared.verb.Giving.TheVariants.{Put, Append}
-use Rattle.tool_script.specs.declared.verb.Verb.{Verb}
-use Rattle.tool_script.specs.declared.verb.Verb.TheVariants as verbs
+use Rattle.tool_script.specs.declared.verb.ScriptVerb.{ScriptVerb}
+use Rattle.tool_script.specs.declared.verb.ScriptVerb.TheVariants as verbs
 use Rattle.tool_script.specs.Field.{field_value}
 use Rattle.tool_script.specs.Verb.{is_named, list_verb_value}
 use Rattle.tool_script.specs.declared.verb.TheConstants.{VERBS}
@@ -144,7 +144,7 @@ taking_op Size how path = Ops.Size path how
 taking_op Entries how path = Ops.List path how
 taking_op Names how path = Ops.Names path how
 
-abbrev pub part_op : Part → How → List ℕ → ℕ → Op (List ℕ)
+abbrev pub part_op : PartVerb → How → List ℕ → ℕ → Op (List ℕ)
 part_op GetFrom how path number = Ops.GetFrom path number how
 part_op Peek how path number = Ops.Peek path number how
 
@@ -170,7 +170,7 @@ text_in [] = None
 text_in (word ∷ fields) = and_then (list_verb_value word) (λ verb. text_by verb fields)
 
 -- what is asked by a verb and the fields behind it
-abbrev pub order_with : Verb → List (List ℕ) → Option (Order (List ℕ))
+abbrev pub order_with : ScriptVerb → List (List ℕ) → Option (Order (List ℕ))
 order_with (verbs.Alone verb) fields = option_map (λ _. Once (alone_op verb)) (none_in fields)
 order_with (verbs.OnPath verb) fields = option_map (λ p. Once (path_op verb p)) (path_in fields)
 order_with verbs.Rename fields = option_map (λ t. Once (Ops.Rename t.0 t.1)) (pair_in fields)

@@ -6,13 +6,13 @@ use Rattle.ftp_operation.specs.declared.op.ListVerb.TheVariants as Lists
 use Rattle.tool_script.specs.declared.verb.Alone.TheVariants.{Where, Up}
 use Rattle.tool_script.specs.declared.verb.OnPath.TheVariants.{ChangeDir, MakeDir, RemoveDir, Delete, Modified, Facts}
 use Rattle.tool_script.specs.declared.verb.Taking.TheVariants.{Get, Size, Entries, Names}
-use Rattle.tool_script.specs.declared.verb.Part.TheVariants.{GetFrom, Peek}
+use Rattle.tool_script.specs.declared.verb.PartVerb.TheVariants.{GetFrom, Peek}
 use Rattle.tool_script.specs.declared.verb.Giving.TheVariants.{Put, Append}
-use Rattle.tool_script.specs.declared.verb.Verb.{Verb}
-use Rattle.tool_script.specs.declared.verb.Verb.TheVariants as verbs
+use Rattle.tool_script.specs.declared.verb.ScriptVerb.{ScriptVerb}
+use Rattle.tool_script.specs.declared.verb.ScriptVerb.TheVariants as verbs
 
 -- the word of a verb
-abbrev pub word_of : Verb → List ℕ
+abbrev pub word_of : ScriptVerb → List ℕ
 word_of (verbs.Alone Where) = codes "where"
 word_of (verbs.Alone Up) = codes "up"
 word_of (verbs.OnPath ChangeDir) = codes "cd"
@@ -35,7 +35,7 @@ word_of verbs.Upload = codes "upload"
 word_of verbs.Text = codes "text"
 
 -- a word is that of a verb
-abbrev pub is_named : List ℕ → Verb → Bool
+abbrev pub is_named : List ℕ → ScriptVerb → Bool
 is_named word verb = pointwise nat_eq word (word_of verb)
 
 -- the command that a word names

@@ -8,7 +8,7 @@ use crate::cut::pieces_at;
 use crate::fault::LineFault;
 use crate::order::Order;
 use crate::parts::{giving, giving_from, none, pair, path, taking, taking_from};
-use crate::verb::{Alone, Giving, OnPath, Part, Taking, Verb, list_verb_of, verb_of};
+use crate::verb::{Alone, Giving, OnPath, PartVerb, ScriptVerb, Taking, list_verb_of, verb_of};
 use ftp_facts::Text;
 use ftp_operation::{How, ListVerb, Login, Op};
 use std::alloc::{AllocError, Allocator};
@@ -39,39 +39,39 @@ fn order_in<A: Allocator + Copy>(alloc: A, fields: &[&[u8]]) -> Result<Order<Tex
 /// What is asked by a verb and the fields behind it.
 fn order_with<A: Allocator + Copy>(
     alloc: A,
-    verb: Verb,
+    verb: ScriptVerb,
     fields: &[&[u8]],
 ) -> Result<Order<Text<A>>, LineFault>
     ensures { Reads (λ order. order) result (order_with verb (map (λ field. field.now) fields.now)) }
 {
     match verb {
-        Verb::Alone(verb) => match none(fields) {
+        ScriptVerb::Alone(verb) => match none(fields) {
             Ok(()) => Ok(Order::Once(alone_op(verb))),
             Err(fault) => Err(fault),
         },
-        Verb::OnPath(verb) => match path(alloc, fields) {
+        ScriptVerb::OnPath(verb) => match path(alloc, fields) {
             Ok(path) => Ok(Order::Once(path_op(verb, path))),
             Err(fault) => Err(fault),
         },
-        Verb::Rename => match pair(alloc, fields) {
+        ScriptVerb::Rename => match pair(alloc, fields) {
             Ok((from, to)) => Ok(Order::Once(Op::Rename(from, to))),
             Err(fault) => Err(fault),
         },
-        Verb::Taking(verb) => match taking(alloc, fields) {
+        ScriptVerb::Taking(verb) => match taking(alloc, fields) {
             Ok((how, path)) => Ok(Order::Once(taking_op(verb, how, path))),
             Err(fault) => Err(fault),
         },
-        Verb::Part(verb) => match taking_from(alloc, fields) {
+        ScriptVerb::Part(verb) => match taking_from(alloc, fields) {
             Ok((how, path, number)) => Ok(Order::Once(part_op(verb, how, path, number))),
             Err(fault) => Err(fault),
         },
-        Verb::Giving(verb) => match giving(alloc, fields) {
+        ScriptVerb::Giving(verb) => match giving(alloc, fields) {
             Ok((how, path, octets)) => Ok(Order::Once(giving_op(verb, how, path, octets))),
             Err(fault) => Err(fault),
         },
-        Verb::GivingFrom => put_from_in(alloc, fields),
-        Verb::Upload => upload_in(alloc, fields),
-        Verb::Text => text_in(alloc, fields),
+        ScriptVerb::GivingFrom => put_from_in(alloc, fields),
+        ScriptVerb::Upload => upload_in(alloc, fields),
+        ScriptVerb::Text => text_in(alloc, fields),
     }
 }
 
@@ -155,12 +155,12 @@ fn taking_op<A: Allocator + Copy>(verb: Taking, how: How, path: Text<A>) -> Op<T
     }
 }
 
-fn part_op<A: Allocator + Copy>(verb: Part, how: How, path: Text<A>, number: u64) -> Op<Text<A>>
+fn part_op<A: Allocator + Copy>(verb: PartVerb, how: How, path: Text<A>, number: u64) -> Op<Text<A>>
     ensures { result ≡ part_op verb how path number }
 {
     match verb {
-        Part::GetFrom => Op::GetFrom(path, number, how),
-        Part::Peek => Op::Peek(path, number, how),
+        PartVerb::GetFrom => Op::GetFrom(path, number, how),
+        PartVerb::Peek => Op::Peek(path, number, how),
     }
 }
 

@@ -34,7 +34,7 @@ pub(crate) enum Taking {
 
 /// A verb by which a part of a file is had, in a representation; a number says which.
 #[derive(Clone, Copy)]
-pub(crate) enum Part {
+pub(crate) enum PartVerb {
     /// From an offset on.
     GetFrom,
     /// The first octets.
@@ -50,12 +50,12 @@ pub(crate) enum Giving {
 
 /// What begins the line of an order.
 #[derive(Clone, Copy)]
-pub(crate) enum Verb {
+pub(crate) enum ScriptVerb {
     Alone(Alone),
     OnPath(OnPath),
     Rename,
     Taking(Taking),
-    Part(Part),
+    Part(PartVerb),
     Giving(Giving),
     /// From an offset on.
     GivingFrom,
@@ -65,72 +65,72 @@ pub(crate) enum Verb {
     Text,
 }
 
-const VERBS: [Verb; 20] = [
-    Verb::Alone(Alone::Where),
-    Verb::Alone(Alone::Up),
-    Verb::OnPath(OnPath::ChangeDir),
-    Verb::OnPath(OnPath::MakeDir),
-    Verb::OnPath(OnPath::RemoveDir),
-    Verb::OnPath(OnPath::Delete),
-    Verb::OnPath(OnPath::Modified),
-    Verb::OnPath(OnPath::Facts),
-    Verb::Rename,
-    Verb::Taking(Taking::Get),
-    Verb::Taking(Taking::Size),
-    Verb::Taking(Taking::Entries),
-    Verb::Taking(Taking::Names),
-    Verb::Part(Part::GetFrom),
-    Verb::Part(Part::Peek),
-    Verb::Giving(Giving::Put),
-    Verb::Giving(Giving::Append),
-    Verb::GivingFrom,
-    Verb::Upload,
-    Verb::Text,
+const VERBS: [ScriptVerb; 20] = [
+    ScriptVerb::Alone(Alone::Where),
+    ScriptVerb::Alone(Alone::Up),
+    ScriptVerb::OnPath(OnPath::ChangeDir),
+    ScriptVerb::OnPath(OnPath::MakeDir),
+    ScriptVerb::OnPath(OnPath::RemoveDir),
+    ScriptVerb::OnPath(OnPath::Delete),
+    ScriptVerb::OnPath(OnPath::Modified),
+    ScriptVerb::OnPath(OnPath::Facts),
+    ScriptVerb::Rename,
+    ScriptVerb::Taking(Taking::Get),
+    ScriptVerb::Taking(Taking::Size),
+    ScriptVerb::Taking(Taking::Entries),
+    ScriptVerb::Taking(Taking::Names),
+    ScriptVerb::Part(PartVerb::GetFrom),
+    ScriptVerb::Part(PartVerb::Peek),
+    ScriptVerb::Giving(Giving::Put),
+    ScriptVerb::Giving(Giving::Append),
+    ScriptVerb::GivingFrom,
+    ScriptVerb::Upload,
+    ScriptVerb::Text,
 ];
 
 /// The verb of a word.
-pub(crate) fn verb_of(word: &[u8]) -> Option<Verb>
+pub(crate) fn verb_of(word: &[u8]) -> Option<ScriptVerb>
     ensures { result ≡ find (is_named word.now) VERBS }
 {
     named_in(VERBS.as_slice(), word)
 }
 
-fn named_in(verbs: &[Verb], word: &[u8]) -> Option<Verb>
+fn named_in(verbs: &[ScriptVerb], word: &[u8]) -> Option<ScriptVerb>
     ensures { result ≡ find (is_named word.now) verbs.now }
 {
     verbs.iter().find(|verb| is_named(word, **verb)).copied()
 }
 
-fn is_named(word: &[u8], verb: Verb) -> bool
+fn is_named(word: &[u8], verb: ScriptVerb) -> bool
     ensures { result ≡ is_named word.now verb }
 {
     word == word_of(verb)
 }
 
-fn word_of(verb: Verb) -> &'static [u8]
+fn word_of(verb: ScriptVerb) -> &'static [u8]
     ensures { result.now ≡ word_of verb }
 {
     match verb {
-        Verb::Alone(Alone::Where) => b"where",
-        Verb::Alone(Alone::Up) => b"up",
-        Verb::OnPath(OnPath::ChangeDir) => b"cd",
-        Verb::OnPath(OnPath::MakeDir) => b"mkdir",
-        Verb::OnPath(OnPath::RemoveDir) => b"rmdir",
-        Verb::OnPath(OnPath::Delete) => b"delete",
-        Verb::OnPath(OnPath::Modified) => b"modified",
-        Verb::OnPath(OnPath::Facts) => b"facts",
-        Verb::Rename => b"rename",
-        Verb::Taking(Taking::Get) => b"get",
-        Verb::Taking(Taking::Size) => b"size",
-        Verb::Taking(Taking::Entries) => b"list",
-        Verb::Taking(Taking::Names) => b"names",
-        Verb::Part(Part::GetFrom) => b"getfrom",
-        Verb::Part(Part::Peek) => b"peek",
-        Verb::Giving(Giving::Put) => b"put",
-        Verb::Giving(Giving::Append) => b"append",
-        Verb::GivingFrom => b"putfrom",
-        Verb::Upload => b"upload",
-        Verb::Text => b"text",
+        ScriptVerb::Alone(Alone::Where) => b"where",
+        ScriptVerb::Alone(Alone::Up) => b"up",
+        ScriptVerb::OnPath(OnPath::ChangeDir) => b"cd",
+        ScriptVerb::OnPath(OnPath::MakeDir) => b"mkdir",
+        ScriptVerb::OnPath(OnPath::RemoveDir) => b"rmdir",
+        ScriptVerb::OnPath(OnPath::Delete) => b"delete",
+        ScriptVerb::OnPath(OnPath::Modified) => b"modified",
+        ScriptVerb::OnPath(OnPath::Facts) => b"facts",
+        ScriptVerb::Rename => b"rename",
+        ScriptVerb::Taking(Taking::Get) => b"get",
+        ScriptVerb::Taking(Taking::Size) => b"size",
+        ScriptVerb::Taking(Taking::Entries) => b"list",
+        ScriptVerb::Taking(Taking::Names) => b"names",
+        ScriptVerb::Part(PartVerb::GetFrom) => b"getfrom",
+        ScriptVerb::Part(PartVerb::Peek) => b"peek",
+        ScriptVerb::Giving(Giving::Put) => b"put",
+        ScriptVerb::Giving(Giving::Append) => b"append",
+        ScriptVerb::GivingFrom => b"putfrom",
+        ScriptVerb::Upload => b"upload",
+        ScriptVerb::Text => b"text",
     }
 }
 

@@ -3,9 +3,9 @@ use Rattle.std.specs.Prelude.{ℕ, ◌+◌, ◌==◌, ◌&&◌, ◌||◌, nat_lt
 use Rattle.ftp_command.specs.declared.verb.Verb.{Verb}
 use Rattle.ftp_command.specs.declared.verb.Verb.TheVariants as Verbs
 use Rattle.ftp_reply.specs.declared.code.TheConstants.{NOT_LOGGED_IN}
-use Rattle.tool_serve.specs.declared.manner.Manner.{Manner}
-use Rattle.tool_serve.specs.declared.manner.Pace.{Pace}
-use Rattle.tool_serve.specs.declared.manner.Pace.TheVariants as Paces
+use Rattle.tool_serve.specs.declared.manner.LoginHistory.{LoginHistory}
+use Rattle.tool_serve.specs.declared.manner.AnswerPace.{AnswerPace}
+use Rattle.tool_serve.specs.declared.manner.AnswerPace.TheVariants as Paces
 
 -- the line is the password of a login
 abbrev pub is_password : Option Verb → Bool
@@ -13,18 +13,18 @@ is_password (Some Verbs.Pass) = true
 is_password verb = false
 
 -- 530 to a password is a refused login, of which ten are counted
-abbrev pub is_refused : Manner → Option Verb → ℕ → Bool
+abbrev pub is_refused : LoginHistory → Option Verb → ℕ → Bool
 is_refused m verb code = is_password verb && code == NOT_LOGGED_IN && nat_lt m.refused 10
 
 -- after a line that was answered so, and then somebody is logged in, or nobody
-abbrev pub manner_after : Manner → Option Verb → ℕ → (is_in : Bool) → Manner
+abbrev pub manner_after : LoginHistory → Option Verb → ℕ → (is_in : Bool) → LoginHistory
 manner_after m verb code is_in = record {
   logged_in = m.logged_in || is_in;
   refused = if is_refused m verb code then m.refused + 1 else m.refused;
 }
 
 -- after three refused logins each answer waits a second, and the tenth is the last
-abbrev pub answer_to : Manner → Pace
+abbrev pub answer_to : LoginHistory → AnswerPace
 answer_to m = if nat_lt m.refused 3 then Paces.AtOnce else (if nat_lt m.refused 10 then Paces.Slow else Paces.Last)
 
 -- a password is waited for behind a USER that was answered by 331, until a PASS, a REIN or another USER is answered

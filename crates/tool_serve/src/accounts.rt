@@ -1,10 +1,10 @@
 // Who may log in.
-use crate::tells::{OfFile, Tells, Told};
+use crate::tells::{OfFile, ServerNotice, Tells};
 use ftp_operation::{Accounts, Rights};
 use std::alloc::{AllocError, Global};
 use std::fs::Files;
 use tool_accounts::{AccountsFileFault, Reach, TextFault, load_accounts, load_reach, two_accounts};
-use tool_log::Lines;
+use tool_log::LogLines;
 
 /// The accounts that a file says; where none is given, `guest` and `anonymous`, who may change all.
 pub fn accounts_of<R: Files + AllocGlobal>(
@@ -24,12 +24,15 @@ pub fn accounts_of<R: Files + AllocGlobal>(
 pub(crate) fn accounts_told<R: Files + Tells + AllocGlobal>(
     rt: &R,
     file: Option<&str>,
-    lines: &Lines,
+    lines: &LogLines,
 ) -> Option<Accounts<Global>> {
     match accounts_of(rt, file) {
         Ok(accounts) => Some(accounts),
         Err(fault) => {
-            rt.tell(lines, &Told("error: accounts: ", &OfFile(file, &fault)));
+            rt.tell(
+                lines,
+                &ServerNotice("error: accounts: ", &OfFile(file, &fault)),
+            );
             None
         }
     }

@@ -2,7 +2,7 @@
 ghost use Rattle.std.specs.Global.{Global};
 
 use crate::begins::{Begins, Ours};
-use crate::in_slot::{Guest, Session};
+use crate::in_slot::{Guest, ServerSession};
 use crate::seating::session_of;
 use crate::tells::Tells;
 use ftp_disk_tree::{Explains, Parks};
@@ -55,7 +55,7 @@ where
     T: Parks<Global> + Explains,
     M: Begins<T>,
 {
-    let session: Option<Session<'_, R, T, M::Server>> = session_of(rt, begins, tree, guest);
+    let session: Option<ServerSession<'_, R, T, M::Server>> = session_of(rt, begins, tree, guest);
     let Some(mut session) = session else {
         return Err(Failed);
     };

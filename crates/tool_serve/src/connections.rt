@@ -4,7 +4,7 @@ ghost use Rattle.std.specs.Prelude.{None};
 ghost use Rattle.ftp_ports.specs.Asking.{Closes};
 
 use crate::session_log::SessionLog;
-use crate::tells::{Fate, Tells};
+use crate::tells::{DataClose, Tells};
 use ftp_endpoint::Endpoint;
 use ftp_ports::{Accepted, Awaited, Beside, Duplex, For, Ports, Ready, Spoken, Whole};
 use std::alloc::Global;
@@ -170,7 +170,7 @@ impl<'a, R: Sockets + Tells> Ports for CountedPorts<'a, R> {
         match stream {
             Some(whole) => {
                 self.inner.close(Some(whole.map(|counted| counted.inner)));
-                self.session_log.parted(Fate::Ended);
+                self.session_log.parted(DataClose::Ended);
             }
             None => self.inner.close(None),
         }
@@ -178,6 +178,6 @@ impl<'a, R: Sockets + Tells> Ports for CountedPorts<'a, R> {
 
     fn reset(&mut self, stream: CountedLink<'a, R>) {
         self.inner.reset(stream.inner);
-        self.session_log.parted(Fate::Reset);
+        self.session_log.parted(DataClose::Reset);
     }
 }

@@ -1,19 +1,21 @@
 // What a client is told before the server ends its session, and as whom its refused logins are counted.
 use std::net::IpAddr;
-use tool_polling::Over;
+use tool_polling::TimeoutReason;
 use tool_scheduler::Full;
 
 /// The 421 that goes out before a session is ended (RFC 959, section 5.4); none after ten refused logins, of which the last was answered by 530.
-pub(crate) fn last_reply(over: Over) -> Option<&'static [u8]> {
+pub(crate) fn last_reply(over: TimeoutReason) -> Option<&'static [u8]> {
     match over {
-        Over::Login => Some(b"421 Nobody logged in\r\n"),
-        Over::Idle => Some(b"421 Nothing was said or sent\r\n"),
-        Over::Waited => Some(b"421 Nothing was said or sent, and others wait\r\n"),
-        Over::Session => Some(b"421 The time is over, since others wait\r\n"),
-        Over::LoginWaited => Some(b"421 Nobody logged in, and others wait\r\n"),
-        Over::Crowded => Some(b"421 Your address has the most sessions, and another has none\r\n"),
-        Over::Stopped => Some(b"421 The server stops\r\n"),
-        Over::Refused => None,
+        TimeoutReason::Login => Some(b"421 Nobody logged in\r\n"),
+        TimeoutReason::Idle => Some(b"421 Nothing was said or sent\r\n"),
+        TimeoutReason::Waited => Some(b"421 Nothing was said or sent, and others wait\r\n"),
+        TimeoutReason::Session => Some(b"421 The time is over, since others wait\r\n"),
+        TimeoutReason::LoginWaited => Some(b"421 Nobody logged in, and others wait\r\n"),
+        TimeoutReason::Crowded => Some(
+            b"421 Your address has the most sessions, and another has none\r\n",
+        ),
+        TimeoutReason::Stopped => Some(b"421 The server stops\r\n"),
+        TimeoutReason::Refused => None,
     }
 }
 

@@ -39,9 +39,9 @@ impl Hold {
 
 /// Why a folder is not served that another server has.
 #[derive(Clone, Copy)]
-pub(crate) struct Taken<'a>(pub(crate) &'a str);
+pub(crate) struct FolderTaken<'a>(pub(crate) &'a str);
 
-impl<'a> Display for Taken<'a> {
+impl<'a> Display for FolderTaken<'a> {
     fn fmt<W: fmt::Write>(&self, formatter: &mut Formatter<W>) -> fmt::Result {
         let dir = Placed {
             dir: self.0,

@@ -18,10 +18,10 @@ use std::cell::RefCell;
 use std::net::{IpAddr, TcpStream};
 use std::rc::Rc;
 use std::time::Clock;
-use tool_log::Lines;
+use tool_log::LogLines;
 use tool_login_limit::LoginLimiter;
-use tool_polling::{Awaits, Leaving, Limits, LineReader, PassivePorts, Timeouts};
-use tool_scheduler::{Course, Slot, Turn};
+use tool_polling::{Awaits, Leaving, LineReader, PassivePorts, TimeLimits, Timeouts};
+use tool_scheduler::{Slot, Turn, TurnResult};
 use tool_sockets::{Sockets, SystemWatch};
 
 /// The most turns of a drive in one turn of a session: as many octets of a line may be heard.
@@ -35,7 +35,7 @@ pub struct Service<'a> {
     /// The address that PASV names in place of that which the client reached, where both are of one family.
     pub passive_address: Option<IpAddr>,
     /// Where the log goes.
-    pub lines: &'a Lines,
+    pub lines: &'a LogLines,
     /// The logins that were refused, over all sessions.
     pub login_limiter: &'a RefCell<LoginLimiter<Global>>,
 }
@@ -45,13 +45,13 @@ pub struct Service<'a> {
 pub struct Guest<'a> {
     pub accounts: Accounts<Global>,
     pub stream: TcpStream,
-    pub waits: Limits,
+    pub waits: TimeLimits,
     pub service: Service<'a>,
 }
 
 /// How a session went.
 #[derive(Clone, Copy)]
-enum Went {
+enum SessionOutcome {
     /// It goes on.
     On,
     /// The server was done with it.
@@ -62,7 +62,7 @@ enum Went {
 
 /// A session: its server with a clock, its control connection, its data connections, and the session_log. Between its turns the server holds a tree that has
 /// nothing.
-pub struct Session<'a, R, T, F>
+pub struct ServerSession<'a, R, T, F>
 where
     R: Sockets + Tells + Clock,
     T: Tree<Global> + Explains,
@@ -75,11 +75,11 @@ where
     /// What stood at the path of an upload when the tree was last given back.
     stood: Option<Standing>,
     session_log: Rc<SessionLog<'a, R>, Global>,
-    went: Went,
+    went: SessionOutcome,
 }
 
 /// Its data connection is closed, if one stands.
-impl<'a, R, T, F> Drop for Session<'a, R, T, F>
+impl<'a, R, T, F> Drop for ServerSession<'a, R, T, F>
 where
     R: Sockets + Tells + Clock,
     T: Tree<Global> + Explains,
@@ -107,7 +107,7 @@ pub(crate) struct Connected<'a, R: Sockets + Tells> {
     pub(crate) ports: CountedPorts<'a, R>,
 }
 
-impl<'a, R, T, F> Session<'a, R, T, F>
+impl<'a, R, T, F> ServerSession<'a, R, T, F>
 where
     R: Sockets + Tells + Clock,
     T: Tree<Global> + Explains,
@@ -120,10 +120,10 @@ where
         connected: Connected<'a, R>,
         watching: Watching<'a, R, T>,
         session_log: Rc<SessionLog<'a, R>, Global>,
-    ) -> Session<'a, R, T, F> {
+    ) -> ServerSession<'a, R, T, F> {
         session_log.note("begins");
         let Connected { control, ports } = connected;
-        Session {
+        ServerSession {
             clocked: Clocked {
                 server,
                 watch: SystemWatch::new(rt),
@@ -134,18 +134,18 @@ where
             data: Data::new(),
             stood: None,
             session_log,
-            went: Went::On,
+            went: SessionOutcome::On,
         }
     }
 }
 
-impl<'a, R, T, F> Slot<T> for Session<'a, R, T, F>
+impl<'a, R, T, F> Slot<T> for ServerSession<'a, R, T, F>
 where
     R: Sockets + Tells + Clock,
     T: Tree<Global> + Explains,
     F: Lends<Global, T>,
 {
-    fn turn(&mut self, _turn: Turn, told: Awaits, tree: &mut T) -> Course {
+    fn turn(&mut self, _turn: Turn, told: Awaits, tree: &mut T) -> TurnResult {
         self.session_log.line().begin_turn(told);
         self.session_log.begin(&self.clocked.server);
         let turned = some_turns(
@@ -157,15 +157,15 @@ where
             &mut self.stood,
         );
         match turned {
-            Ok(Turned::Later) => Course::Later,
-            Ok(Turned::More) => Course::More,
+            Ok(Turned::Later) => TurnResult::Later,
+            Ok(Turned::More) => TurnResult::More,
             Ok(Turned::Over(())) => {
-                self.went = Went::Whole;
-                Course::Over
+                self.went = SessionOutcome::Whole;
+                TurnResult::Over
             }
             Err(_) => {
-                self.went = Went::Off;
-                Course::Over
+                self.went = SessionOutcome::Off;
+                TurnResult::Over
             }
         }
     }
@@ -187,7 +187,7 @@ where
     }
 
     fn leave(&mut self) -> (Leaving, bool) {
-        let is_whole = matches!(self.went, Went::Whole);
+        let is_whole = matches!(self.went, SessionOutcome::Whole);
         let last = self.session_log.last_reply();
         if let Some(last) = last {
             self.session_log.line().say_last(last);

@@ -16,7 +16,7 @@ const LAST: u8 = 10;
 
 /// How the logins of a connection went.
 #[derive(Clone, Copy)]
-pub(crate) struct Manner {
+pub(crate) struct LoginHistory {
     pub(crate) logged_in: bool,
     /// How many logins were refused, 10 for more.
     pub(crate) refused: u8,
@@ -24,7 +24,7 @@ pub(crate) struct Manner {
 
 /// How a client is answered.
 #[derive(Clone, Copy)]
-pub(crate) enum Pace {
+pub(crate) enum AnswerPace {
     AtOnce,
     /// After a second.
     Slow,
@@ -32,17 +32,17 @@ pub(crate) enum Pace {
     Last,
 }
 
-impl Manner {
+impl LoginHistory {
     /// Nobody logged in, and none was refused.
-    pub(crate) fn new() -> Manner {
-        Manner {
+    pub(crate) fn new() -> LoginHistory {
+        LoginHistory {
             logged_in: false,
             refused: 0,
         }
     }
 
     /// A line of this verb was answered by a last reply of this code, and then somebody is logged in, or nobody.
-    pub(crate) fn after(self, verb: Option<Verb>, code: u16, is_in: bool) -> Manner
+    pub(crate) fn after(self, verb: Option<Verb>, code: u16, is_in: bool) -> LoginHistory
         ensures { result ≡ manner_after self verb code is_in }
     {
         let is_refused = matches!(verb, Some(Verb::Pass)) && code == NOT_LOGGED_IN;
@@ -51,22 +51,22 @@ impl Manner {
         } else {
             self.refused
         };
-        Manner {
+        LoginHistory {
             logged_in: self.logged_in || is_in,
             refused,
         }
     }
 
     /// How the next answer goes.
-    pub(crate) fn pace(self) -> Pace
+    pub(crate) fn pace(self) -> AnswerPace
         ensures { result ≡ answer_to self }
     {
         if self.refused < SLOW_FROM {
-            Pace::AtOnce
+            AnswerPace::AtOnce
         } else if self.refused < LAST {
-            Pace::Slow
+            AnswerPace::Slow
         } else {
-            Pace::Last
+            AnswerPace::Last
         }
     }
 }

@@ -5,9 +5,9 @@ use tool_terminal::Shown;
 
 /// A text of a client, or a name of the folder, in quotation marks and as it is shown; a quotation mark of its own is `\x22`, so that it ends nothing.
 #[derive(Clone, Copy)]
-pub(crate) struct Named<'a>(pub(crate) &'a [u8]);
+pub(crate) struct QuotedName<'a>(pub(crate) &'a [u8]);
 
-impl<'a> Display for Named<'a> {
+impl<'a> Display for QuotedName<'a> {
     fn fmt<W: fmt::Write>(&self, formatter: &mut Formatter<W>) -> fmt::Result {
         formatter.write_str("\"")?;
         write_within(self.0, formatter)?;

@@ -7,10 +7,11 @@ use crate::accounts::accounts_told;
 use crate::begins::Begins;
 use crate::connections::{CountedPorts, SaidWriter};
 use crate::goodbye::{guessed_from, no_slot};
-use crate::in_slot::{Connected, Guest, Service, Session};
+use crate::in_slot::{Connected, Guest, ServerSession, Service};
 use crate::serving::Serving;
 use crate::session_log::{Log, SessionLog};
-use crate::tells::{NoClient, Note, Tells};
+use crate::sessions::SessionCount;
+use crate::tells::{NoClient, SessionNote, Tells};
 use crate::watching::Watching;
 use ftp_disk_tree::{Explains, Parks};
 use ftp_endpoint::Host;
@@ -23,18 +24,17 @@ use std::marker::PhantomData;
 use std::net::{IpAddr, SocketAddr, TcpStream};
 use std::rc::Rc;
 use std::time::Clock;
-use tool_polling::{Limits, Line, LinePorts, LineReader, LineWriter};
+use tool_polling::{ControlLine, LinePorts, LineReader, LineWriter, TimeLimits};
 use tool_scheduler::{Full, Slot, Slots};
 use tool_sockets::{Sockets, host_of};
-use crate::sessions::Sessions;
 
 /// What all sessions have in common. `M` begins their servers.
 #[derive(Drop)]
 pub(crate) struct Seating<'a, R, T, M> {
     rt: &'a R,
     accounts: Option<&'a str>,
-    waits: Limits,
-    sessions: Sessions,
+    waits: TimeLimits,
+    sessions: SessionCount,
     service: Service<'a>,
     begins: M,
     _over: PhantomData<T>,
@@ -68,7 +68,7 @@ where
 {
     type Tree = T;
 
-    type Slot = Session<'a, R, T, M::Server>;
+    type Slot = ServerSession<'a, R, T, M::Server>;
 
     fn host(&self, peer: SocketAddr) -> u128 {
         guessed_from(peer.ip())
@@ -79,7 +79,7 @@ where
         stream: TcpStream,
         _peer: SocketAddr,
         tree: &T,
-    ) -> Option<Box<Session<'a, R, T, M::Server>, Global>> {
+    ) -> Option<Box<ServerSession<'a, R, T, M::Server>, Global>> {
         let accounts = accounts_told(self.rt, self.accounts, self.service.lines)?;
         let guest = Guest {
             accounts,
@@ -89,7 +89,7 @@ where
         };
         let session = session_of(self.rt, &self.begins, tree, guest)?;
         // Who waits for one of so many sessions has its turn once a transfer is done.
-        if let Sessions::Count(_) = self.sessions {
+        if let SessionCount::Count(_) = self.sessions {
             session.timeouts().spare_transfers();
         }
         Box::new(self.rt.alloc(), session).ok()
@@ -102,15 +102,16 @@ where
         stream: TcpStream,
         peer: SocketAddr,
         why: Full,
-    ) -> Option<Rc<Line, Global>> {
+    ) -> Option<Rc<ControlLine, Global>> {
         if let Log::Told = self.service.log {
             let what = match why {
                 Full::House => "is turned away: all seats are taken",
                 Full::Host => "is turned away: its address has as many seats as it may",
             };
-            self.rt.tell(self.service.lines, &Note { peer, what });
+            self.rt
+                .tell(self.service.lines, &SessionNote { peer, what });
         }
-        let line = Line::new(stream, self.waits).ok()?;
+        let line = ControlLine::new(stream, self.waits).ok()?;
         line.say_last(no_slot(why));
         Rc::new(self.rt.alloc(), line).ok()
     }
@@ -137,7 +138,7 @@ pub(crate) fn session_of<'a, R, T, M>(
     begins: &M,
     tree: &T,
     guest: Guest<'a>,
-) -> Option<Session<'a, R, T, M::Server>>
+) -> Option<ServerSession<'a, R, T, M::Server>>
 where
     R: Sockets + Tells + Clock + AllocGlobal,
     T: Parks<Global> + Explains,
@@ -149,7 +150,7 @@ where
         waits,
         service,
     } = guest;
-    let Ok(line) = Line::new(stream, waits) else {
+    let Ok(line) = ControlLine::new(stream, waits) else {
         return None;
     };
     let (Ok(here), Ok(peer)) = (line.here(), line.peer()) else {
@@ -174,13 +175,13 @@ where
         return None;
     };
     let watching = Watching::new(rt, watched);
-    Some(Session::new(rt, server, connected, watching, session_log))
+    Some(ServerSession::new(rt, server, connected, watching, session_log))
 }
 
 /// The connections of a session that begins; none where an address of its control connection is not had.
 fn connected<'a, R: Sockets + Tells>(
     rt: &'a R,
-    line: &Rc<Line, Global>,
+    line: &Rc<ControlLine, Global>,
     session_log: &Rc<SessionLog<'a, R>, Global>,
     service: Service<'a>,
 ) -> Result<Option<Connected<'a, R>>, AllocError> {

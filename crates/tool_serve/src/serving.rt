@@ -5,10 +5,11 @@ ghost use Rattle.tool_serve.specs.Listening.{MayListen};
 use crate::accounts::{accounts_of, reach_of};
 use crate::begins::{Begins, Ours};
 use crate::ceiling::{most_written, within};
-use crate::holding::{Hold, Taken};
+use crate::holding::{FolderTaken, Hold};
 use crate::in_slot::Service;
 use crate::seating::Seating;
 use crate::session_log::Log;
+use crate::sessions::SessionCount;
 use crate::starting::{Unserved, dir_text, is_folder, opened, tell_roots};
 use crate::tells::{OfFile, Tells};
 use ftp_disk_host::{Host, SystemHost};
@@ -24,13 +25,12 @@ use std::net::{IpAddr, Net, SocketAddr, TcpListener, TcpStream};
 use std::time::Clock;
 use std::{fs, io};
 use tool_accounts::Reach;
-use tool_log::Lines;
+use tool_log::LogLines;
 use tool_login_limit::LoginLimiter;
-use tool_polling::{Limits as Waits, PassivePorts};
-use tool_scheduler::{House, Input, is_input_open, serve_rounds};
+use tool_polling::{PassivePorts, TimeLimits as Waits};
+use tool_scheduler::{Input, SessionLimits, is_input_open, serve_rounds};
 use tool_sockets::Sockets;
 use tool_terminal::{Shown, Status};
-use crate::sessions::Sessions;
 
 /// What is to be served.
 #[derive(Clone, Copy)]
@@ -41,7 +41,7 @@ pub struct Serving<'a> {
     pub port: u16,
     /// The folder.
     pub dir: &'a str,
-    pub sessions: Sessions,
+    pub sessions: SessionCount,
     /// How many of them at once, from 1 to 64, and how many of those from one address.
     pub at_once: usize,
     pub per_host: usize,
@@ -133,7 +133,7 @@ fn tell_address<R: Print>(rt: &R, listener: &TcpListener) -> io::Result<()> {
 
 /// The folder's lock, which is let go with this; where nobody is served none is asked for.
 fn hold_of<R: AllocGlobal>(rt: &R, job: &Serving<'_>) -> Result<Hold, AllocError> {
-    if job.sessions == Sessions::Count(0) {
+    if job.sessions == SessionCount::Count(0) {
         return Ok(Hold::Unasked);
     }
     let dir = dir_text(job.dir);
@@ -176,7 +176,7 @@ where
         return refuse(rt, "", &LoadFault::Memory);
     };
     match &hold {
-        Hold::Taken => return refuse(rt, "", &Taken(dir_text(job.dir))),
+        Hold::Taken => return refuse(rt, "", &FolderTaken(dir_text(job.dir))),
         Hold::Refused(error) => tell_unlocked(rt, job.dir, error)?,
         Hold::Held(_) | Hold::Unasked => {}
     }
@@ -224,7 +224,7 @@ where
         + AllocGlobal,
     H: Host,
 {
-    let lines = Lines::new();
+    let lines = LogLines::new();
     let roots = reach.roots.as_slice();
     match opened(rt, host, job, roots, &lines) {
         Ok(tree) => {
@@ -252,7 +252,7 @@ fn refuse_folder<R: Files + Eprint>(
 
 /// Tries whether the folder can be written, where nobody is served: by an empty file of a name that no client can say.
 fn try_writing<R: Files + AllocGlobal>(rt: &R, job: &Serving<'_>) -> io::Result<()> {
-    if job.sessions != Sessions::Count(0) {
+    if job.sessions != SessionCount::Count(0) {
         return Ok(());
     }
     let dir = dir_text(job.dir);
@@ -267,7 +267,7 @@ fn serve_tree<R, T>(
     tree: T,
     job: &Serving<'_>,
     rights: Rights,
-    lines: &Lines,
+    lines: &LogLines,
 ) -> io::Result<Status>
 where
     R: Net<Listener = TcpListener, Stream = TcpStream>
@@ -333,8 +333,8 @@ fn tell_unheard<R: Eprint>(
 fn passive_of(alloc: Global, job: &Serving<'_>) -> PassivePorts {
     let (first, last) = job.passive;
     match job.sessions {
-        Sessions::Forever => PassivePorts::given_up(alloc, first, last),
-        Sessions::Count(_) => PassivePorts::new(alloc, first, last),
+        SessionCount::Forever => PassivePorts::given_up(alloc, first, last),
+        SessionCount::Count(_) => PassivePorts::new(alloc, first, last),
     }
 }
 
@@ -344,7 +344,7 @@ fn serve_by<R, T>(
     tree: T,
     job: &Serving<'_>,
     listener: &TcpListener,
-    lines: &Lines,
+    lines: &LogLines,
 ) -> Status
 where
     R: Net<Listener = TcpListener, Stream = TcpStream> + Files + Clock + Eprint + AllocGlobal,
@@ -435,13 +435,13 @@ where
 }
 
 /// How many clients are served.
-fn house_of(job: &Serving<'_>) -> House {
-    House {
+fn house_of(job: &Serving<'_>) -> SessionLimits {
+    SessionLimits {
         at_once: job.at_once,
         per_host: job.per_host,
         sessions: match job.sessions {
-            Sessions::Count(count) => Some(count),
-            Sessions::Forever => None,
+            SessionCount::Count(count) => Some(count),
+            SessionCount::Forever => None,
         },
         input: job.input,
     }

@@ -1,10 +1,10 @@
 // What is told of a session on standard error, and how slow it is after refused logins: a function of what its server tells of each call.
 use crate::goodbye::{guessed_from, last_reply};
 use crate::in_slot::Service;
-use crate::manner::{Manner, Pace, password_awaited};
-use crate::telling::Asked;
-use crate::tells::{Entry, Fate, NotTaken, Note, Outcome, Tells};
-use crate::text::Text;
+use crate::manner::{AnswerPace, LoginHistory, password_awaited};
+use crate::telling::LoggedCommand;
+use crate::tells::{DataClose, LineOutcome, LogEntry, NotTaken, SessionNote, Tells};
+use crate::text::TextFront;
 use ftp_command::Verb;
 use ftp_disk_tree::Explains;
 use ftp_reply::code::COMPLETE;
@@ -15,7 +15,7 @@ use std::cell::Cell;
 use std::io;
 use std::net::SocketAddr;
 use std::rc::Rc;
-use tool_polling::{Line, Over};
+use tool_polling::{ControlLine, TimeoutReason};
 use tool_sockets::monotonic_millis;
 
 /// How long an answer waits after refused logins where none is noted, in milliseconds.
@@ -38,8 +38,8 @@ struct Before {
 
 /// A line that is told: what it says, the code of its last reply, if it had one, and why the folder failed.
 #[derive(Clone, Copy)]
-struct Closed {
-    asked: Asked,
+struct LoggedLine {
+    asked: LoggedCommand,
     code: Option<u16>,
     why: Option<io::Error>,
 }
@@ -52,24 +52,24 @@ struct Closed {
 pub(crate) struct SessionLog<'a, R: Tells> {
     rt: &'a R,
     peer: SocketAddr,
-    line: Rc<Line, Global>,
+    line: Rc<ControlLine, Global>,
     service: Service<'a>,
-    manner: Cell<Manner>,
+    manner: Cell<LoginHistory>,
     /// Whether a password is waited for, which is hashed.
     awaits_password: Cell<bool>,
     /// The user who was named last.
-    named: Cell<Text>,
+    named: Cell<TextFront>,
     /// The user who is logged in; empty where nobody is.
-    user: Cell<Text>,
+    user: Cell<TextFront>,
     before: Cell<Before>,
     /// The line that was acted on and whose last reply is still to come: a transfer goes on, or a port is waited for.
-    pending: Cell<Option<Asked>>,
+    pending: Cell<Option<LoggedCommand>>,
     /// The line that was answered for good, and is told once its data connection is closed and its reply written.
-    closed: Cell<Option<Closed>>,
+    closed: Cell<Option<LoggedLine>>,
     /// Whether a data connection stands.
     is_open: Cell<bool>,
     moved: Cell<u64>,
-    fate: Cell<Fate>,
+    fate: Cell<DataClose>,
     /// Why the folder failed last, where no line was told of that yet.
     why: Cell<Option<io::Error>>,
     /// Whether the server owes octets that were not given to be written.
@@ -82,7 +82,7 @@ impl<'a, R: Tells> SessionLog<'a, R> {
     /// Nobody is logged in, and nothing was said.
     pub(crate) fn new(
         rt: &'a R,
-        line: Rc<Line, Global>,
+        line: Rc<ControlLine, Global>,
         peer: SocketAddr,
         service: Service<'a>,
     ) -> SessionLog<'a, R> {
@@ -91,10 +91,10 @@ impl<'a, R: Tells> SessionLog<'a, R> {
             peer,
             line,
             service,
-            manner: Cell::new(Manner::new()),
+            manner: Cell::new(LoginHistory::new()),
             awaits_password: Cell::new(false),
-            named: Cell::new(Text::new()),
-            user: Cell::new(Text::new()),
+            named: Cell::new(TextFront::new()),
+            user: Cell::new(TextFront::new()),
             before: Cell::new(Before {
                 owed: 0,
                 is_transferring: false,
@@ -103,7 +103,7 @@ impl<'a, R: Tells> SessionLog<'a, R> {
             closed: Cell::new(None),
             is_open: Cell::new(false),
             moved: Cell::new(0),
-            fate: Cell::new(Fate::Ended),
+            fate: Cell::new(DataClose::Ended),
             why: Cell::new(None),
             owes: Cell::new(false),
             is_whole: Cell::new(true),
@@ -111,12 +111,12 @@ impl<'a, R: Tells> SessionLog<'a, R> {
     }
 
     /// The control connection.
-    pub(crate) fn line(&self) -> &Line {
+    pub(crate) fn line(&self) -> &ControlLine {
         &self.line
     }
 
     /// A share of it; none where memory is refused.
-    pub(crate) fn share_line(&self) -> Option<Rc<Line, Global>> {
+    pub(crate) fn share_line(&self) -> Option<Rc<ControlLine, Global>> {
         self.line.clone().ok()
     }
 
@@ -124,7 +124,8 @@ impl<'a, R: Tells> SessionLog<'a, R> {
     pub(crate) fn note(&self, what: &str) {
         if self.service.log == Log::Told {
             let peer = self.peer;
-            self.rt.tell(self.service.lines, &Note { peer, what });
+            self.rt
+                .tell(self.service.lines, &SessionNote { peer, what });
         }
     }
 
@@ -134,14 +135,15 @@ impl<'a, R: Tells> SessionLog<'a, R> {
             None if is_whole => "ends",
             None if !self.is_whole.get() => "breaks off: its last reply was not sent whole",
             None => "breaks off",
-            Some(Over::Login) => "is ended: nobody logged in",
-            Some(Over::Idle) => "is ended: nothing was said or sent",
-            Some(Over::Waited) => "is ended: nothing was said or sent, and others wait",
-            Some(Over::Session) => "is ended: its time is over, since others wait",
-            Some(Over::LoginWaited) => "is ended: nobody logged in, and others wait",
-            Some(Over::Crowded) => "is ended: its address has the most seats, and another has none",
-            Some(Over::Refused) => "is ended: ten logins were refused",
-            Some(Over::Stopped) => "is ended: the server stops",
+            Some(TimeoutReason::Login) => "is ended: nobody logged in",
+            Some(TimeoutReason::Idle) => "is ended: nothing was said or sent",
+            Some(TimeoutReason::Waited) => "is ended: nothing was said or sent, and others wait",
+            Some(TimeoutReason::Session) => "is ended: its time is over, since others wait",
+            Some(TimeoutReason::LoginWaited) => "is ended: nobody logged in, and others wait",
+            Some(TimeoutReason::Crowded) =>
+                "is ended: its address has the most seats, and another has none",
+            Some(TimeoutReason::Refused) => "is ended: ten logins were refused",
+            Some(TimeoutReason::Stopped) => "is ended: the server stops",
         };
         self.note(ended);
     }
@@ -183,7 +185,10 @@ impl<'a, R: Tells> SessionLog<'a, R> {
 
     /// The line that waited for its last reply, and the code of that, where it was said in the call: the transfer ended, or the port that was
     /// waited for is had or not. It comes before all else that the call says.
-    fn ended<T: Tree<Global>, F: Far<Global, T>>(&self, server: &F) -> Option<(Asked, u16)> {
+    fn ended<T: Tree<Global>, F: Far<Global, T>>(
+        &self,
+        server: &F,
+    ) -> Option<(LoggedCommand, u16)> {
         let asked = self.pending.get()?;
         let before = self.before.get();
         if before.is_transferring && server.is_transferring() {
@@ -195,8 +200,8 @@ impl<'a, R: Tells> SessionLog<'a, R> {
     }
 
     /// What a line says that was acted on. The user who is named is kept.
-    fn asked(&self, answered: &Answered<'_>) -> Asked {
-        let asked = Asked::of(answered, self.named.get());
+    fn asked(&self, answered: &Answered<'_>) -> LoggedCommand {
+        let asked = LoggedCommand::of(answered, self.named.get());
         if asked.verb == Some(Verb::User) {
             self.named.set(asked.names);
         }
@@ -205,16 +210,19 @@ impl<'a, R: Tells> SessionLog<'a, R> {
 
     /// A line was answered for good, and then somebody is logged in, or nobody: takes in how a login went, and tells the line, where it is one that
     /// is told, or keeps it while its data connection stands.
-    fn close(&self, is_in: bool, asked: Asked, code: u16) {
-        self.user
-            .set(if is_in { self.named.get() } else { Text::new() });
+    fn close(&self, is_in: bool, asked: LoggedCommand, code: u16) {
+        self.user.set(if is_in {
+            self.named.get()
+        } else {
+            TextFront::new()
+        });
         let why = self.why.take();
         self.judge(asked.verb, code, is_in);
         self.await_password(asked.verb, code);
         if !asked.is_told_by(code) {
             return;
         }
-        let closed = Closed {
+        let closed = LoggedLine {
             asked,
             code: Some(code),
             why,
@@ -291,8 +299,8 @@ impl<'a, R: Tells> SessionLog<'a, R> {
     }
 
     /// Whether an answer waits, since logins were refused on this connection, or on others from this address.
-    fn is_slow(&self, manner: Manner) -> bool {
-        if manner.pace() != Pace::AtOnce {
+    fn is_slow(&self, manner: LoginHistory) -> bool {
+        if manner.pace() != AnswerPace::AtOnce {
             return true;
         }
         match self.service.login_limiter.try_borrow() {
@@ -313,8 +321,8 @@ impl<'a, R: Tells> SessionLog<'a, R> {
     pub(crate) fn written(&self) {
         self.is_whole.set(!self.owes.get());
         self.tell_closed();
-        if self.manner.get().pace() == Pace::Last {
-            self.line.timeouts.end(Over::Refused);
+        if self.manner.get().pace() == AnswerPace::Last {
+            self.line.timeouts.end(TimeoutReason::Refused);
         }
     }
 
@@ -348,7 +356,7 @@ impl<'a, R: Tells> SessionLog<'a, R> {
     }
 
     /// A data connection was closed.
-    pub(crate) fn parted(&self, fate: Fate) {
+    pub(crate) fn parted(&self, fate: DataClose) {
         self.fate.set(fate);
         self.is_open.set(false);
         self.tell_closed();
@@ -363,7 +371,7 @@ impl<'a, R: Tells> SessionLog<'a, R> {
             return;
         };
         if asked.is_told() {
-            self.tell(Closed {
+            self.tell(LoggedLine {
                 asked,
                 code: None,
                 why: None,
@@ -372,20 +380,20 @@ impl<'a, R: Tells> SessionLog<'a, R> {
     }
 
     /// Tells a line, where sessions are told.
-    fn tell(&self, closed: Closed) {
+    fn tell(&self, closed: LoggedLine) {
         if self.service.log == Log::Silent {
             return;
         }
         let user = self.user.get();
-        let entry = Entry {
+        let entry = LogEntry {
             peer: self.peer,
             user: user.octets(),
             verb: closed.asked.verb,
             names: closed.asked.names.octets(),
             moved: self.moved.replace(0),
-            outcome: Outcome {
+            outcome: LineOutcome {
                 code: closed.code,
-                fate: self.fate.replace(Fate::Ended),
+                fate: self.fate.replace(DataClose::Ended),
                 why: closed.why,
             },
         };

@@ -2,7 +2,7 @@
 
 /// How many control connections are served, one after another.
 #[derive(Clone, Copy, Debug, PartialEq, Eq)]
-pub enum Sessions {
+pub enum SessionCount {
     Count(u32),
     Forever,
 }

@@ -1,7 +1,7 @@
 // How the folder is opened, and what is told of it and of the accounts before anybody is served.
-use crate::named::{Named, Placed};
+use crate::named::{Placed, QuotedName};
 use crate::serving::Serving;
-use crate::tells::Told;
+use crate::tells::ServerNotice;
 use ftp_disk_host::Host;
 use ftp_disk_tree::{DiskTree, LeftOut, LoadFault, Odd, Reason, Unknown, open};
 use ftp_path::{Path, TEXT_LIMIT};
@@ -11,7 +11,7 @@ use std::fmt::{Display, Formatter};
 use std::fs::Files;
 use std::time::Clock;
 use std::{fmt, fs};
-use tool_log::Lines;
+use tool_log::LogLines;
 
 /// The tree of the folder that a host has. Where what can't be served is left out, that is told.
 pub(crate) fn opened<'a, R, H>(
@@ -19,7 +19,7 @@ pub(crate) fn opened<'a, R, H>(
     host: &'a H,
     job: &Serving<'_>,
     roots: &[Path<Global>],
-    lines: &Lines,
+    lines: &LogLines,
 ) -> Result<DiskTree<'a, H, Unknown>, LoadFault>
 where
     R: Files + Clock,
@@ -46,7 +46,7 @@ pub(crate) fn is_folder<R: Files>(rt: &R, dir: &str) -> bool {
 }
 
 /// Tells what of the folder is not served.
-fn tell_left<R: Clock>(rt: &R, job: &Serving<'_>, left: &LeftOut, lines: &Lines) {
+fn tell_left<R: Clock>(rt: &R, job: &Serving<'_>, left: &LeftOut, lines: &LogLines) {
     if let Some(first) = &left.first {
         let count = left.count;
         let first = Unserved::of(job, first);
@@ -60,7 +60,7 @@ pub(crate) fn tell_roots<R: Clock + AllocGlobal, T: Tree<Global>>(
     tree: &T,
     file: Option<&str>,
     roots: &[Path<Global>],
-    lines: &Lines,
+    lines: &LogLines,
 ) {
     if file.is_none() {
         return;
@@ -68,7 +68,7 @@ pub(crate) fn tell_roots<R: Clock + AllocGlobal, T: Tree<Global>>(
     if roots.is_empty() {
         lines.tell(
             rt,
-            &Told("note: accounts: ", &"none is said, so nobody can log in"),
+            &ServerNotice("note: accounts: ", &"none is said, so nobody can log in"),
         );
     }
     let top = Path::root(rt.alloc());
@@ -166,7 +166,7 @@ impl<'a> Display for NoRoot<'a> {
         write!(
             formatter,
             "note: accounts: no directory is at {}: who has this root can't log in",
-            Named(self.0)
+            QuotedName(self.0)
         )
     }
 }

@@ -1,26 +1,26 @@
 // What is told of a line that a server acted on: its verb, and what it names where that is no secret.
-use crate::text::Text;
+use crate::text::TextFront;
 use ftp_command::{Role, Verb};
 use ftp_reply::code::LOGGED_IN;
 use ftp_server_model::Answered;
 
 /// A line of a client as far as it is told: its verb, and the path or the user that it names; no password.
 #[derive(Clone, Copy)]
-pub(crate) struct Asked {
+pub(crate) struct LoggedCommand {
     /// None: no verb that is known.
     pub(crate) verb: Option<Verb>,
     /// Empty where there is nothing to be told.
-    pub(crate) names: Text,
+    pub(crate) names: TextFront,
 }
 
-impl Asked {
+impl LoggedCommand {
     /// A line that a server acted on; PASS is told by the user who was named before it.
-    pub(crate) fn of(answered: &Answered<'_>, named: Text) -> Asked {
+    pub(crate) fn of(answered: &Answered<'_>, named: TextFront) -> LoggedCommand {
         let names = match answered.verb {
             Some(Verb::Pass) => named,
-            _ => Text::front_of(answered.text),
+            _ => TextFront::front_of(answered.text),
         };
-        Asked {
+        LoggedCommand {
             verb: answered.verb,
             names,
         }

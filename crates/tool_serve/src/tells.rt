@@ -1,29 +1,29 @@
 // Who tells of sessions on standard error, and what a line of that says.
-use crate::named::Named;
+use crate::named::QuotedName;
 use ftp_command::Verb;
 use ftp_disk_tree::LeftOut;
 use std::fmt::{Display, Formatter};
 use std::net::SocketAddr;
 use std::time::Clock;
 use std::{fmt, io};
-use tool_log::Lines;
+use tool_log::LogLines;
 use tool_terminal::Shown;
 
 /// A clock as one trait without types of its own: what stands on it is proved for less.
 pub(crate) trait Tells {
     /// Writes a line of the log, behind the moment.
-    fn tell<T: Display>(&self, lines: &Lines, what: &T);
+    fn tell<T: Display>(&self, lines: &LogLines, what: &T);
 }
 
 impl<R: Clock> Tells for R {
-    fn tell<T: Display>(&self, lines: &Lines, what: &T) {
+    fn tell<T: Display>(&self, lines: &LogLines, what: &T) {
         lines.tell(self, what);
     }
 }
 
 /// How the last data connection was closed.
 #[derive(Clone, Copy)]
-pub(crate) enum Fate {
+pub(crate) enum DataClose {
     Ended,
     /// By a reset, since octets that were to go did not.
     Reset,
@@ -31,12 +31,12 @@ pub(crate) enum Fate {
 
 /// How a session goes, in a word or two, and whose it is.
 #[derive(Clone, Copy)]
-pub(crate) struct Note<'a> {
+pub(crate) struct SessionNote<'a> {
     pub(crate) peer: SocketAddr,
     pub(crate) what: &'a str,
 }
 
-impl<'a> Display for Note<'a> {
+impl<'a> Display for SessionNote<'a> {
     fn fmt<W: fmt::Write>(&self, formatter: &mut Formatter<W>) -> fmt::Result {
         write!(formatter, "{} {}", self.peer, self.what)
     }
@@ -44,9 +44,9 @@ impl<'a> Display for Note<'a> {
 
 /// What is told of the server itself, behind how it begins.
 #[derive(Clone, Copy)]
-pub(crate) struct Told<'a, T>(pub(crate) &'static str, pub(crate) &'a T);
+pub(crate) struct ServerNotice<'a, T>(pub(crate) &'static str, pub(crate) &'a T);
 
-impl<'a, T: Display> Display for Told<'a, T> {
+impl<'a, T: Display> Display for ServerNotice<'a, T> {
     fn fmt<W: fmt::Write>(&self, formatter: &mut Formatter<W>) -> fmt::Result {
         write!(formatter, "{}{}", self.0, self.1)
     }
@@ -99,23 +99,23 @@ impl Display for NoClient {
 
 /// What is told of a line: whose it is, what it names, the octets that went over data connections for it, and how it ended.
 #[derive(Drop)]
-pub(crate) struct Entry<'a> {
+pub(crate) struct LogEntry<'a> {
     pub(crate) peer: SocketAddr,
     pub(crate) user: &'a [u8],
     pub(crate) verb: Option<Verb>,
     pub(crate) names: &'a [u8],
     pub(crate) moved: u64,
-    pub(crate) outcome: Outcome,
+    pub(crate) outcome: LineOutcome,
 }
 
-impl<'a> Display for Entry<'a> {
+impl<'a> Display for LogEntry<'a> {
     fn fmt<W: fmt::Write>(&self, formatter: &mut Formatter<W>) -> fmt::Result {
         let verb = verb_text(self.verb);
-        write!(formatter, "{} {} {verb} ", self.peer, Named(self.user))?;
+        write!(formatter, "{} {} {verb} ", self.peer, QuotedName(self.user))?;
         write!(
             formatter,
             "{} {} {}",
-            Named(self.names),
+            QuotedName(self.names),
             self.moved,
             self.outcome
         )
@@ -132,19 +132,19 @@ fn verb_text(verb: Option<Verb>) -> &'static str {
 
 /// How a line ended: the code of its last reply, `reset`, and the system's reason.
 #[derive(Drop)]
-pub(crate) struct Outcome {
+pub(crate) struct LineOutcome {
     pub(crate) code: Option<u16>,
-    pub(crate) fate: Fate,
+    pub(crate) fate: DataClose,
     pub(crate) why: Option<io::Error>,
 }
 
-impl Display for Outcome {
+impl Display for LineOutcome {
     fn fmt<W: fmt::Write>(&self, formatter: &mut Formatter<W>) -> fmt::Result {
         match self.code {
             Some(code) => write!(formatter, "{code}")?,
             None => write!(formatter, "unanswered")?,
         }
-        if self.fate == Fate::Reset {
+        if self.fate == DataClose::Reset {
             write!(formatter, " reset")?;
         }
         match &self.why {

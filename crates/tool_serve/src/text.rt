@@ -6,23 +6,23 @@ pub(crate) const TEXT_ROOM: usize = 255;
 
 /// The front of a text.
 #[derive(Clone, Copy)]
-pub(crate) struct Text {
+pub(crate) struct TextFront {
     room: [u8; TEXT_ROOM],
     count: usize,
     ghost within: { count ≤ 255 },
 }
 
-impl Text {
-    pub(crate) fn new() -> Text {
-        Text {
+impl TextFront {
+    pub(crate) fn new() -> TextFront {
+        TextFront {
             room: [0; TEXT_ROOM],
             count: 0,
         }
     }
 
     /// The front of a text.
-    pub(crate) fn front_of(text: &[u8]) -> Text {
-        let mut kept = Text::new();
+    pub(crate) fn front_of(text: &[u8]) -> TextFront {
+        let mut kept = TextFront::new();
         for octet in text.iter().take(TEXT_ROOM) {
             kept.push(*octet);
         }

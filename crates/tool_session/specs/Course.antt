@@ -2,7 +2,7 @@
 use Rattle.std.specs.Prelude.{ℕ, ◌==◌, ◌&&◌, ◌||◌, Bool, false, List, [], ◌∷◌, Option, Some, None, nat_lt}
 use Rattle.ftp_operation.specs.declared.answer.Answer.{Answer}
 use Rattle.ftp_operation.specs.declared.answer.Answer.TheVariants as Answers
-use Rattle.tool_session.specs.declared.course.Most.{Most}
+use Rattle.tool_session.specs.declared.course.DataLimits.{DataLimits}
 
 -- a line says that all is done: the first digit of its code is 2 (RFC 959, section 4.2.1)
 abbrev pub says_done : List ℕ → Bool
@@ -21,5 +21,5 @@ are_past None lines = false
 are_past (Some most) lines = nat_lt most lines
 
 -- more octets, or more lines
-abbrev pub is_past : Most → ℕ → ℕ → Bool
+abbrev pub is_past : DataLimits → ℕ → ℕ → Bool
 is_past most octets lines = nat_lt most.octets octets || are_past most.lines lines

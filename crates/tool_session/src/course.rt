@@ -2,8 +2,8 @@
 ghost use Rattle.std.specs.Prelude.{◌≡◌};
 ghost use Rattle.tool_session.specs.Course.{is_past, is_unended, says_done};
 
-use crate::cargo::Cargo;
 use crate::request::{Request, most_of, span_of};
+use crate::stream_body::StreamBody;
 use ftp_operation::Answer;
 use ftp_ports::Ready;
 use std::alloc::Global;
@@ -15,7 +15,7 @@ const COMPLETION: u8 = b'2';
 
 /// The most that a data connection may bring.
 #[derive(Clone, Copy)]
-pub struct Most {
+pub struct DataLimits {
     pub octets: u64,
     /// Of a listing; of a file none are counted.
     pub lines: Option<u64>,
@@ -23,7 +23,7 @@ pub struct Most {
 
 /// How the last data connection ended, beside what was answered.
 #[derive(Clone, Copy)]
-pub enum Ending {
+pub enum DataEnding {
     /// As the answer says.
     Answered,
     /// It did not end although the server said that all is done: nothing came over it for as long as a server may be silent.
@@ -34,27 +34,27 @@ pub enum Ending {
 
 /// What is known of the request under way.
 #[derive(Drop)]
-pub struct Course {
-    most: Cell<Most>,
+pub struct RequestState {
+    most: Cell<DataLimits>,
     span: Cell<Span>,
     /// Whether a wait for its data connection found no end.
     is_silent: Cell<bool>,
-    ending: Cell<Ending>,
+    ending: Cell<DataEnding>,
     /// What goes over its data connection, where that is carried, while none has it.
-    pub cargo: Cell<Option<Cargo>>,
+    pub stream_body: Cell<Option<StreamBody>>,
 }
 
-impl Course {
+impl RequestState {
     /// Nothing is asked yet.
-    pub fn new() -> Course {
-        Course::around(Cell::new(None))
+    pub fn new() -> RequestState {
+        RequestState::around(Cell::new(None))
     }
 
     /// Nothing is asked yet, and this will hold what goes over its data connection. It is handed in, so that who makes a list of these
     /// names its type, without which the list has no proof.
-    pub fn around(cargo: Cell<Option<Cargo>>) -> Course {
-        Course {
-            most: Cell::new(Most {
+    pub fn around(stream_body: Cell<Option<StreamBody>>) -> RequestState {
+        RequestState {
+            most: Cell::new(DataLimits {
                 octets: 0,
                 lines: None,
             }),
@@ -63,8 +63,8 @@ impl Course {
                 total: None,
             }),
             is_silent: Cell::new(false),
-            ending: Cell::new(Ending::Answered),
-            cargo,
+            ending: Cell::new(DataEnding::Answered),
+            stream_body,
         }
     }
 
@@ -73,7 +73,7 @@ impl Course {
         self.most.set(most_of(request));
         self.span.set(span_of(request));
         self.is_silent.set(false);
-        self.ending.set(Ending::Answered);
+        self.ending.set(DataEnding::Answered);
     }
 
     /// A wait for the data connection ended so.
@@ -86,7 +86,7 @@ impl Course {
     /// This is reported, and the server said this line last.
     pub fn reported(&self, report: &Option<Answer<Global>>, line: &[u8]) {
         if is_unended(self.is_silent.get(), report, line) {
-            self.ending.set(Ending::Unended);
+            self.ending.set(DataEnding::Unended);
         }
     }
 
@@ -99,7 +99,7 @@ impl Course {
     pub fn cuts_off(&self, octets: u64, lines: u64) -> bool {
         let is_past = is_past(self.most.get(), octets, lines);
         if is_past {
-            self.ending.set(Ending::PastLimit);
+            self.ending.set(DataEnding::PastLimit);
         }
         is_past
     }
@@ -110,7 +110,7 @@ impl Course {
     }
 
     /// How the last data connection ended.
-    pub fn ending(&self) -> Ending {
+    pub fn ending(&self) -> DataEnding {
         self.ending.get()
     }
 }
@@ -137,7 +137,7 @@ fn says_done(line: &[u8]) -> bool
 }
 
 /// Whether so many octets and lines are more than the most.
-fn is_past(most: Most, octets: u64, lines: u64) -> bool
+fn is_past(most: DataLimits, octets: u64, lines: u64) -> bool
     ensures { result ≡ is_past most octets lines }
 {
     let has_more_lines = match most.lines {

@@ -98,8 +98,8 @@ impl LastReply {
     }
 
     /// A refusal by a code, as it is told: the line of the reply, and where that is not known the code alone.
-    pub fn refusal(&self, code: u16) -> Refusal<'_> {
-        Refusal {
+    pub fn refusal(&self, code: u16) -> ServerRefusal<'_> {
+        ServerRefusal {
             code,
             line: self.last(code),
         }
@@ -186,13 +186,13 @@ fn code_of(line: &[u8]) -> Option<u16> {
 
 /// The text of a server, or its code where the text is not known.
 #[derive(Clone, Copy)]
-pub struct Refusal<'a> {
+pub struct ServerRefusal<'a> {
     code: u16,
     /// Empty where the text is not known.
     line: &'a [u8],
 }
 
-impl<'a> Display for Refusal<'a> {
+impl<'a> Display for ServerRefusal<'a> {
     fn fmt<W: fmt::Write>(&self, formatter: &mut Formatter<W>) -> fmt::Result {
         if self.line.is_empty() {
             return write!(formatter, "{}", self.code);

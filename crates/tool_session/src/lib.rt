@@ -1,7 +1,6 @@
 //! What is asked of a server over its control connections, whoever answers it, and how it is told what was answered or why nothing was (RFC 959).
 #![tactic(auto)]
 
-mod cargo;
 mod course;
 mod fault;
 mod last_reply;
@@ -11,16 +10,19 @@ mod request;
 mod saying;
 mod server;
 mod session;
+mod stream_body;
 mod subject;
 
-pub use cargo::{Cargo, Drawn, Freight, Poured, SharedFile};
-pub use course::{Course, Ending, Most};
+pub use course::{DataEnding, DataLimits, RequestState};
 pub use fault::{Phase, SessionFault, at};
-pub use last_reply::{LastReply, Refusal, Said};
+pub use last_reply::{LastReply, Said, ServerRefusal};
 pub use opening::{Opening, Openings, Stranger};
 pub use rate::{pause_of, piece_of};
 pub use request::{MOST_ENTRIES, Request, Terms, begin};
 pub use saying::{say, told};
 pub use server::ServerAddress;
 pub use session::{ClientSession, SessionTask, Ticket};
+pub use stream_body::{
+    FileDownloadStream, FileUploadStream, FromStreamBody, SharedFile, StreamBody,
+};
 pub use subject::Subject;

@@ -1,7 +1,7 @@
 // What is asked of a client.
 ghost use Rattle.tool_session.specs.Beginning.{Begins};
 
-use crate::course::Most;
+use crate::course::DataLimits;
 use ftp_client_model::Near;
 use ftp_facts::Text;
 use ftp_operation::{How, Op};
@@ -45,17 +45,17 @@ impl Drop for Request {
 }
 
 /// The most that the data connection of a request may bring.
-pub(crate) fn most_of(request: &Request) -> Most {
+pub(crate) fn most_of(request: &Request) -> DataLimits {
     match request {
-        Request::One(Some(Op::List(_, _) | Op::Names(_, _) | Op::Text(_, _, _))) => Most {
+        Request::One(Some(Op::List(_, _) | Op::Names(_, _) | Op::Text(_, _, _))) => DataLimits {
             octets: MOST_LISTED,
             lines: Some(MOST_ENTRIES as u64),
         },
-        Request::One(_) | Request::Upload(_, _) | Request::Drawn(_, _) => Most {
+        Request::One(_) | Request::Upload(_, _) | Request::Drawn(_, _) => DataLimits {
             octets: u64::MAX,
             lines: None,
         },
-        Request::Download(_, terms) => Most {
+        Request::Download(_, terms) => DataLimits {
             octets: terms.most,
             lines: None,
         },

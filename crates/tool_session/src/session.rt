@@ -5,10 +5,10 @@ ghost use Rattle.std.specs.Prelude.{ℕ, List, ⊤};
 ghost use Rattle.ftp_operation.specs.declared.answer.Answer.{Answer};
 ghost use Rattle.tool_session.specs.declared.request.Request.{Request};
 
-use crate::cargo::Freight;
-use crate::course::Ending;
+use crate::course::DataEnding;
 use crate::last_reply::LastReply;
 use crate::request::Request;
+use crate::stream_body::FromStreamBody;
 use ftp_operation::Answer;
 use std::alloc::Global;
 use std::cell::Cell;
@@ -36,7 +36,7 @@ pub trait ClientSession {
         ensures { answers request result self.old self.new };
 
     /// The same, where something else goes over the data connection than the client gives and hears: what is at home in the cell, and is back there then.
-    fn answer_carried<T: Freight>(
+    fn answer_carried<T: FromStreamBody>(
         &mut self,
         request: Request,
         home: &Cell<Option<T>>,
@@ -45,7 +45,7 @@ pub trait ClientSession {
 
     /// The answer to this, where it was asked ahead by this ticket with something else over its data connection, which is in the cell then; none where it is
     /// still to be asked.
-    fn answer_ahead<T: Freight>(
+    fn answer_ahead<T: FromStreamBody>(
         &mut self,
         _ticket: Ticket,
         _request: &Request,
@@ -62,7 +62,7 @@ pub trait ClientSession {
     fn opened(&self) -> u32;
 
     /// How the last data connection ended, beside what was answered.
-    fn ending(&self) -> Ending;
+    fn ending(&self) -> DataEnding;
 
     /// How many requests may be asked ahead of their turn at once.
     fn ahead(&self) -> usize {
@@ -84,7 +84,7 @@ pub trait ClientSession {
 
     /// The same, where something else goes over the data connection of the first transfer than the client gives and hears. Gives by which ticket that transfer
     /// is answered; none where nothing was asked.
-    fn foresee_carried<T: Freight>(
+    fn foresee_carried<T: FromStreamBody>(
         &mut self,
         _requests: Vec<Request, Global>,
         _carried: T,

@@ -33,7 +33,7 @@ impl<'a> Display for Stop<'a> {
         let sentence = self.stage.sentence();
         match self.stage {
             Phase::Connection => {
-                let Server { host, port } = subject.named();
+                let ShownServer { host, port } = subject.named();
                 write!(
                     formatter,
                     "{sentence} to {host} at port {port}: {}",
@@ -59,14 +59,14 @@ impl<'a> Display for Stop<'a> {
 
 /// A server, as it is told of.
 #[derive(Clone, Copy)]
-struct Server<'a> {
+struct ShownServer<'a> {
     host: Shown<'a>,
     port: u16,
 }
 
 impl<'a> Subject<'a> {
-    fn named(&self) -> Server<'a> {
-        Server {
+    fn named(&self) -> ShownServer<'a> {
+        ShownServer {
             host: Shown(self.server.host.as_bytes()),
             port: self.server.port,
         }

@@ -1,7 +1,7 @@
 // The reader and the writer of a control connection of one who asks, and its close behind the last reply.
 ghost use Rattle.std.specs.Prelude.{◌≤◌, IfOk, length};
 
-use crate::timeouts::{Timeouts, Waited, monotonic_millis, piece_of};
+use crate::timeouts::{ClientTimeouts, Waited, monotonic_millis, piece_of};
 use crate::wait::{Polled, ask, asking};
 use ftp_ports::TURNS;
 use libc::net as c;
@@ -20,11 +20,11 @@ const OCTETS: i16 = c::POLLIN | c::POLLRDHUP;
 #[derive(Drop)]
 pub struct ControlReader<'a> {
     stream: &'a TcpStream,
-    timeouts: &'a Timeouts,
+    timeouts: &'a ClientTimeouts,
 }
 
 impl<'a> ControlReader<'a> {
-    pub fn new(stream: &'a TcpStream, timeouts: &'a Timeouts) -> ControlReader<'a> {
+    pub fn new(stream: &'a TcpStream, timeouts: &'a ClientTimeouts) -> ControlReader<'a> {
         ControlReader { stream, timeouts }
     }
 }
@@ -50,17 +50,17 @@ impl<'a> Read for ControlReader<'a> {
 #[derive(Drop)]
 pub struct ControlWriter<'a> {
     stream: &'a TcpStream,
-    timeouts: &'a Timeouts,
+    timeouts: &'a ClientTimeouts,
 }
 
 impl<'a> ControlWriter<'a> {
-    pub fn new(stream: &'a TcpStream, timeouts: &'a Timeouts) -> ControlWriter<'a> {
+    pub fn new(stream: &'a TcpStream, timeouts: &'a ClientTimeouts) -> ControlWriter<'a> {
         ControlWriter { stream, timeouts }
     }
 }
 
 /// Waits until something of these events is there; not where timeouts is over, which ends it.
-fn is_there(stream: &TcpStream, events: i16, timeouts: &Timeouts) -> io::Result<bool> {
+fn is_there(stream: &TcpStream, events: i16, timeouts: &ClientTimeouts) -> io::Result<bool> {
     let mut asked = [asking(stream, events)];
     match timeouts.wait(&mut asked) {
         Waited::Told => Ok(true),

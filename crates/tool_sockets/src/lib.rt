@@ -14,10 +14,10 @@ mod watch;
 
 pub use control::{ControlReader, ControlWriter, say_goodbye, send_now};
 pub use host::{addr_of, host_of};
-pub use link::Link;
+pub use link::DataSocket;
 pub use options::{drop_connection, keep_alive, limit_room, limit_untaken};
 pub use ports::{OPENING_MILLIS, SocketPorts};
 pub use sockets::Sockets;
-pub use timeouts::{Timeouts, monotonic_millis};
+pub use timeouts::{ClientTimeouts, monotonic_millis};
 pub use wait::{Heeds, Other, Woke, asking, has_room_now, pause, spoken_by, woken};
 pub use watch::SystemWatch;

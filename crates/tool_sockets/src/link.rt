@@ -1,6 +1,6 @@
 // A data connection of one who asks, which does not outlast its control connection.
 use crate::options::{drop_connection, limit_untaken};
-use crate::timeouts::{Timeouts, monotonic_millis, piece_of};
+use crate::timeouts::{ClientTimeouts, monotonic_millis, piece_of};
 use crate::wait::{Heeds, Woke, wait, wait_millis};
 use ftp_ports::{Duplex, For, Ready, TURNS};
 use std::io;
@@ -13,10 +13,10 @@ const LAST_READS: u32 = 4096;
 /// A data connection. A read or a write that would wait fails as `WouldBlock` where the control connection has octets or ended. Where timeouts is over,
 /// what would wait fails, and so does a connection whose peer takes nothing of what was written for as long.
 #[derive(Drop)]
-pub struct Link<'a> {
+pub struct DataSocket<'a> {
     control: &'a TcpStream,
     stream: TcpStream,
-    timeouts: &'a Timeouts,
+    timeouts: &'a ClientTimeouts,
     /// Whether the peer's end was read, behind all that it sent.
     has_ended: bool,
 }
@@ -34,16 +34,16 @@ fn halted(woke: Woke) -> Error {
     }
 }
 
-impl<'a> Link<'a> {
+impl<'a> DataSocket<'a> {
     /// A data connection beside its control connection.
     pub(crate) fn new(
         control: &'a TcpStream,
         stream: TcpStream,
-        timeouts: &'a Timeouts,
-    ) -> io::Result<Link<'a>> {
+        timeouts: &'a ClientTimeouts,
+    ) -> io::Result<DataSocket<'a>> {
         stream.set_nonblocking(true)?;
         stream.set_nodelay(true)?;
-        Ok(Link {
+        Ok(DataSocket {
             control,
             stream,
             timeouts,
@@ -145,7 +145,7 @@ impl<'a> Link<'a> {
     }
 }
 
-impl<'a> Read for Link<'a> {
+impl<'a> Read for DataSocket<'a> {
     fn read(&mut self, room: &mut [u8]) -> io::Result<usize> {
         for _ in 0..TURNS {
             match self.stream.read(room) {
@@ -163,7 +163,7 @@ impl<'a> Read for Link<'a> {
     }
 }
 
-impl<'a> Write for Link<'a> {
+impl<'a> Write for DataSocket<'a> {
     fn write(&mut self, octets: &[u8]) -> io::Result<usize> {
         for _ in 0..TURNS {
             match self.stream.write(octets) {
@@ -185,7 +185,7 @@ impl<'a> Write for Link<'a> {
     }
 }
 
-impl<'a> Duplex for Link<'a> {
+impl<'a> Duplex for DataSocket<'a> {
     fn receive(&mut self, room: &mut [u8]) -> io::Result<usize> {
         self.read(room)
     }

@@ -3,9 +3,9 @@ ghost use Rattle.std.specs.Prelude.{◌≡◌, None};
 ghost use Rattle.ftp_ports.specs.Asking.{Closes};
 
 use crate::host::{addr_of, host_of};
-use crate::link::Link;
+use crate::link::DataSocket;
 use crate::sockets::Sockets;
-use crate::timeouts::{Timeouts, monotonic_millis, piece_of};
+use crate::timeouts::{ClientTimeouts, monotonic_millis, piece_of};
 use crate::wait::{Heeds, Woke, look_at, wait, wait_millis};
 use ftp_endpoint::Endpoint;
 use ftp_ports::{Accepted, For, Ports, Ready, Spoken, TURNS, Whole};
@@ -28,10 +28,10 @@ pub struct SocketPorts<'a, R: Sockets> {
     /// The address of this end.
     here: IpAddr,
     /// How long the peer is waited for.
-    timeouts: &'a Timeouts,
+    timeouts: &'a ClientTimeouts,
     listener: Option<TcpListener>,
     /// A connection that was ended, until what the peer sent too much is read.
-    leaving: Option<Link<'a>>,
+    leaving: Option<DataSocket<'a>>,
     /// How many data connections were opened.
     opened: u32,
 }
@@ -41,7 +41,7 @@ impl<'a, R: Sockets> SocketPorts<'a, R> {
     pub fn new(
         net: &'a R,
         control: &'a TcpStream,
-        timeouts: &'a Timeouts,
+        timeouts: &'a ClientTimeouts,
     ) -> io::Result<SocketPorts<'a, R>> {
         let here = control.local_addr()?.ip().to_canonical();
         Ok(SocketPorts {
@@ -69,7 +69,7 @@ impl<'a, R: Sockets> SocketPorts<'a, R> {
     }
 
     /// Ends a data connection; what the peer sends too much is read later. One whose peer has ended is dropped at once.
-    fn leave(&mut self, link: Link<'a>) {
+    fn leave(&mut self, link: DataSocket<'a>) {
         self.drain(0);
         if !link.has_ended() && link.end().is_ok() {
             self.leaving = Some(link);
@@ -105,7 +105,7 @@ impl<'a, R: Sockets> SocketPorts<'a, R> {
     }
 
     /// The connection that came, as a link.
-    fn linked(&mut self, stream: TcpStream, peer: SocketAddr) -> Accepted<Link<'a>> {
+    fn linked(&mut self, stream: TcpStream, peer: SocketAddr) -> Accepted<DataSocket<'a>> {
         self.listener = None;
         match self.counted(stream) {
             Some(link) => Accepted::Came(link, host_of(peer)),
@@ -114,8 +114,8 @@ impl<'a, R: Sockets> SocketPorts<'a, R> {
     }
 
     /// An open connection as a link, which is counted.
-    fn counted(&mut self, stream: TcpStream) -> Option<Link<'a>> {
-        let link = Link::new(self.control, stream, self.timeouts).ok()?;
+    fn counted(&mut self, stream: TcpStream) -> Option<DataSocket<'a>> {
+        let link = DataSocket::new(self.control, stream, self.timeouts).ok()?;
         self.opened = self.opened.saturating_add(1);
         Some(link)
     }
@@ -139,7 +139,7 @@ fn take_next(listener: &TcpListener) -> Option<Waited> {
 }
 
 /// Whether a connection that was begun is open, or was refused, within 30 seconds and while timeouts and the control connection last.
-fn is_open_in_time<S: AsRawFd>(control: &TcpStream, begun: &S, timeouts: &Timeouts) -> bool {
+fn is_open_in_time<S: AsRawFd>(control: &TcpStream, begun: &S, timeouts: &ClientTimeouts) -> bool {
     let until = monotonic_millis().saturating_add(OPENING_MILLIS);
     for _ in 0..TURNS {
         let left = until.saturating_sub(monotonic_millis());
@@ -159,7 +159,7 @@ fn is_open_in_time<S: AsRawFd>(control: &TcpStream, begun: &S, timeouts: &Timeou
 fn wait_at(
     listener: &TcpListener,
     control: &TcpStream,
-    timeouts: &Timeouts,
+    timeouts: &ClientTimeouts,
     hears: bool,
 ) -> Waited {
     let heeds = if hears { Heeds::Octets } else { Heeds::End };
@@ -177,7 +177,7 @@ fn wait_at(
 }
 
 impl<'a, R: Sockets> Ports for SocketPorts<'a, R> {
-    type Stream = Link<'a>;
+    type Stream = DataSocket<'a>;
 
     fn listen(&mut self) -> Option<u16> {
         self.listener = None;
@@ -185,7 +185,7 @@ impl<'a, R: Sockets> Ports for SocketPorts<'a, R> {
         self.bind().ok()
     }
 
-    fn accept(&mut self, hears: bool) -> Accepted<Link<'a>> {
+    fn accept(&mut self, hears: bool) -> Accepted<DataSocket<'a>> {
         let Some(listener) = &self.listener else {
             return Accepted::Refused;
         };
@@ -196,7 +196,7 @@ impl<'a, R: Sockets> Ports for SocketPorts<'a, R> {
         }
     }
 
-    fn connect(&mut self, endpoint: Endpoint) -> Option<Link<'a>> {
+    fn connect(&mut self, endpoint: Endpoint) -> Option<DataSocket<'a>> {
         self.listener = None;
         self.drain(0);
         match self.open(addr_of(endpoint)) {
@@ -205,7 +205,7 @@ impl<'a, R: Sockets> Ports for SocketPorts<'a, R> {
         }
     }
 
-    fn wait(&mut self, stream: &mut Link<'a>, what: For, hears: bool) -> Ready {
+    fn wait(&mut self, stream: &mut DataSocket<'a>, what: For, hears: bool) -> Ready {
         stream.wait(what, hears)
     }
 
@@ -214,7 +214,7 @@ impl<'a, R: Sockets> Ports for SocketPorts<'a, R> {
     }
 
     /// What sockets are asked is not told.
-    fn close(&mut self, stream: Option<Whole<Link<'a>>>)
+    fn close(&mut self, stream: Option<Whole<DataSocket<'a>>>)
         ensures { Closes (λ link. None) (λ link. None) stream.entry None None }
     {
         self.listener = None;
@@ -223,7 +223,7 @@ impl<'a, R: Sockets> Ports for SocketPorts<'a, R> {
         }
     }
 
-    fn reset(&mut self, stream: Link<'a>) {
+    fn reset(&mut self, stream: DataSocket<'a>) {
         self.listener = None;
         self.drain(0);
         stream.reset();

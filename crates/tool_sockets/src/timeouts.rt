@@ -23,7 +23,7 @@ pub(crate) enum Waited {
 /// The timeouts of one who asks, over one control connection: its server may say, take and send nothing for so long, and all may take so long. Time is that of
 /// the system's monotonic clock.
 #[derive(Drop)]
-pub struct Timeouts {
+pub struct ClientTimeouts {
     /// In milliseconds; none: without a limit.
     limit: Option<u64>,
     /// Until when it lasts at most, in milliseconds; none: without a limit.
@@ -35,14 +35,14 @@ pub struct Timeouts {
     is_over: Cell<bool>,
 }
 
-impl Timeouts {
+impl ClientTimeouts {
     /// The timeouts of one that begins now, in seconds of silence, 0: without a limit; and until when it lasts at most, in milliseconds of the monotonic clock.
-    pub fn new(seconds: u32, until: Option<u64>) -> Timeouts {
+    pub fn new(seconds: u32, until: Option<u64>) -> ClientTimeouts {
         let limit = match seconds {
             0 => None,
             seconds => Some(u64::from(seconds) * 1_000),
         };
-        Timeouts {
+        ClientTimeouts {
             limit,
             until,
             last: Cell::new(monotonic_millis()),

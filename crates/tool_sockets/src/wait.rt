@@ -2,7 +2,7 @@
 ghost use Rattle.std.specs.Prelude.{◌≡◌};
 ghost use Rattle.tool_sockets.specs.Waiting.{wakes};
 
-use crate::timeouts::{Timeouts, Waited};
+use crate::timeouts::{ClientTimeouts, Waited};
 use ftp_ports::{For, Spoken, TURNS};
 use libc::net as c;
 use libc::types::pollfd;
@@ -46,7 +46,7 @@ pub(crate) fn wait<C: AsRawFd, S: AsRawFd>(
     other: &S,
     what: For,
     heeds: Heeds,
-    timeouts: &Timeouts,
+    timeouts: &ClientTimeouts,
 ) -> Woke {
     let mut asked = both_of(control, other, what, heeds);
     match timeouts.wait(&mut asked) {

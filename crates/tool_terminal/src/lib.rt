@@ -7,6 +7,6 @@ mod status;
 pub mod verbosity;
 
 pub use escaped::{Shown, put_shown};
-pub use progress::{Measure, Pace, Rest, Span, Unit, measured, pace_of, unit_for};
+pub use progress::{Measure, Pace, Remaining, Span, Unit, measured, pace_of, unit_for};
 pub use status::Status;
-pub use verbosity::{QuietHandle, Told, is_told};
+pub use verbosity::{QuietHandle, Verbosity, is_told};

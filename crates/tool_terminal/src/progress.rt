@@ -4,4 +4,4 @@ mod measure;
 mod pace;
 
 pub use measure::{Measure, Unit, measured, unit_for};
-pub use pace::{Pace, Rest, Span, pace_of};
+pub use pace::{Pace, Remaining, Span, pace_of};

@@ -6,4 +6,4 @@ mod hushed;
 mod told;
 
 pub use hushed::QuietHandle;
-pub use told::{Told, is_told};
+pub use told::{Verbosity, is_told};

@@ -2,9 +2,9 @@
 use crate::client::answer::{show_answer, show_told};
 use crate::driven::Owner;
 use crate::embedded::client::perform;
-use crate::event::{Event, Told};
+use crate::event::{EndEvent, EventDetails};
 use crate::peer::Peer;
-use crate::plays::{Holds, Plays};
+use crate::plays::{EndpointCalls, Holds};
 use ftp_client_driver::{Control, Data, Driven, drive_client};
 use ftp_client_model::{Busy, Near};
 use ftp_ends::Wants;
@@ -16,14 +16,14 @@ use tool_script::{LineFault, Order, order_of, put_field};
 
 /// A client, and what the texts of its operations grow by.
 #[derive(Drop)]
-pub struct Played<A, C: Drop> {
+pub struct PlayedClient<A, C: Drop> {
     client: C,
     heap: A,
 }
 
-impl<A: Allocator + Copy, C: Near<A> + Holds> Played<A, C> {
-    pub fn new(client: C, heap: A) -> Played<A, C> {
-        Played { client, heap }
+impl<A: Allocator + Copy, C: Near<A> + Holds> PlayedClient<A, C> {
+    pub fn new(client: C, heap: A) -> PlayedClient<A, C> {
+        PlayedClient { client, heap }
     }
 
     /// Begins what an order asks, from the next place where it is past that of the line; whether no other is begun.
@@ -90,7 +90,7 @@ fn spelled(alloc: Global, front: &[u8], count: u64) -> Result<Vec<u8>, AllocErro
     Ok(line)
 }
 
-impl<A: Allocator + Copy, C: Near<A> + Holds> Plays for Played<A, C> {
+impl<A: Allocator + Copy, C: Near<A> + Holds> EndpointCalls for PlayedClient<A, C> {
     fn hear(&mut self, piece: &[u8]) -> usize {
         self.client.hear(piece)
     }
@@ -107,17 +107,17 @@ impl<A: Allocator + Copy, C: Near<A> + Holds> Plays for Played<A, C> {
         self.client.data_out(room)
     }
 
-    fn happens(&mut self, event: Event, told: Told) {
+    fn happens(&mut self, event: EndEvent, told: EventDetails) {
         match event {
-            Event::Listening => self.client.listening(told.port),
-            Event::Portless => self.client.listen_refused(),
-            Event::Opened => self.client.data_opened(told.host),
-            Event::Refused => self.client.data_refused(),
-            Event::Ended => self.client.data_end(),
-            Event::Broke => self.client.data_fault(),
-            Event::Closed => self.client.data_closed(),
-            Event::Cut => self.client.control_end(),
-            Event::Clock => {}
+            EndEvent::Listening => self.client.listening(told.port),
+            EndEvent::Portless => self.client.listen_refused(),
+            EndEvent::Opened => self.client.data_opened(told.host),
+            EndEvent::Refused => self.client.data_refused(),
+            EndEvent::Ended => self.client.data_end(),
+            EndEvent::Broke => self.client.data_fault(),
+            EndEvent::Closed => self.client.data_closed(),
+            EndEvent::Cut => self.client.control_end(),
+            EndEvent::Clock => {}
         }
     }
 

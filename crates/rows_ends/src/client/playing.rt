@@ -1,9 +1,9 @@
 // A run of a row on a client.
-use crate::client::played::Played;
+use crate::client::played::PlayedClient;
 use crate::desk::Desk;
 use crate::lines::play;
 use crate::plays::Holds;
-use crate::turn::Turn;
+use crate::turn::RowTurn;
 use ftp_client::Client;
 use ftp_client_model::Near;
 use ftp_client_steps::CountedTransfer;
@@ -17,7 +17,7 @@ use std::alloc::Allocator;
 const NO_CLIENT: &[u8] = b"! no client";
 
 /// Plays a row with this growth refused, and says how many growths were asked for.
-pub fn run(turn: Turn<'_>, refused: u64, desk: &mut Desk) -> u64 {
+pub fn run(turn: RowTurn<'_>, refused: u64, desk: &mut Desk) -> u64 {
     let heap = Refusing::new(turn.alloc, refused);
     match login(&heap, turn.row) {
         Some(login) => enter(&heap, login, turn, desk),
@@ -37,7 +37,7 @@ fn login<A: Allocator + Copy>(heap: A, row: &[u8]) -> Option<Login<A>> {
 }
 
 /// Plays a row on a client before the greeting, with the transfers of the product.
-fn enter<A: Allocator + Copy>(heap: A, login: Login<A>, turn: Turn<'_>, desk: &mut Desk) {
+fn enter<A: Allocator + Copy>(heap: A, login: Login<A>, turn: RowTurn<'_>, desk: &mut Desk) {
     enter_by::<A, OperationTransfer<A>>(heap, login, turn, desk);
 }
 
@@ -45,7 +45,7 @@ fn enter<A: Allocator + Copy>(heap: A, login: Login<A>, turn: Turn<'_>, desk: &m
 fn enter_by<A: Allocator + Copy, J: CountedTransfer<A>>(
     heap: A,
     login: Login<A>,
-    turn: Turn<'_>,
+    turn: RowTurn<'_>,
     desk: &mut Desk,
 ) {
     let (here, peer) = turn.hosts();
@@ -59,8 +59,8 @@ fn enter_by<A: Allocator + Copy, J: CountedTransfer<A>>(
 fn play_on<A: Allocator + Copy, C: Near<A> + Holds>(
     client: C,
     heap: A,
-    turn: Turn<'_>,
+    turn: RowTurn<'_>,
     desk: &mut Desk,
 ) {
-    play(&mut Played::new(client, heap), desk, turn);
+    play(&mut PlayedClient::new(client, heap), desk, turn);
 }

@@ -1,5 +1,5 @@
 // An operation of a client: what it owes goes out, and then what it wants is done (RFC 959, section 2.3).
-use crate::embedded::sockets::Sockets;
+use crate::embedded::sockets::EmbeddedSockets;
 use ftp_client_model::Near;
 use ftp_ends::Wants;
 use ftp_facts::Text;
@@ -8,7 +8,7 @@ use ftp_ports::{Failed, TURNS, get, put};
 use std::alloc::Allocator;
 use std::io::{Read, Write};
 
-pub fn perform<A: Allocator + Copy, N: Near<A>, R: Read, W: Write, S: Sockets>(
+pub fn perform<A: Allocator + Copy, N: Near<A>, R: Read, W: Write, S: EmbeddedSockets>(
     client: &mut N,
     op: Op<Text<A>>,
     (reader, writer): (&mut R, &mut W),
@@ -36,7 +36,7 @@ fn owes<A: Allocator + Copy, N: Near<A>, W: Write>(
     Ok(owed > 0)
 }
 
-fn turn<A: Allocator + Copy, N: Near<A>, R: Read, S: Sockets>(
+fn turn<A: Allocator + Copy, N: Near<A>, R: Read, S: EmbeddedSockets>(
     client: &mut N,
     reader: &mut R,
     sockets: &mut S,
@@ -74,7 +74,7 @@ fn hear<A: Allocator + Copy, N: Near<A>, R: Read>(
     Ok(())
 }
 
-fn receive<A: Allocator + Copy, N: Near<A>, S: Sockets>(client: &mut N, sockets: &mut S) {
+fn receive<A: Allocator + Copy, N: Near<A>, S: EmbeddedSockets>(client: &mut N, sockets: &mut S) {
     let mut room = [0; 1];
     match sockets.read(&mut room) {
         Ok(0) => client.data_end(),
@@ -83,7 +83,7 @@ fn receive<A: Allocator + Copy, N: Near<A>, S: Sockets>(client: &mut N, sockets:
     }
 }
 
-fn send<A: Allocator + Copy, N: Near<A>, S: Sockets>(client: &mut N, sockets: &mut S) {
+fn send<A: Allocator + Copy, N: Near<A>, S: EmbeddedSockets>(client: &mut N, sockets: &mut S) {
     let mut room = [0; 4096];
     let count = client.data_out(&mut room);
     if sockets.write(&room[..count]).is_err() {

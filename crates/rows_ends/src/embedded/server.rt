@@ -1,5 +1,5 @@
 // A session of a server: what it owes goes out, and then what it wants is done (RFC 959, section 2.3).
-use crate::embedded::sockets::Sockets;
+use crate::embedded::sockets::EmbeddedSockets;
 use ftp_ends::Wants;
 use ftp_ports::{Failed, TURNS, get, put};
 use ftp_server_model::Far;
@@ -7,7 +7,7 @@ use ftp_tree::Tree;
 use std::alloc::Allocator;
 use std::io::{Read, Write};
 
-pub fn serve<A: Allocator + Copy, T: Tree<A>, F: Far<A, T>, R: Read, W: Write, S: Sockets>(
+pub fn serve<A: Allocator + Copy, T: Tree<A>, F: Far<A, T>, R: Read, W: Write, S: EmbeddedSockets>(
     server: &mut F,
     (reader, writer): (&mut R, &mut W),
     sockets: &mut S,
@@ -35,7 +35,7 @@ fn owes<A: Allocator + Copy, T: Tree<A>, F: Far<A, T>, W: Write>(
     Ok(owed > 0)
 }
 
-fn turn<A: Allocator + Copy, T: Tree<A>, F: Far<A, T>, R: Read, S: Sockets>(
+fn turn<A: Allocator + Copy, T: Tree<A>, F: Far<A, T>, R: Read, S: EmbeddedSockets>(
     server: &mut F,
     reader: &mut R,
     sockets: &mut S,
@@ -72,7 +72,7 @@ fn hear<A: Allocator + Copy, T: Tree<A>, F: Far<A, T>, R: Read>(
     Ok(())
 }
 
-fn receive<A: Allocator + Copy, T: Tree<A>, F: Far<A, T>, S: Sockets>(
+fn receive<A: Allocator + Copy, T: Tree<A>, F: Far<A, T>, S: EmbeddedSockets>(
     server: &mut F,
     sockets: &mut S,
 ) {
@@ -84,7 +84,7 @@ fn receive<A: Allocator + Copy, T: Tree<A>, F: Far<A, T>, S: Sockets>(
     }
 }
 
-fn send<A: Allocator + Copy, T: Tree<A>, F: Far<A, T>, S: Sockets>(
+fn send<A: Allocator + Copy, T: Tree<A>, F: Far<A, T>, S: EmbeddedSockets>(
     server: &mut F,
     sockets: &mut S,
 ) {

@@ -5,7 +5,7 @@ use ftp_facts::Moment;
 use ftp_ports::Failed;
 
 /// One data connection after another, each call of which waits by itself, and a clock. The last is closed by whose the sockets are.
-pub trait Sockets {
+pub trait EmbeddedSockets {
     /// A port that is listened at.
     fn listen(&mut self) -> Option<u16>;
 

@@ -6,7 +6,7 @@ use tool_codec::{Direction, Representation, representation_of};
 
 /// A program that reads and writes octets, or a call of one.
 #[derive(Clone, Copy)]
-pub enum Program {
+pub enum RowProgram {
     Dialogue,
     Facts,
     Frame(Representation, Direction),
@@ -22,18 +22,18 @@ pub enum Program {
     Get,
 }
 
-const PROGRAMS: &[(&'static [u8], Program)] = &[
-    (b"facts", Program::Facts),
-    (b"password", Program::Password),
-    (b"number", Program::Number),
-    (b"put", Program::Put),
-    (b"get", Program::Get),
+const PROGRAMS: &[(&'static [u8], RowProgram)] = &[
+    (b"facts", RowProgram::Facts),
+    (b"password", RowProgram::Password),
+    (b"number", RowProgram::Number),
+    (b"put", RowProgram::Put),
+    (b"get", RowProgram::Get),
 ];
 
 /// What a program is tried on, and what has to come.
 #[derive(Drop)]
-pub struct Row {
-    pub program: Program,
+pub struct ProgramRow {
+    pub program: RowProgram,
     pub status: u8,
     /// With which salt the field of a password is made, and by how many rounds, if that is said.
     pub salt: Paper,
@@ -45,8 +45,8 @@ pub struct Row {
 }
 
 /// The row of a text.
-pub fn row_of(alloc: Global, text: &[u8]) -> Row {
-    Row {
+pub fn row_of(alloc: Global, text: &[u8]) -> ProgramRow {
+    ProgramRow {
         program: program_of(text),
         status: (number(said(text, b"status").unwrap_or(b"")) % 256) as u8,
         salt: written(alloc, text, b"salt"),
@@ -64,7 +64,7 @@ fn rounds_of(said: Option<&[u8]>) -> Option<u32> {
     }
 }
 
-fn program_of(text: &[u8]) -> Program {
+fn program_of(text: &[u8]) -> RowProgram {
     let marks = said(text, b"marks").is_some();
     if let Some(form) = said(text, b"wire") {
         frame_of(form, Direction::new(false, marks))
@@ -74,18 +74,18 @@ fn program_of(text: &[u8]) -> Program {
         found(
             PROGRAMS,
             said(text, b"program").unwrap_or(b""),
-            Program::Dialogue,
+            RowProgram::Dialogue,
         )
     }
 }
 
 /// Type, structure and mode, each by its letter.
-fn frame_of(letters: &[u8], direction: Direction) -> Program {
+fn frame_of(letters: &[u8], direction: Direction) -> RowProgram {
     let (kind, rest) = split(letters);
     let (structure, mode) = split(rest);
     match representation_of(word(kind), word(structure), word(mode)) {
-        Some(form) => Program::Frame(form, direction),
-        None => Program::NoForm,
+        Some(form) => RowProgram::Frame(form, direction),
+        None => RowProgram::NoForm,
     }
 }
 

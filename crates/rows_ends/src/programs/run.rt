@@ -1,5 +1,5 @@
 // A program runs on a row.
-use crate::programs::row::{Program, Row, word};
+use crate::programs::row::{ProgramRow, RowProgram, word};
 use ftp_ports::{Failed, get, put};
 use itoa::Buffer;
 use rows_base::{FailingReader, FailingWriter, Refusing};
@@ -31,7 +31,7 @@ pub const AMPLE: Calls = Calls {
 
 /// How the calls of a program go.
 #[derive(Clone, Copy)]
-pub struct Way {
+pub struct RunSettings {
     /// The most octets that a dialogue hears at once, where that is not 0.
     pub piece: u32,
     pub reads: Calls,
@@ -43,7 +43,7 @@ pub struct Way {
 
 /// What came of a row.
 #[derive(Drop)]
-pub struct Came {
+pub struct RunResult {
     pub status: u8,
     pub output: FailingWriter,
     pub told: FailingWriter,
@@ -51,7 +51,7 @@ pub struct Came {
     pub left: u64,
 }
 
-pub fn run(alloc: Global, row: &Row, way: Way) -> Came {
+pub fn run(alloc: Global, row: &ProgramRow, way: RunSettings) -> RunResult {
     let tells = tells_of(row.program, way.tells);
     let heap = Refusing::new(alloc, way.refused);
     let mut reader = FailingReader::new(row.input.text(), way.reads.most, way.reads.fails);
@@ -59,7 +59,7 @@ pub fn run(alloc: Global, row: &Row, way: Way) -> Came {
     let mut told = FailingWriter::new(alloc, tells.most, tells.fails);
     let status = run_on(&heap, row, way.piece, &mut reader, &mut output, &mut told);
     let left = heap.left();
-    Came {
+    RunResult {
         status,
         output,
         told,
@@ -68,30 +68,30 @@ pub fn run(alloc: Global, row: &Row, way: Way) -> Came {
 }
 
 /// A wire that is written has no faults: its teller refuses all.
-fn tells_of(program: Program, tells: Calls) -> Calls {
+fn tells_of(program: RowProgram, tells: Calls) -> Calls {
     match program {
-        Program::Frame(_, Direction::ToWire { marks: _ }) => Calls { most: 0, fails: 0 },
+        RowProgram::Frame(_, Direction::ToWire { marks: _ }) => Calls { most: 0, fails: 0 },
         _ => tells,
     }
 }
 
 fn run_on<A: Allocator + Copy>(
     heap: A,
-    row: &Row,
+    row: &ProgramRow,
     piece: u32,
     reader: &mut FailingReader<'_>,
     output: &mut FailingWriter,
     told: &mut FailingWriter,
 ) -> u8 {
     match row.program {
-        Program::Dialogue => dialogue(heap, reader, output, piece),
-        Program::Facts => facts(heap, reader, output),
-        Program::Frame(form, direction) => frame(heap, form, direction, reader, output, told),
-        Program::Password => { make(row.rounds, row.salt.text(), reader, output, told).number() }
-        Program::NoForm => REFUSED,
-        Program::Number => tell_number(row.input.text(), output),
-        Program::Put => put_status(output, row.input.text()),
-        Program::Get => get_once(reader, output),
+        RowProgram::Dialogue => dialogue(heap, reader, output, piece),
+        RowProgram::Facts => facts(heap, reader, output),
+        RowProgram::Frame(form, direction) => frame(heap, form, direction, reader, output, told),
+        RowProgram::Password => { make(row.rounds, row.salt.text(), reader, output, told).number() }
+        RowProgram::NoForm => REFUSED,
+        RowProgram::Number => tell_number(row.input.text(), output),
+        RowProgram::Put => put_status(output, row.input.text()),
+        RowProgram::Get => get_once(reader, output),
     }
 }
 

@@ -1,6 +1,6 @@
 // A row is played in pieces of each size, and with each read, each write and each growth failed in turn.
-use crate::programs::row::{Program, Row, row_of};
-use crate::programs::run::{AMPLE, Calls, Came, NEVER, Way, run};
+use crate::programs::row::{ProgramRow, RowProgram, row_of};
+use crate::programs::run::{AMPLE, Calls, NEVER, RunResult, RunSettings, run};
 use rows_base::{Paper, number, said, split};
 use std::alloc::Global;
 
@@ -14,7 +14,7 @@ enum Call {
 }
 
 /// Nothing fails.
-const WHOLE: Way = Way {
+const WHOLE: RunSettings = RunSettings {
     piece: 0,
     reads: AMPLE,
     writes: AMPLE,
@@ -27,7 +27,7 @@ pub fn play_row(alloc: Global, text: &[u8], paper: &mut Paper) {
     play(alloc, text, &row_of(alloc, text), paper);
 }
 
-fn play(alloc: Global, text: &[u8], row: &Row, paper: &mut Paper) {
+fn play(alloc: Global, text: &[u8], row: &ProgramRow, paper: &mut Paper) {
     let holds = holds_in_pieces(alloc, text, row);
     paper.put(if holds { b"holds: " } else { b"WRONG: " });
     paper.line(said(text, b"#").unwrap_or(b""));
@@ -40,7 +40,7 @@ fn play(alloc: Global, text: &[u8], row: &Row, paper: &mut Paper) {
 }
 
 /// Whether it comes so in pieces of each size.
-fn holds_in_pieces(alloc: Global, text: &[u8], row: &Row) -> bool {
+fn holds_in_pieces(alloc: Global, text: &[u8], row: &ProgramRow) -> bool {
     let mut rest = said(text, b"pieces").unwrap_or(b"0");
     for _ in 0..rest.len() {
         let (word, behind) = split(rest);
@@ -64,24 +64,24 @@ fn most(size: u64) -> usize {
 }
 
 /// A dialogue hears so many octets at once; what else reads is given so many.
-fn in_pieces(program: Program, size: u64) -> Way {
+fn in_pieces(program: RowProgram, size: u64) -> RunSettings {
     let mut way = WHOLE;
     match program {
-        Program::Dialogue => way.piece = size.min(NEVER as u64) as u32,
+        RowProgram::Dialogue => way.piece = size.min(NEVER as u64) as u32,
         _ => way.reads.most = most(size),
     }
     way
 }
 
 /// Whether all came as it has to.
-fn is_whole(row: &Row, came: &Came) -> bool {
+fn is_whole(row: &ProgramRow, came: &RunResult) -> bool {
     came.status == row.status
         && came.output.taken() == row.output.text()
         && came.told.taken() == row.told.text()
 }
 
 /// Whether it was broken off behind a beginning of what has to come; faults are told behind all octets.
-fn is_left(row: &Row, came: &Came, call: Call) -> bool {
+fn is_left(row: &ProgramRow, came: &RunResult, call: Call) -> bool {
     let output = row.output.text();
     let told = row.told.text();
     let is_so = match call {
@@ -100,7 +100,7 @@ fn is_left(row: &Row, came: &Came, call: Call) -> bool {
 fn each_failed(
     alloc: Global,
     text: &[u8],
-    row: &Row,
+    row: &ProgramRow,
     (call, word): (Call, &[u8]),
     paper: &mut Paper,
 ) {
@@ -111,8 +111,8 @@ fn each_failed(
     let mut broken = 0;
     for at in 0..number(count).min(1_000) {
         match failed(alloc, row, call, number(size), at) {
-            Outcome::Left if broken == at => broken += 1,
-            Outcome::Whole => {}
+            TryOutcome::Left if broken == at => broken += 1,
+            TryOutcome::Whole => {}
             _ => paper.line(b"WRONG: where a call fails"),
         }
     }
@@ -124,7 +124,7 @@ fn each_failed(
 
 /// What came of a row in which a call fails.
 #[derive(Clone, Copy)]
-enum Outcome {
+enum TryOutcome {
     /// All that has to.
     Whole,
     /// It was broken off behind a beginning of that.
@@ -132,19 +132,19 @@ enum Outcome {
     Wrong,
 }
 
-fn failed(alloc: Global, row: &Row, call: Call, size: u64, at: u64) -> Outcome {
+fn failed(alloc: Global, row: &ProgramRow, call: Call, size: u64, at: u64) -> TryOutcome {
     let came = run(alloc, row, failing(call, size, at));
     if is_whole(row, &came) {
-        Outcome::Whole
+        TryOutcome::Whole
     } else if is_left(row, &came, call) {
-        Outcome::Left
+        TryOutcome::Left
     } else {
-        Outcome::Wrong
+        TryOutcome::Wrong
     }
 }
 
 /// This call fails, and those like it move so many octets at most; at 0 all.
-fn failing(call: Call, size: u64, at: u64) -> Way {
+fn failing(call: Call, size: u64, at: u64) -> RunSettings {
     let mut way = WHOLE;
     let calls = Calls {
         most: most(size),
@@ -163,7 +163,7 @@ fn failing(call: Call, size: u64, at: u64) -> Way {
 }
 
 /// The row is whole and asks for growths, and each that is refused breaks it off; so many octets at most are read at once.
-fn each_refused(alloc: Global, row: &Row, size: u64, paper: &mut Paper) {
+fn each_refused(alloc: Global, row: &ProgramRow, size: u64, paper: &mut Paper) {
     let whole = run(alloc, row, failing(Call::Growth, size, 0));
     let growths = 0u64.wrapping_sub(whole.left);
     if growths == 0 || !is_whole(row, &whole) {
@@ -171,7 +171,7 @@ fn each_refused(alloc: Global, row: &Row, size: u64, paper: &mut Paper) {
     }
     for at in 1..=growths {
         match failed(alloc, row, Call::Growth, size, at) {
-            Outcome::Left => {}
+            TryOutcome::Left => {}
             _ => paper.line(b"WRONG: where a growth is refused"),
         }
     }

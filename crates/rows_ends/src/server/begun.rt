@@ -1,6 +1,6 @@
 // What a server begins with.
 use crate::event::YEAR_2000;
-use crate::turn::Turn;
+use crate::turn::RowTurn;
 use ftp_facts::Text;
 use ftp_operation::{Account, Accounts, Rights};
 use ftp_path::Path;
@@ -59,7 +59,7 @@ fn account<A: Allocator + Copy>(
 }
 
 /// Puts what a row says into the tree; whether memory was not refused.
-pub fn plants<A: Allocator + Copy>(turn: Turn<'_>, heap: A, tree: &mut MemTree<A>) -> bool {
+pub fn plants<A: Allocator + Copy>(turn: RowTurn<'_>, heap: A, tree: &mut MemTree<A>) -> bool {
     let mut rest = turn.row;
     for _ in 0..turn.row.len() {
         let (line, behind) = cut(rest, b'\n');

@@ -1,9 +1,9 @@
 // Calls of a server by a list (`ftp_server_calls`): the lines of a row that begin with `call`, made before all others.
 use crate::desk::Desk;
-use crate::event::{Event, Told, told_of};
+use crate::event::{EndEvent, EventDetails, told_of};
 use crate::stage::put_wants;
-use crate::turn::Turn;
-use crate::verb::{Verb, verb_of};
+use crate::turn::RowTurn;
+use crate::verb::{LineVerb, verb_of};
 use ftp_server_calls::{Cue, Gift, Played};
 use rows_base::{Paper, cut, number, octets_of, split};
 use std::alloc::{AllocError, Allocator, Global};
@@ -19,7 +19,10 @@ fn call_in(line: &[u8]) -> Option<&[u8]> {
 }
 
 /// The calls of a row.
-pub fn cues_of<A: Allocator + Copy>(heap: A, turn: Turn<'_>) -> Result<Vec<Cue<A>, A>, AllocError> {
+pub fn cues_of<A: Allocator + Copy>(
+    heap: A,
+    turn: RowTurn<'_>,
+) -> Result<Vec<Cue<A>, A>, AllocError> {
     let mut cues = Vec::new(heap);
     let mut rest = turn.row;
     for _ in 0..turn.row.len() {
@@ -35,17 +38,17 @@ pub fn cues_of<A: Allocator + Copy>(heap: A, turn: Turn<'_>) -> Result<Vec<Cue<A
 /// The call that a line says.
 pub fn cue_of<A: Allocator + Copy>(
     heap: A,
-    turn: Turn<'_>,
+    turn: RowTurn<'_>,
     call: &[u8],
 ) -> Result<Cue<A>, AllocError> {
     let (word, rest) = split(call);
     match verb_of(word) {
-        Verb::Says => Ok(Cue::Hear(copied(heap, turn.alloc, rest, b"\r\n")?)),
-        Verb::Octets => Ok(Cue::Hear(copied(heap, turn.alloc, rest, b"")?)),
-        Verb::Data => Ok(Cue::DataHear(copied(heap, turn.alloc, rest, b"")?)),
-        Verb::Out => Ok(Cue::DataOut(number(rest) as usize)),
-        Verb::Owed => Ok(Cue::ControlOut(number(rest) as usize)),
-        Verb::Happens(event) => Ok(happening(event, told_of(rest, turn.side.peer))),
+        LineVerb::Says => Ok(Cue::Hear(copied(heap, turn.alloc, rest, b"\r\n")?)),
+        LineVerb::Octets => Ok(Cue::Hear(copied(heap, turn.alloc, rest, b"")?)),
+        LineVerb::Data => Ok(Cue::DataHear(copied(heap, turn.alloc, rest, b"")?)),
+        LineVerb::Out => Ok(Cue::DataOut(number(rest) as usize)),
+        LineVerb::Owed => Ok(Cue::ControlOut(number(rest) as usize)),
+        LineVerb::Happens(event) => Ok(happening(event, told_of(rest, turn.side.peer))),
         _ => Ok(Cue::AsksWants),
     }
 }
@@ -64,17 +67,17 @@ fn copied<A: Allocator + Copy>(
     Ok(octets)
 }
 
-fn happening<A: Allocator + Copy>(event: Event, told: Told) -> Cue<A> {
+fn happening<A: Allocator + Copy>(event: EndEvent, told: EventDetails) -> Cue<A> {
     match event {
-        Event::Listening => Cue::Listening(told.port),
-        Event::Portless => Cue::ListenRefused,
-        Event::Opened => Cue::DataOpened(told.host),
-        Event::Refused => Cue::DataRefused,
-        Event::Ended => Cue::DataEnd,
-        Event::Broke => Cue::DataFault,
-        Event::Closed => Cue::DataClosed,
-        Event::Cut => Cue::ControlEnd,
-        Event::Clock => Cue::Clock(told.moment),
+        EndEvent::Listening => Cue::Listening(told.port),
+        EndEvent::Portless => Cue::ListenRefused,
+        EndEvent::Opened => Cue::DataOpened(told.host),
+        EndEvent::Refused => Cue::DataRefused,
+        EndEvent::Ended => Cue::DataEnd,
+        EndEvent::Broke => Cue::DataFault,
+        EndEvent::Closed => Cue::DataClosed,
+        EndEvent::Cut => Cue::ControlEnd,
+        EndEvent::Clock => Cue::Clock(told.moment),
     }
 }
 
@@ -106,7 +109,7 @@ pub fn tell<'a, A: Allocator + Copy>(
 
 /// Whether a line is a call, or what a row begins with.
 fn is_in_front(line: &[u8]) -> bool {
-    call_in(line).is_some() || matches!(verb_of(split(line).0), Verb::Heading)
+    call_in(line).is_some() || matches!(verb_of(split(line).0), LineVerb::Heading)
 }
 
 fn show_nth<A: Allocator + Copy>(

@@ -1,9 +1,9 @@
 // A server, as rows are played on it.
 use crate::driven::Owner;
 use crate::embedded::server::serve;
-use crate::event::{Event, Told};
-use crate::peer::{Clock, Link, Peer};
-use crate::plays::{Holds, Plays};
+use crate::event::{EndEvent, EventDetails};
+use crate::peer::{Clock, Peer, PeerLink};
+use crate::plays::{EndpointCalls, Holds};
 use crate::server::told::{Was, put_line};
 use ftp_ends::Wants;
 use ftp_ports::{Cause, TURNS};
@@ -20,15 +20,15 @@ const SOME: u64 = 2;
 
 /// A server beside its clock, and how its tree grows.
 #[derive(Drop)]
-pub struct Played<A, S: Drop> {
+pub struct PlayedServer<A, S: Drop> {
     clocked: Clocked<S, Clock, ()>,
     was: Was,
     growth: PhantomData<A>,
 }
 
-impl<A: Allocator + Copy, S: Far<A, FailingTree<A>> + Holds> Played<A, S> {
-    pub fn new(server: S) -> Played<A, S> {
-        Played {
+impl<A: Allocator + Copy, S: Far<A, FailingTree<A>> + Holds> PlayedServer<A, S> {
+    pub fn new(server: S) -> PlayedServer<A, S> {
+        PlayedServer {
             clocked: Clocked {
                 server,
                 watch: Clock::still(),
@@ -40,7 +40,7 @@ impl<A: Allocator + Copy, S: Far<A, FailingTree<A>> + Holds> Played<A, S> {
     }
 }
 
-impl<A: Allocator + Copy, S: Far<A, FailingTree<A>> + Holds> Plays for Played<A, S> {
+impl<A: Allocator + Copy, S: Far<A, FailingTree<A>> + Holds> EndpointCalls for PlayedServer<A, S> {
     fn hear(&mut self, piece: &[u8]) -> usize {
         self.clocked.server.hear(piece)
     }
@@ -57,17 +57,17 @@ impl<A: Allocator + Copy, S: Far<A, FailingTree<A>> + Holds> Plays for Played<A,
         self.clocked.server.data_out(room)
     }
 
-    fn happens(&mut self, event: Event, told: Told) {
+    fn happens(&mut self, event: EndEvent, told: EventDetails) {
         match event {
-            Event::Listening => self.clocked.server.listening(told.port),
-            Event::Portless => self.clocked.server.listen_refused(),
-            Event::Opened => self.clocked.server.data_opened(told.host),
-            Event::Refused => self.clocked.server.data_refused(),
-            Event::Ended => self.clocked.server.data_end(),
-            Event::Broke => self.clocked.server.data_fault(),
-            Event::Closed => self.clocked.server.data_closed(),
-            Event::Cut => self.clocked.server.control_end(),
-            Event::Clock => self.clocked.server.clock(told.moment),
+            EndEvent::Listening => self.clocked.server.listening(told.port),
+            EndEvent::Portless => self.clocked.server.listen_refused(),
+            EndEvent::Opened => self.clocked.server.data_opened(told.host),
+            EndEvent::Refused => self.clocked.server.data_refused(),
+            EndEvent::Ended => self.clocked.server.data_end(),
+            EndEvent::Broke => self.clocked.server.data_fault(),
+            EndEvent::Closed => self.clocked.server.data_closed(),
+            EndEvent::Cut => self.clocked.server.control_end(),
+            EndEvent::Clock => self.clocked.server.clock(told.moment),
         }
     }
 
@@ -153,7 +153,7 @@ fn until_over<A, S, W>(
     clocked: &mut Clocked<S, Clock, ()>,
     control: &mut Control<FailingReader<'_>, W>,
     peer: &mut Peer,
-    data: &mut Data<Link>,
+    data: &mut Data<PeerLink>,
 ) -> Result<(), Cause>
 where
     A: Allocator + Copy,

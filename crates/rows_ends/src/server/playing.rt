@@ -5,8 +5,8 @@ use crate::lines::play;
 use crate::plays::Holds;
 use crate::server::begun::{accounts, plants};
 use crate::server::cued::{cues_of, tell};
-use crate::server::played::Played;
-use crate::turn::Turn;
+use crate::server::played::PlayedServer;
+use crate::turn::RowTurn;
 use ftp_operation::Accounts;
 use ftp_server::Server;
 use ftp_server_calls::{Cue, Played as Made, Plays};
@@ -31,7 +31,7 @@ struct Heaps<A: Allocator + Copy> {
 }
 
 /// Plays a row with this growth refused, and says how many growths were asked for.
-pub fn run(turn: Turn<'_>, refused: u64, desk: &mut Desk) -> u64 {
+pub fn run(turn: RowTurn<'_>, refused: u64, desk: &mut Desk) -> u64 {
     let ample = Refusing::new(turn.alloc, 0);
     let heap = Refusing::new(turn.alloc, refused);
     match accounts(&ample, said(turn.row, b"root").unwrap_or(b"/")) {
@@ -42,7 +42,7 @@ pub fn run(turn: Turn<'_>, refused: u64, desk: &mut Desk) -> u64 {
 }
 
 /// Whose growths are refused: where a row lists calls, of what these give, but with the word `failures`, and else of the server and its tree.
-fn heaps_of<A: Allocator + Copy>(turn: Turn<'_>, heap: A, ample: A) -> Heaps<A> {
+fn heaps_of<A: Allocator + Copy>(turn: RowTurn<'_>, heap: A, ample: A) -> Heaps<A> {
     let is_servers = !lists_calls(turn) || said(turn.row, b"failures").is_some();
     Heaps {
         server: if is_servers { heap } else { ample },
@@ -52,14 +52,14 @@ fn heaps_of<A: Allocator + Copy>(turn: Turn<'_>, heap: A, ample: A) -> Heaps<A> 
 }
 
 /// Whether a row has calls that are made by a list.
-fn lists_calls(turn: Turn<'_>) -> bool {
+fn lists_calls(turn: RowTurn<'_>) -> bool {
     said(turn.row, b"call").is_some()
 }
 
 fn plant<A: Allocator + Copy>(
     heaps: Heaps<A>,
     accounts: Accounts<A>,
-    turn: Turn<'_>,
+    turn: RowTurn<'_>,
     desk: &mut Desk,
 ) {
     let mut tree = MemTree::new(heaps.server);
@@ -78,7 +78,7 @@ fn serve<A: Allocator + Copy, J: Counted<A, FailingTree<A>>>(
     heaps: Heaps<A>,
     tree: FailingTree<A>,
     accounts: Accounts<A>,
-    turn: Turn<'_>,
+    turn: RowTurn<'_>,
     desk: &mut Desk,
 ) {
     let (here, peer) = turn.hosts();
@@ -111,20 +111,20 @@ impl<A: Allocator + Copy, T: SureTree<A>, J: ServerTransfer<A, T>> Lists<A> for 
 fn begin<A: Allocator + Copy, S: Far<A, FailingTree<A>> + Holds + Lists<A>>(
     heaps: Heaps<A>,
     mut server: S,
-    turn: Turn<'_>,
+    turn: RowTurn<'_>,
     desk: &mut Desk,
 ) {
     let row = call_listed(heaps, &mut server, turn, desk);
     server.clock(YEAR_2000);
-    let mut end: Played<A, S> = Played::new(server);
-    play(&mut end, desk, Turn { row, ..turn });
+    let mut end: PlayedServer<A, S> = PlayedServer::new(server);
+    play(&mut end, desk, RowTurn { row, ..turn });
 }
 
 /// Makes the calls that a row lists, and gives the lines behind them.
 fn call_listed<'a, A: Allocator + Copy, S: Lists<A>>(
     heaps: Heaps<A>,
     server: &mut S,
-    turn: Turn<'a>,
+    turn: RowTurn<'a>,
     desk: &mut Desk,
 ) -> &'a [u8] {
     if !lists_calls(turn) {

@@ -1,9 +1,9 @@
 // Orders in a world beside the same orders run directly on an equal tree.
-use crate::worlds::desk::{Desk, Manner};
+use crate::worlds::desk::{PlayMode, RowOutput};
 use crate::worlds::drawn::drawn_orders;
 use crate::worlds::making::{login_line, play};
 use crate::worlds::shown::put_reports;
-use crate::worlds::words::{Word, word_of};
+use crate::worlds::words::{WorldWord, word_of};
 use ftp_direct::direct;
 use ftp_facts::{Moment, Text};
 use ftp_operation::{Accounts, Login, Op};
@@ -49,7 +49,7 @@ pub fn play_drawn(alloc: Global, row: &[u8], count: &[u8], paper: &mut Paper) {
 }
 
 fn play_beside(alloc: Global, orders: &[u8], paper: &mut Paper) {
-    let mut desk = Desk::new(alloc, Manner::Quiet);
+    let mut desk = RowOutput::new(alloc, PlayMode::Quiet);
     play(alloc, orders, 0, &mut desk);
     let came = desk.paper.text();
     match run_directly(alloc, &Refusing::new(alloc, 0), orders) {
@@ -145,7 +145,7 @@ fn dues_of<A: Allocator + Copy>(
     let mut rest = lines;
     for _ in 0..lines.len() {
         let (line, behind) = cut(rest, b'\n');
-        if let (Word::Begin, order) = word_of(line) {
+        if let (WorldWord::Begin, order) = word_of(line) {
             put_due(heap, order, &mut dues)?;
         }
         rest = behind;

@@ -1,5 +1,5 @@
 // What stands beside a world that is played on.
-use crate::worlds::plays::Held;
+use crate::worlds::plays::HeldOctets;
 use crate::worlds::words::Happening;
 use rows_base::Paper;
 use std::alloc::Global;
@@ -10,7 +10,7 @@ const HELD_LIMIT: usize = 24_576;
 
 /// How a row is played.
 #[derive(Clone, Copy)]
-pub enum Manner {
+pub enum PlayMode {
     /// Each line is written, with what comes of it.
     Lines,
     /// What is reported is written, and the tree behind it.
@@ -25,16 +25,16 @@ pub enum Manner {
 
 /// What a row writes, and how far it has come.
 #[derive(Drop)]
-pub struct Desk {
+pub struct RowOutput {
     pub alloc: Global,
     pub paper: Paper,
-    pub manner: Manner,
+    pub manner: PlayMode,
     /// How many orders were begun.
     pub begun: u64,
     /// How many events have happened.
     pub happened: u64,
     /// The most that each end held behind one.
-    pub most: Held,
+    pub most: HeldOctets,
     /// How many reports were told.
     pub told: usize,
     /// Whether no end was refused memory.
@@ -51,15 +51,15 @@ pub struct Desk {
     pub led: bool,
 }
 
-impl Desk {
-    pub fn new(alloc: Global, manner: Manner) -> Desk {
-        Desk {
+impl RowOutput {
+    pub fn new(alloc: Global, manner: PlayMode) -> RowOutput {
+        RowOutput {
             alloc,
             paper: Paper::new(alloc),
             manner,
             begun: 0,
             happened: 0,
-            most: Held {
+            most: HeldOctets {
                 client: 0,
                 server: 0,
             },
@@ -74,7 +74,7 @@ impl Desk {
     }
 
     /// An event happened, behind which the ends hold that.
-    pub fn count(&mut self, held: Held) {
+    pub fn count(&mut self, held: HeldOctets) {
         self.happened = self.happened.saturating_add(1);
         self.most.client = self.most.client.max(held.client);
         self.most.server = self.most.server.max(held.server);

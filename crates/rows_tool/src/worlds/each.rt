@@ -1,5 +1,5 @@
 // A row that is struck before each of its events in turn.
-use crate::worlds::desk::{Desk, Manner};
+use crate::worlds::desk::{PlayMode, RowOutput};
 use crate::worlds::making::play;
 use crate::worlds::words::{Happening, happening_of};
 use rows_base::Paper;
@@ -31,10 +31,10 @@ pub fn play_each(alloc: Global, row: &[u8], event: &[u8], paper: &mut Paper) {
 
 /// What comes of a row with this before that event; none where there are not so many.
 fn struck(alloc: Global, row: &[u8], happening: Happening, place: u64) -> Option<Paper> {
-    let mut desk = Desk::new(alloc, Manner::Struck(happening, place));
+    let mut desk = RowOutput::new(alloc, PlayMode::Struck(happening, place));
     play(alloc, row, 0, &mut desk);
     match desk.manner {
-        Manner::Struck(_, _) => None,
+        PlayMode::Struck(_, _) => None,
         _ => Some(desk.take_struck()),
     }
 }

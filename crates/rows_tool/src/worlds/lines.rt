@@ -1,11 +1,11 @@
 // The lines of a row in one world.
-use crate::worlds::desk::{Desk, Manner};
-use crate::worlds::plays::Plays;
+use crate::worlds::desk::{PlayMode, RowOutput};
+use crate::worlds::plays::WorldCalls;
 use crate::worlds::stage::{
     begin, begin_by_run, begin_heavy, happen, repeat, settle, tell, tell_reports,
 };
 use crate::worlds::ways::follow;
-use crate::worlds::words::{Happening, Word, delivery_of, happening_of, word_of};
+use crate::worlds::words::{Happening, WorldWord, delivery_of, happening_of, word_of};
 use ftp_pair::Queue;
 use rows_base::{cut, number, octets_of};
 use std::alloc::{AllocError, Global};
@@ -37,26 +37,26 @@ const MOVES: &[Happening] = &[
 const PERIOD: u64 = 251;
 
 /// Plays a row in a world, in the manner of the desk.
-pub fn play_in<P: Plays>(world: &mut P, desk: &mut Desk, row: &[u8]) {
+pub fn play_in<P: WorldCalls>(world: &mut P, desk: &mut RowOutput, row: &[u8]) {
     play_lines(world, desk, row);
     match desk.manner {
-        Manner::Lines => {}
-        Manner::Way => follow(world, desk),
-        Manner::Quiet | Manner::Struck(_, _) | Manner::Unstruck => {
+        PlayMode::Lines => {}
+        PlayMode::Way => follow(world, desk),
+        PlayMode::Quiet | PlayMode::Struck(_, _) | PlayMode::Unstruck => {
             world.put_tree(desk.alloc, &mut desk.paper);
         }
     }
     desk.calm = world.is_calm();
 }
 
-fn play_lines<P: Plays>(world: &mut P, desk: &mut Desk, row: &[u8]) {
+fn play_lines<P: WorldCalls>(world: &mut P, desk: &mut RowOutput, row: &[u8]) {
     let mut rest = row;
     for _ in 0..row.len() {
         if rest.is_empty() {
             break;
         }
         let (line, behind) = cut(rest, b'\n');
-        if let Manner::Lines = desk.manner {
+        if let PlayMode::Lines = desk.manner {
             desk.paper.line(line);
         }
         play_line(world, desk, line);
@@ -65,36 +65,36 @@ fn play_lines<P: Plays>(world: &mut P, desk: &mut Desk, row: &[u8]) {
     }
 }
 
-fn play_line<P: Plays>(world: &mut P, desk: &mut Desk, line: &[u8]) {
+fn play_line<P: WorldCalls>(world: &mut P, desk: &mut RowOutput, line: &[u8]) {
     let (word, rest) = word_of(line);
     match word {
-        Word::Begin => order(world, desk, rest),
-        Word::BeginByRun => begin_by_run(world, desk, rest),
-        Word::Heavy => heavy(world, desk, rest),
-        Word::Deliver | Word::End | Word::Plain(_) => event(world, desk, line),
-        Word::Settle => settle(world, desk),
-        Word::Talk => repeat(world, desk, TALK),
-        Word::Pour => repeat(world, desk, &[delivery_of(rest)]),
-        Word::Gather => desk.gathers = true,
-        Word::Run => run(world, desk),
-        Word::Tree => world.put_tree(desk.alloc, &mut desk.paper),
-        Word::Marks => world.put_marks(desk.begun.saturating_sub(1), &mut desk.paper),
-        Word::Held => desk.tell_held(),
-        Word::Nothing => {}
+        WorldWord::Begin => order(world, desk, rest),
+        WorldWord::BeginByRun => begin_by_run(world, desk, rest),
+        WorldWord::Heavy => heavy(world, desk, rest),
+        WorldWord::Deliver | WorldWord::End | WorldWord::Plain(_) => event(world, desk, line),
+        WorldWord::Settle => settle(world, desk),
+        WorldWord::Talk => repeat(world, desk, TALK),
+        WorldWord::Pour => repeat(world, desk, &[delivery_of(rest)]),
+        WorldWord::Gather => desk.gathers = true,
+        WorldWord::Run => run(world, desk),
+        WorldWord::Tree => world.put_tree(desk.alloc, &mut desk.paper),
+        WorldWord::Marks => world.put_marks(desk.begun.saturating_sub(1), &mut desk.paper),
+        WorldWord::Held => desk.tell_held(),
+        WorldWord::Nothing => {}
     }
 }
 
 /// An order begins; where a row is struck, all that it moves moves event by event.
-fn order<P: Plays>(world: &mut P, desk: &mut Desk, line: &[u8]) {
+fn order<P: WorldCalls>(world: &mut P, desk: &mut RowOutput, line: &[u8]) {
     begin(world, desk, line);
     match desk.manner {
-        Manner::Struck(_, _) | Manner::Unstruck => repeat(world, desk, MOVES),
-        Manner::Lines | Manner::Quiet | Manner::Way => {}
+        PlayMode::Struck(_, _) | PlayMode::Unstruck => repeat(world, desk, MOVES),
+        PlayMode::Lines | PlayMode::Quiet | PlayMode::Way => {}
     }
 }
 
 /// An event happens, or is kept.
-fn event<P: Plays>(world: &mut P, desk: &mut Desk, line: &[u8]) {
+fn event<P: WorldCalls>(world: &mut P, desk: &mut RowOutput, line: &[u8]) {
     let Some(happening) = happening_of(line) else {
         return;
     };
@@ -107,7 +107,7 @@ fn event<P: Plays>(world: &mut P, desk: &mut Desk, line: &[u8]) {
 }
 
 /// What was kept happens.
-fn run<P: Plays>(world: &mut P, desk: &mut Desk) {
+fn run<P: WorldCalls>(world: &mut P, desk: &mut RowOutput) {
     desk.gathers = false;
     let kept = desk.take_kept();
     let became = world.runs(desk.alloc, kept.as_slice());
@@ -115,7 +115,7 @@ fn run<P: Plays>(world: &mut P, desk: &mut Desk) {
 }
 
 /// An upload of so many octets begins.
-fn heavy<P: Plays>(world: &mut P, desk: &mut Desk, count: &[u8]) {
+fn heavy<P: WorldCalls>(world: &mut P, desk: &mut RowOutput, count: &[u8]) {
     match fixed_octets(desk.alloc, number(count)) {
         Ok(octets) => begin_heavy(world, desk, octets.as_slice()),
         Err(_) => desk.paper.fill(),

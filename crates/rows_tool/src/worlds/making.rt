@@ -1,7 +1,7 @@
 // The world that a row is played in.
-use crate::worlds::desk::Desk;
+use crate::worlds::desk::RowOutput;
 use crate::worlds::lines::play_in;
-use crate::worlds::world::Played;
+use crate::worlds::world::PlayedWorld;
 use ftp_client_model::Near;
 use ftp_client_steps::CountedTransfer;
 use ftp_client_transfer::OperationTransfer;
@@ -22,7 +22,7 @@ use tool_script::login_of;
 pub const NO_WORLD: &'static [u8] = b"! no world";
 
 /// Plays a row in a world of its own, with this growth refused, none for 0; says how many growths were asked for.
-pub fn play(alloc: Global, row: &[u8], refused: u64, desk: &mut Desk) -> u64 {
+pub fn play(alloc: Global, row: &[u8], refused: u64, desk: &mut RowOutput) -> u64 {
     let heap = Refusing::new(alloc, refused);
     match login_of(&heap, login_line(row)) {
         Ok(login) => enter(&heap, login, row, desk),
@@ -44,7 +44,7 @@ pub fn login_line(row: &[u8]) -> &[u8] {
     b"login anonymous \\e"
 }
 
-fn enter<A: Allocator + Copy>(heap: A, login: Login<A>, row: &[u8], desk: &mut Desk) {
+fn enter<A: Allocator + Copy>(heap: A, login: Login<A>, row: &[u8], desk: &mut RowOutput) {
     match beginning_of(heap, login, false) {
         Ok(of) => begin::<A, MemTree<A>, OperationTransfer<A>, TreeTransfer<A, MemTree<A>>>(
             heap, of, row, desk,
@@ -59,7 +59,7 @@ fn begin<
     T: HeldTree<A> + SureTree<A>,
     C: CountedTransfer<A>,
     J: Counted<A, T>,
->(heap: A, of: Beginning<A, T>, row: &[u8], desk: &mut Desk) {
+>(heap: A, of: Beginning<A, T>, row: &[u8], desk: &mut RowOutput) {
     match world_of::<A, T, C, J>(heap, of) {
         Ok(world) => play_world(world, heap, row, desk),
         Err(_) => desk.paper.line(NO_WORLD),
@@ -70,7 +70,7 @@ fn play_world<A: Allocator + Copy, T: HeldTree<A>, N: Near<A> + Holds, F: SureFa
     world: World<A, T, N, F>,
     heap: A,
     row: &[u8],
-    desk: &mut Desk,
+    desk: &mut RowOutput,
 ) {
-    play_in(&mut Played { world, heap }, desk, row);
+    play_in(&mut PlayedWorld { world, heap }, desk, row);
 }

@@ -13,13 +13,13 @@ pub enum Became {
 
 /// How many octets the ends hold.
 #[derive(Clone, Copy)]
-pub struct Held {
+pub struct HeldOctets {
     pub client: usize,
     pub server: usize,
 }
 
 /// The calls of a world, of which nothing is said here, so that what plays rows on it is proved without the world's clauses.
-pub trait Plays: Drop {
+pub trait WorldCalls: Drop {
     fn happens(&mut self, happening: Happening) -> Became;
 
     /// The order of a line of a script begins; this is its number, from 0.
@@ -39,7 +39,7 @@ pub trait Plays: Drop {
 
     fn is_calm(&self) -> bool;
 
-    fn held(&self) -> Held;
+    fn held(&self) -> HeldOctets;
 
     /// Writes the reports from that one on; gives how many there are.
     fn put_reports(&self, alloc: Global, from: usize, paper: &mut Paper) -> usize;

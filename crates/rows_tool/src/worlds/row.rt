@@ -1,6 +1,6 @@
 // Each row, as it is to be played.
 use crate::worlds::beside::play_drawn;
-use crate::worlds::desk::{Desk, Manner};
+use crate::worlds::desk::{PlayMode, RowOutput};
 use crate::worlds::each::play_each;
 use crate::worlds::making::{NO_WORLD, play};
 use crate::worlds::stage::NO_MEMORY;
@@ -38,7 +38,7 @@ fn play_row(alloc: Global, row: &[u8], paper: &mut Paper) {
 
 /// Line by line; and again with each growth refused in turn, where the row says so.
 fn play_lines(alloc: Global, row: &[u8], paper: &mut Paper) {
-    let mut desk = Desk::new(alloc, Manner::Lines);
+    let mut desk = RowOutput::new(alloc, PlayMode::Lines);
     let growths = play(alloc, row, 0, &mut desk);
     let whole = desk.paper.text();
     paper.put(whole);
@@ -51,7 +51,7 @@ fn play_lines(alloc: Global, row: &[u8], paper: &mut Paper) {
 
 /// Says where a row goes otherwise by a refused growth and that is not told.
 fn compare_growth(alloc: Global, row: &[u8], whole: &[u8], refused: u64, paper: &mut Paper) {
-    let mut desk = Desk::new(alloc, Manner::Lines);
+    let mut desk = RowOutput::new(alloc, PlayMode::Lines);
     play(alloc, row, refused, &mut desk);
     if !is_told(desk.calm, desk.paper.text(), whole) {
         tell_growth(refused, desk.paper.text(), paper);

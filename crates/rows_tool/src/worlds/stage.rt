@@ -1,6 +1,6 @@
 // A world to which something happens, and what comes of it.
-use crate::worlds::desk::{Desk, Manner};
-use crate::worlds::plays::{Became, Plays};
+use crate::worlds::desk::{PlayMode, RowOutput};
+use crate::worlds::plays::{Became, WorldCalls};
 use crate::worlds::words::Happening;
 
 /// More events than an order takes.
@@ -10,16 +10,16 @@ const EVENTS: u64 = 1_000_000;
 pub const NO_MEMORY: &'static [u8] = b"! no memory";
 
 /// The reports that came; those before the events of a way are not written.
-pub fn tell_reports<P: Plays>(world: &P, desk: &mut Desk) {
+pub fn tell_reports<P: WorldCalls>(world: &P, desk: &mut RowOutput) {
     let from = match desk.manner {
-        Manner::Way if !desk.gathers => usize::MAX,
+        PlayMode::Way if !desk.gathers => usize::MAX,
         _ => desk.told,
     };
     desk.told = world.put_reports(desk.alloc, from, &mut desk.paper);
 }
 
 /// An order begins; once more where it is refused memory.
-pub fn begin<P: Plays>(world: &mut P, desk: &mut Desk, line: &[u8]) {
+pub fn begin<P: WorldCalls>(world: &mut P, desk: &mut RowOutput, line: &[u8]) {
     strike(world, desk);
     let became = match world.begins(line, desk.begun) {
         Became::NoMemory => world.begins(line, desk.begun),
@@ -29,7 +29,7 @@ pub fn begin<P: Plays>(world: &mut P, desk: &mut Desk, line: &[u8]) {
 }
 
 /// The same by `World::run` of that one event.
-pub fn begin_by_run<P: Plays>(world: &mut P, desk: &mut Desk, line: &[u8]) {
+pub fn begin_by_run<P: WorldCalls>(world: &mut P, desk: &mut RowOutput, line: &[u8]) {
     let became = match world.begins_by_run(desk.alloc, line, desk.begun) {
         Became::NoMemory => world.begins_by_run(desk.alloc, line, desk.begun),
         became => became,
@@ -38,12 +38,12 @@ pub fn begin_by_run<P: Plays>(world: &mut P, desk: &mut Desk, line: &[u8]) {
 }
 
 /// An upload of so many octets begins.
-pub fn begin_heavy<P: Plays>(world: &mut P, desk: &mut Desk, octets: &[u8]) {
+pub fn begin_heavy<P: WorldCalls>(world: &mut P, desk: &mut RowOutput, octets: &[u8]) {
     let became = world.uploads(octets, desk.begun);
     tell_begun(world, desk, became);
 }
 
-fn tell_begun<P: Plays>(world: &P, desk: &mut Desk, became: Became) {
+fn tell_begun<P: WorldCalls>(world: &P, desk: &mut RowOutput, became: Became) {
     if let Became::Happened = became {
         desk.begun = desk.begun.saturating_add(1);
         desk.count(world.held());
@@ -52,7 +52,7 @@ fn tell_begun<P: Plays>(world: &P, desk: &mut Desk, became: Became) {
 }
 
 /// An event happens; once more where it is refused memory.
-pub fn happen<P: Plays>(world: &mut P, desk: &mut Desk, happening: Happening) -> Became {
+pub fn happen<P: WorldCalls>(world: &mut P, desk: &mut RowOutput, happening: Happening) -> Became {
     strike(world, desk);
     let became = match world.happens(happening) {
         Became::NoMemory => world.happens(happening),
@@ -65,17 +65,17 @@ pub fn happen<P: Plays>(world: &mut P, desk: &mut Desk, happening: Happening) ->
 }
 
 /// What is to happen before the next event, once.
-fn strike<P: Plays>(world: &mut P, desk: &mut Desk) {
-    let Manner::Struck(happening, place) = desk.manner else {
+fn strike<P: WorldCalls>(world: &mut P, desk: &mut RowOutput) {
+    let PlayMode::Struck(happening, place) = desk.manner else {
         return;
     };
     if place == desk.happened {
-        desk.manner = Manner::Unstruck;
+        desk.manner = PlayMode::Unstruck;
         desk.struck = matches!(world.happens(happening), Became::Happened);
     }
 }
 
-pub fn tell(became: Became, desk: &mut Desk) {
+pub fn tell(became: Became, desk: &mut RowOutput) {
     match became {
         Became::Happened => {}
         Became::Impossible => desk.paper.line(b"! not possible"),
@@ -84,14 +84,14 @@ pub fn tell(became: Became, desk: &mut Desk) {
 }
 
 /// All that moves by itself moves.
-pub fn settle<P: Plays>(world: &mut P, desk: &mut Desk) {
+pub fn settle<P: WorldCalls>(world: &mut P, desk: &mut RowOutput) {
     if !world.settles() {
         desk.paper.line(b"! not at rest");
     }
 }
 
 /// The first of these events that is possible, again and again, until none is.
-pub fn repeat<P: Plays>(world: &mut P, desk: &mut Desk, events: &[Happening]) {
+pub fn repeat<P: WorldCalls>(world: &mut P, desk: &mut RowOutput, events: &[Happening]) {
     for _ in 0..EVENTS {
         if first_of(world, desk, events, 0).is_none() {
             return;
@@ -101,9 +101,9 @@ pub fn repeat<P: Plays>(world: &mut P, desk: &mut Desk, events: &[Happening]) {
 }
 
 /// The first of these events that is possible happens, none before that place; gives its place.
-pub fn first_of<P: Plays>(
+pub fn first_of<P: WorldCalls>(
     world: &mut P,
-    desk: &mut Desk,
+    desk: &mut RowOutput,
     events: &[Happening],
     from: usize,
 ) -> Option<usize> {

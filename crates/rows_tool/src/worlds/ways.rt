@@ -1,7 +1,7 @@
 // The events of a row in each order.
-use crate::worlds::desk::{Desk, Manner};
+use crate::worlds::desk::{PlayMode, RowOutput};
 use crate::worlds::making::play;
-use crate::worlds::plays::Plays;
+use crate::worlds::plays::WorldCalls;
 use crate::worlds::stage::{first_of, settle, tell_reports};
 use crate::worlds::words::Happening;
 use rows_base::Paper;
@@ -15,7 +15,7 @@ const DEEP: usize = 1000;
 const WAYS: u64 = 1_000_000;
 
 /// What was kept happens, the first event that is possible each time, none before its least place; then all that moves; writes the reports.
-pub fn follow<P: Plays>(world: &mut P, desk: &mut Desk) {
+pub fn follow<P: WorldCalls>(world: &mut P, desk: &mut RowOutput) {
     let least = mem::replace(&mut desk.way, Vec::new(desk.alloc));
     let events = desk.take_kept();
     go(world, desk, events.as_slice(), least.as_slice());
@@ -24,7 +24,7 @@ pub fn follow<P: Plays>(world: &mut P, desk: &mut Desk) {
     tell_reports(world, desk);
 }
 
-fn go<P: Plays>(world: &mut P, desk: &mut Desk, events: &[Happening], least: &[usize]) {
+fn go<P: WorldCalls>(world: &mut P, desk: &mut RowOutput, events: &[Happening], least: &[usize]) {
     for at in 0..DEEP {
         let from = least.get(at).copied().unwrap_or(0);
         match first_of(world, desk, events, from) {
@@ -41,7 +41,7 @@ pub fn play_ways(alloc: Global, row: &[u8], paper: &mut Paper) {
     let mut least = Vec::new(alloc);
     let mut count = 0u64;
     for _ in 0..WAYS {
-        let mut desk = Desk::new(alloc, Manner::Way);
+        let mut desk = RowOutput::new(alloc, PlayMode::Way);
         desk.way = least;
         play(alloc, row, 0, &mut desk);
         if desk.led {

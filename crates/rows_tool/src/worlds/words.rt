@@ -15,7 +15,7 @@ pub enum Happening {
 
 /// What a line asks.
 #[derive(Clone, Copy)]
-pub enum Word {
+pub enum WorldWord {
     /// An order begins.
     Begin,
     /// An order begins by `World::run` of that one event.
@@ -46,25 +46,25 @@ pub enum Word {
     Nothing,
 }
 
-const WORDS: &[(&'static [u8], Word)] = &[
-    (b">", Word::Begin),
-    (b">>", Word::BeginByRun),
-    (b"heavy", Word::Heavy),
-    (b"deliver", Word::Deliver),
-    (b"end", Word::End),
-    (b"open", Word::Plain(Happening::Open)),
-    (b"refuse", Word::Plain(Happening::Refuse)),
-    (b"break", Word::Plain(Happening::Break)),
-    (b"end-control", Word::Plain(Happening::EndControl)),
-    (b"settle", Word::Settle),
-    (b"talk", Word::Talk),
-    (b"pour", Word::Pour),
-    (b"gather", Word::Gather),
-    (b"in", Word::Gather),
-    (b"run", Word::Run),
-    (b"tree", Word::Tree),
-    (b"marks", Word::Marks),
-    (b"held", Word::Held),
+const WORDS: &[(&'static [u8], WorldWord)] = &[
+    (b">", WorldWord::Begin),
+    (b">>", WorldWord::BeginByRun),
+    (b"heavy", WorldWord::Heavy),
+    (b"deliver", WorldWord::Deliver),
+    (b"end", WorldWord::End),
+    (b"open", WorldWord::Plain(Happening::Open)),
+    (b"refuse", WorldWord::Plain(Happening::Refuse)),
+    (b"break", WorldWord::Plain(Happening::Break)),
+    (b"end-control", WorldWord::Plain(Happening::EndControl)),
+    (b"settle", WorldWord::Settle),
+    (b"talk", WorldWord::Talk),
+    (b"pour", WorldWord::Pour),
+    (b"gather", WorldWord::Gather),
+    (b"in", WorldWord::Gather),
+    (b"run", WorldWord::Run),
+    (b"tree", WorldWord::Tree),
+    (b"marks", WorldWord::Marks),
+    (b"held", WorldWord::Held),
 ];
 
 const QUEUES: &[(&'static [u8], Queue)] = &[
@@ -75,18 +75,18 @@ const QUEUES: &[(&'static [u8], Queue)] = &[
 ];
 
 /// What a line asks by its first word, and what stands behind that.
-pub fn word_of(line: &[u8]) -> (Word, &[u8]) {
+pub fn word_of(line: &[u8]) -> (WorldWord, &[u8]) {
     let (word, rest) = split(line);
-    (found(WORDS, word, Word::Nothing), rest)
+    (found(WORDS, word, WorldWord::Nothing), rest)
 }
 
 /// The event that a line says; none where it says another thing.
 pub fn happening_of(line: &[u8]) -> Option<Happening> {
     let (word, rest) = word_of(line);
     match word {
-        Word::Deliver => Some(delivery_of(rest)),
-        Word::End => Some(Happening::End(queue_of(rest))),
-        Word::Plain(happening) => Some(happening),
+        WorldWord::Deliver => Some(delivery_of(rest)),
+        WorldWord::End => Some(Happening::End(queue_of(rest))),
+        WorldWord::Plain(happening) => Some(happening),
         _ => None,
     }
 }

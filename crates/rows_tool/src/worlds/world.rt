@@ -1,5 +1,5 @@
 // A world as rows are played on it.
-use crate::worlds::plays::{Became, Held, Plays};
+use crate::worlds::plays::{Became, HeldOctets, WorldCalls};
 use crate::worlds::shown::{put_marks, put_reports};
 use crate::worlds::words::Happening;
 use ftp_client_model::Near;
@@ -17,12 +17,12 @@ use tool_script::{Order, moment_of, order_of};
 
 /// A world, and how it grows.
 #[derive(Drop)]
-pub struct Played<A: Allocator + Copy, T: HeldTree<A>, N: Near<A>, F: SureFar<A, T>> {
+pub struct PlayedWorld<A: Allocator + Copy, T: HeldTree<A>, N: Near<A>, F: SureFar<A, T>> {
     pub world: World<A, T, N, F>,
     pub heap: A,
 }
 
-impl<A: Allocator + Copy, T: HeldTree<A>, N: Near<A>, F: SureFar<A, T>> Played<A, T, N, F> {
+impl<A: Allocator + Copy, T: HeldTree<A>, N: Near<A>, F: SureFar<A, T>> PlayedWorld<A, T, N, F> {
     fn step(&mut self, event: Event<A>) -> Became {
         match self.world.step(event) {
             Ok(true) => Became::Happened,
@@ -96,8 +96,8 @@ fn events_of<A: Allocator + Copy>(
     Ok(events)
 }
 
-impl<A: Allocator + Copy, T: HeldTree<A>, N: Near<A> + Holds, F: SureFar<A, T> + Holds> Plays
-    for Played<A, T, N, F> {
+impl<A: Allocator + Copy, T: HeldTree<A>, N: Near<A> + Holds, F: SureFar<A, T> + Holds> WorldCalls
+    for PlayedWorld<A, T, N, F> {
     fn happens(&mut self, happening: Happening) -> Became {
         self.step(happening_event(happening))
     }
@@ -159,8 +159,8 @@ impl<A: Allocator + Copy, T: HeldTree<A>, N: Near<A> + Holds, F: SureFar<A, T> +
         self.world.is_calm()
     }
 
-    fn held(&self) -> Held {
-        Held {
+    fn held(&self) -> HeldOctets {
+        HeldOctets {
             client: self.world.near().held(),
             server: self.world.far().held(),
         }

@@ -13,7 +13,7 @@ use Rattle.ftp_operation.specs.declared.account.AccountsFault.{AccountsFault}
 use Rattle.tool_accounts.specs.accounts_file.Blame.{HoldsUp, IsBarred, IsBlamed, IsHeld, IsOff, account_limit}
 use Rattle.tool_accounts.specs.accounts_file.Line.{Says, is_silent, of_accounts}
 use Rattle.tool_accounts.specs.accounts_file.Lines.{Adds, Line, Lists, SayEach, SaysAll, Stands, lines_of, numbered, speakers, speaking, without_cr}
-use Rattle.tool_accounts.specs.declared.accounts_file.fault.LineFault.{LineFault}
+use Rattle.tool_accounts.specs.declared.accounts_file.fault.AccountFault.{AccountFault}
 use Rattle.tool_accounts.specs.declared.accounts_file.fault.TextFault.{TextFault}
 use Rattle.tool_accounts.specs.declared.accounts_file.fault.TextFault.TheVariants as Texts
 
@@ -210,7 +210,7 @@ parts f (x ∷ all) (one ∷ before) it behind is =
     record { front = x ∷ rest.front; at = rest.at; back = rest.back; whole = ap (λ l. x ∷ l) rest.whole; long = ap suc rest.long; is = rest.is }
 
 -- the line whose account those before it do not allow
-barred : (text : List ℕ) (now : Lists) (number : ℕ) (fault : LineFault) → Stands (speakers text) [] now → HoldsUp now.0 now.1 number fault
+barred : (text : List ℕ) (now : Lists) (number : ℕ) (fault : AccountFault) → Stands (speakers text) [] now → HoldsUp now.0 now.1 number fault
     → IsBarred text number fault
 barred text now number fault stands holds =
     let e : speakers text ≡ stands.above = stands.whole ∙ append-nil stands.above in

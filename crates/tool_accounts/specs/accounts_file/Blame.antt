@@ -5,7 +5,7 @@ use Rattle.ftp_operation.specs.Account.{Account, accounts_refusal}
 use Rattle.ftp_operation.specs.declared.account.AccountsFault.{AccountsFault}
 use Rattle.tool_accounts.specs.accounts_file.Line.{IsFaulty, is_silent, of_accounts}
 use Rattle.tool_accounts.specs.accounts_file.Lines.{Line, SayEach, speakers}
-use Rattle.tool_accounts.specs.declared.accounts_file.fault.LineFault.{LineFault}
+use Rattle.tool_accounts.specs.declared.accounts_file.fault.AccountFault.{AccountFault}
 use Rattle.tool_accounts.specs.declared.accounts_file.fault.TextFault.{TextFault}
 use Rattle.tool_accounts.specs.declared.accounts_file.fault.TextFault.TheVariants as Texts
 
@@ -18,7 +18,7 @@ abbrev pub account_limit : ℕ
 account_limit = 1000
 
 -- the line of this number says no account, and each above it that is not silent says one
-pub record IsNone (text : List ℕ) (number : ℕ) (fault : LineFault) : Type 0 where
+pub record IsNone (text : List ℕ) (number : ℕ) (fault : AccountFault) : Type 0 where
   pub above : List Line
   pub line : List ℕ
   pub below : List Line
@@ -28,14 +28,14 @@ pub record IsNone (text : List ℕ) (number : ℕ) (fault : LineFault) : Type 0 
   pub faulty : IsFaulty line fault
 
 -- these accounts are a server's, and with this one behind them they are not, and why
-pub record Bars (above : List Account) (account : Account) (fault : LineFault) : Type 0 where
+pub record Bars (above : List Account) (account : Account) (fault : AccountFault) : Type 0 where
   pub why : AccountsFault
   pub allowed : accounts_refusal above ≡ None
   pub barred : accounts_refusal (above ++ account ∷ []) ≡ Some why
   pub told : fault ≡ of_accounts why
 
 -- each line that is not silent says an account, and that of the line of this number is one that those above it do not allow
-pub record IsBarred (text : List ℕ) (number : ℕ) (fault : LineFault) : Type 0 where
+pub record IsBarred (text : List ℕ) (number : ℕ) (fault : AccountFault) : Type 0 where
   pub above : List Line
   pub line : List ℕ
   pub below : List Line
@@ -64,7 +64,7 @@ IsOff number line accounts Texts.TooMany = (is_silent line ≡ false) × IsTrue 
 IsOff number line accounts Texts.Memory = Unit {0}
 
 -- of accounts, each with the number of its line, that of this number is one that those before it do not allow
-pub record HoldsUp (accounts : List Account) (numbers : List ℕ) (number : ℕ) (fault : LineFault) : Type 0 where
+pub record HoldsUp (accounts : List Account) (numbers : List ℕ) (number : ℕ) (fault : AccountFault) : Type 0 where
   pub before : List Account
   pub account : Account
   pub behind : List Account

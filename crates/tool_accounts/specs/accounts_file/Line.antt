@@ -12,8 +12,8 @@ use Rattle.ftp_operation.specs.Rights.{adding_rights, all_rights, joined, no_rig
 use Rattle.ftp_secret.specs.Secret.{read}
 use Rattle.ftp_secret.specs.declared.fault.SecretFault.{SecretFault}
 use Rattle.ftp_secret.specs.declared.secret.Secret.{Secret}
-use Rattle.tool_accounts.specs.declared.accounts_file.fault.LineFault.{LineFault}
-use Rattle.tool_accounts.specs.declared.accounts_file.fault.LineFault.TheVariants as Faults
+use Rattle.tool_accounts.specs.declared.accounts_file.fault.AccountFault.{AccountFault}
+use Rattle.tool_accounts.specs.declared.accounts_file.fault.AccountFault.TheVariants as Faults
 
 -- the octet between two fields, `:`
 abbrev pub colon : ℕ
@@ -82,11 +82,11 @@ pub record IsCut (line user pass root : List ℕ) (rights : Option (List ℕ)) :
   pub ends : EndsIn rest root rights
 
 -- what is wrong with the fields after a password
-abbrev pub wrong_after : (root : List ℕ) → Option (List ℕ) → Option LineFault
+abbrev pub wrong_after : (root : List ℕ) → Option (List ℕ) → Option AccountFault
 wrong_after root rights = if not (is_root root) then Some Faults.Root else (if is_none (rights_said rights) then Some Faults.Rights else None)
 
 -- what is wrong with the fields of a line: the first that is none
-abbrev pub wrong : (user pass root : List ℕ) → Option (List ℕ) → Option LineFault
+abbrev pub wrong : (user pass root : List ℕ) → Option (List ℕ) → Option AccountFault
 wrong user pass root rights =
     if not (is_user user) then Some Faults.User
     else (if not (is_password pass) then Some Faults.Password
@@ -114,7 +114,7 @@ abbrev pub HasFewFields : List ℕ → Type 0
 HasFewFields line = Lacks line colon ⊎ HasOneColon line
 
 -- a line has fields, of which the first wrong one is this
-pub record HasWrong (line : List ℕ) (fault : LineFault) : Type 0 where
+pub record HasWrong (line : List ℕ) (fault : AccountFault) : Type 0 where
   pub user : List ℕ
   pub pass : List ℕ
   pub root : List ℕ
@@ -123,10 +123,10 @@ pub record HasWrong (line : List ℕ) (fault : LineFault) : Type 0 where
   pub is : wrong user pass root rights ≡ Some fault
 
 -- a line says no account, and why; memory may be refused whatever it says
-abbrev pub IsFaulty : List ℕ → LineFault → Type 0
+abbrev pub IsFaulty : List ℕ → AccountFault → Type 0
 IsFaulty line fault = (fault ≡ Faults.Memory) ⊎ (((fault ≡ Faults.Fields) × HasFewFields line) ⊎ HasWrong line fault)
 
 -- what is wrong with a line, of why its account can't stand with those above it
-abbrev pub of_accounts : AccountsFault → LineFault
+abbrev pub of_accounts : AccountsFault → AccountFault
 of_accounts AccountsFaults.SameUser = Faults.SameUser
 of_accounts AccountsFaults.NestedRoots = Faults.NestedRoots

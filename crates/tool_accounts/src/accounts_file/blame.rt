@@ -3,7 +3,7 @@ ghost use Rattle.std.specs.Prelude.{◌≡◌, Some, length};
 ghost use Rattle.ftp_operation.specs.Account.{accounts_refusal};
 ghost use Rattle.tool_accounts.specs.accounts_file.Blame.{IsHeld};
 
-use crate::accounts_file::fault::{LineFault, TextFault};
+use crate::accounts_file::fault::{AccountFault, TextFault};
 use ftp_operation::{Accounts, RefusedAccounts};
 use std::alloc::Allocator;
 
@@ -28,7 +28,7 @@ pub(crate) fn blamed<A: Allocator + Copy>(
             Ok(_) => {
                 return TextFault::Line {
                     line: number,
-                    fault: LineFault::from(fault),
+                    fault: AccountFault::from(fault),
                 };
             }
             Err(still) => {

@@ -9,7 +9,7 @@ use thiserror::Error;
 
 /// What is wrong with a line.
 #[derive(Clone, Copy, Debug, PartialEq, Eq, Error)]
-pub enum LineFault {
+pub enum AccountFault {
     #[error("wanted is user:password:root or user:password:root:rights")]
     Fields,
     /// No octet, or over 255, or CR or NUL.
@@ -34,13 +34,13 @@ pub enum LineFault {
     Memory,
 }
 
-impl From<AccountsFault> for LineFault {
+impl From<AccountsFault> for AccountFault {
     ghost from_gives = { λ fault told. told ≡ of_accounts fault };
 
-    fn from(fault: AccountsFault) -> LineFault {
+    fn from(fault: AccountsFault) -> AccountFault {
         match fault {
-            AccountsFault::SameUser => LineFault::SameUser,
-            AccountsFault::NestedRoots => LineFault::NestedRoots,
+            AccountsFault::SameUser => AccountFault::SameUser,
+            AccountsFault::NestedRoots => AccountFault::NestedRoots,
         }
     }
 }
@@ -49,7 +49,7 @@ impl From<AccountsFault> for LineFault {
 #[derive(Clone, Copy, Debug, PartialEq, Eq, Error)]
 pub enum TextFault {
     #[error("line {line}: {fault}")]
-    Line { line: usize, fault: LineFault },
+    Line { line: usize, fault: AccountFault },
     /// The octets EF BB BF, which some editors put there.
     #[error("it begins with a byte order mark, which has to go")]
     Mark,

@@ -7,7 +7,7 @@ ghost use Rattle.ftp_operation.specs.Rights.{no_rights};
 ghost use Rattle.tool_accounts.specs.accounts_file.Line.{EndsIn, HasFewFields, IsCut, IsFaulty, Says, is_blank, is_comment, is_root, is_silent};
 ghost use Rattle.tool_accounts.specs.accounts_file.Line.{needed, rights_of_letter, rights_said, with_letters};
 
-use crate::accounts_file::fault::LineFault;
+use crate::accounts_file::fault::AccountFault;
 use ftp_facts::{Text, cut_at};
 use ftp_operation::{Account, Rights};
 use ftp_path::{Path, PathFault, is_password, is_user};
@@ -43,29 +43,29 @@ fn is_comment(line: &[u8]) -> bool
 pub(crate) fn account_of<A: Allocator + Copy>(
     alloc: A,
     line: &[u8],
-) -> Result<Account<Text<A>, Path<A>>, LineFault>
+) -> Result<Account<Text<A>, Path<A>>, AccountFault>
     ensures says { IfOk result (λ account. Says line.now account) }
     ensures fault { IfErr result (λ fault. IsFaulty line.now fault) }
 {
     let Some(fields) = fields_of(line) else {
-        return Err(LineFault::Fields);
+        return Err(AccountFault::Fields);
     };
     if !is_user(fields.user) {
-        return Err(LineFault::User);
+        return Err(AccountFault::User);
     }
     if !is_password(fields.pass) {
-        return Err(LineFault::Password);
+        return Err(AccountFault::Password);
     }
     let pass = match needed(fields.pass) {
         Ok(pass) => pass,
-        Err(fault) => return Err(LineFault::Secret(fault)),
+        Err(fault) => return Err(AccountFault::Secret(fault)),
     };
     let root = match root_of(alloc, fields.root) {
         Ok(root) => root,
         Err(fault) => return Err(fault),
     };
     let Some(rights) = rights_of(fields.rights) else {
-        return Err(LineFault::Rights);
+        return Err(AccountFault::Rights);
     };
     match Text::copy_of(alloc, fields.user) {
         Ok(user) => Ok(Account {
@@ -74,7 +74,7 @@ pub(crate) fn account_of<A: Allocator + Copy>(
             root,
             rights,
         }),
-        Err(AllocError) => Err(LineFault::Memory),
+        Err(AllocError) => Err(AccountFault::Memory),
     }
 }
 
@@ -131,18 +131,18 @@ fn needed(pass: &[u8]) -> Result<Option<Secret>, SecretFault>
 }
 
 /// The path from `/` that a text names.
-fn root_of<A: Allocator + Copy>(alloc: A, root: &[u8]) -> Result<Path<A>, LineFault>
+fn root_of<A: Allocator + Copy>(alloc: A, root: &[u8]) -> Result<Path<A>, AccountFault>
     ensures root { IfOk result (λ path. IsTrue (is_root root.now)) }
     ensures path { IfOk result (λ path. path ≡ resolved [] root.now) }
-    ensures none { IfErr result (λ fault. fault ≢ LineFault.Memory → (fault ≡ LineFault.Root) × (is_root root.now ≡ false)) }
+    ensures none { IfErr result (λ fault. fault ≢ AccountFault.Memory → (fault ≡ AccountFault.Root) × (is_root root.now ≡ false)) }
 {
     if !root.starts_with(b"/") {
-        return Err(LineFault::Root);
+        return Err(AccountFault::Root);
     }
     match Path::root(alloc).resolve(alloc, root) {
         Ok(path) => Ok(path),
-        Err(PathFault::NotText | PathFault::TooBig) => Err(LineFault::Root),
-        Err(PathFault::Memory) => Err(LineFault::Memory),
+        Err(PathFault::NotText | PathFault::TooBig) => Err(AccountFault::Root),
+        Err(PathFault::Memory) => Err(AccountFault::Memory),
     }
 }
 

@@ -35,14 +35,17 @@ pub fn read_accounts<A: Allocator + Copy>(alloc: A, text: &[u8]) -> Result<Accou
 }
 
 /// What the lines of a text say.
-pub(crate) fn said_in<A: Allocator + Copy>(alloc: A, text: &[u8]) -> Result<Said<A>, TextFault>
+pub(crate) fn said_in<A: Allocator + Copy>(
+    alloc: A,
+    text: &[u8],
+) -> Result<ParsedAccounts<A>, TextFault>
     ensures said { IfOk result (λ said. Stands (speakers text.now) [] (said.list.items, said.numbers.items)) }
     ensures fault { IfErr result (λ fault. IsBlamed text.now fault) }
 {
     if text.starts_with(MARK) {
         return Err(TextFault::Mark);
     }
-    let mut said = Said::nothing(alloc);
+    let mut said = ParsedAccounts::nothing(alloc);
     let mut number: usize = 1;
     let mut rest = text;
     while let Some((line, more)) = cut_at(rest, b'\n') {
@@ -70,18 +73,18 @@ pub(crate) fn without_cr(line: &[u8]) -> &[u8]
 
 /// The accounts so far, and the number of the line of each.
 #[derive(Drop)]
-pub(crate) struct Said<A: Allocator + Copy> {
+pub(crate) struct ParsedAccounts<A: Allocator + Copy> {
     list: Vec<Account<Text<A>, Path<A>>, A>,
     numbers: Vec<usize, A>,
 }
 
-impl<A: Allocator + Copy> Said<A> {
+impl<A: Allocator + Copy> ParsedAccounts<A> {
     /// No line was read.
-    fn nothing(alloc: A) -> Said<A>
+    fn nothing(alloc: A) -> ParsedAccounts<A>
         ensures list { result.list.items ≡ [] }
         ensures numbers { result.numbers.items ≡ [] }
     {
-        Said {
+        ParsedAccounts {
             list: Vec::new(alloc),
             numbers: Vec::new(alloc),
         }
@@ -123,7 +126,7 @@ impl<A: Allocator + Copy> Said<A> {
     pub(crate) fn into_list(self) -> Vec<Account<Text<A>, Path<A>>, A>
         ensures { result.items ≡ self.list.items }
     {
-        let Said { list, numbers: _ } = self;
+        let ParsedAccounts { list, numbers: _ } = self;
         list
     }
 
@@ -134,7 +137,7 @@ impl<A: Allocator + Copy> Said<A> {
         ensures allowed { IfOk result (λ accounts. accounts_refusal accounts ≡ None) }
         ensures fault { IfErr result (λ fault. IsHeld self.list.items self.numbers.items fault) }
     {
-        let Said { list, numbers } = self;
+        let ParsedAccounts { list, numbers } = self;
         match Accounts::new(list) {
             Ok(accounts) => Ok(accounts),
             Err(refused) => Err(blamed(refused, numbers)),

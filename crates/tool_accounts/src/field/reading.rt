@@ -10,13 +10,13 @@ use std::io::Read;
 const READ_LIMIT: usize = 258;
 
 /// What was read.
-pub(crate) type Input = ArrayVec<u8, READ_LIMIT>;
+pub(crate) type InputBuffer = ArrayVec<u8, READ_LIMIT>;
 
 /// Reads to the end of the input, and so many octets at most.
-pub(crate) fn read_all<R: Read>(reader: &mut R) -> Result<Input, Failed>
+pub(crate) fn read_all<R: Read>(reader: &mut R) -> Result<InputBuffer, Failed>
     ensures { IfOk result (λ input. Reads (R.remaining reader.old) (R.remaining reader.new) input.items) }
 {
-    let mut input = Input::new();
+    let mut input = InputBuffer::new();
     'reads: for i in 0..READ_LIMIT {
         let count = read_more(reader, &mut input)?;
         if count == 0 || input.is_full() {
@@ -27,7 +27,7 @@ pub(crate) fn read_all<R: Read>(reader: &mut R) -> Result<Input, Failed>
 }
 
 /// Puts what one read gives after what was read before, and gives how many octets; none at the end.
-fn read_more<R: Read>(reader: &mut R, input: &mut Input) -> Result<usize, Failed>
+fn read_more<R: Read>(reader: &mut R, input: &mut InputBuffer) -> Result<usize, Failed>
     ensures fits { length input.new.items ≤ 258 }
     ensures adds { IfOk result (λ count. Adds (R.remaining reader.old) (R.remaining reader.new) input.old.items input.new.items count) }
     ensures over { IfOk result (λ count. count ≡ 0 → IsOver (R.remaining reader.new) input.new.items) }

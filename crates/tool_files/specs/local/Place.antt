@@ -1,13 +1,13 @@
 -- Where the octets of a file go (own choice).
 use Rattle.std.specs.Prelude.{Bool, true, false, Some, None}
-use Rattle.tool_files.specs.declared.local.place.Standing.{Standing}
-use Rattle.tool_files.specs.declared.local.place.Standing.TheVariants as Stands
-use Rattle.tool_files.specs.declared.local.place.Way.{Way}
-use Rattle.tool_files.specs.declared.local.place.Way.TheVariants as Ways
+use Rattle.tool_files.specs.declared.local.place.FileKind.{FileKind}
+use Rattle.tool_files.specs.declared.local.place.FileKind.TheVariants as Stands
+use Rattle.tool_files.specs.declared.local.place.WriteMode.{WriteMode}
+use Rattle.tool_files.specs.declared.local.place.WriteMode.TheVariants as Ways
 
 -- what stands at the name, and whether links lead to what a process has open: a file is replaced, whose permissions the next one has; what is none is
 -- written as it stands; a directory takes no octets
-abbrev pub way_of : Standing → Bool → Way
+abbrev pub way_of : FileKind → Bool → WriteMode
 way_of Stands.Directory is_open = Ways.Nowhere
 way_of Stands.Other is_open = Ways.Into
 way_of (Stands.File mode) true = Ways.Into

@@ -11,14 +11,14 @@ const ROOM: usize = 8_192;
 
 /// A directory that is open: what is asked of it is of what stands in it, whatever becomes of its name meanwhile.
 #[derive(Drop)]
-pub(crate) struct Folder {
+pub(crate) struct OpenFolder {
     opened: OwnedFd,
 }
 
-impl Folder {
+impl OpenFolder {
     /// The directory below a root, whose path is `below` with slashes between its parts. Links of the root are followed; one below it is refused.
-    pub(crate) fn reach(alloc: Global, root: &str, below: &str) -> io::Result<Folder> {
-        let mut folder = Folder::root(alloc, root)?;
+    pub(crate) fn reach(alloc: Global, root: &str, below: &str) -> io::Result<OpenFolder> {
+        let mut folder = OpenFolder::root(alloc, root)?;
         for part in below.split('/') {
             if !part.is_empty() {
                 folder = folder.inner(part)?;
@@ -28,14 +28,14 @@ impl Folder {
     }
 
     /// A directory of this machine, where links lead.
-    fn root(alloc: Global, root: &str) -> io::Result<Folder> {
+    fn root(alloc: Global, root: &str) -> io::Result<OpenFolder> {
         let mut path: String<Global> = String::from_str(alloc, root)?;
         path.push_str("/.")?;
         opened(os::open_dir_at(libc::AT_FDCWD, path.as_bytes()))
     }
 
     /// A directory that stands in this one, and is no link.
-    fn inner(&self, name: &str) -> io::Result<Folder> {
+    fn inner(&self, name: &str) -> io::Result<OpenFolder> {
         if name == ".." {
             return Err(Error::from_raw_os_error(libc::EINVAL));
         }
@@ -79,12 +79,12 @@ impl Folder {
 }
 
 /// A directory that a call opened, or why it did not.
-fn opened(fd: i32) -> io::Result<Folder> {
+fn opened(fd: i32) -> io::Result<OpenFolder> {
     if fd < 0 {
         return Err(Error::from_raw_os_error(os::errno()));
     }
     let opened: OwnedFd = unsafe { OwnedFd::from_raw_fd(fd) };
-    Ok(Folder { opened })
+    Ok(OpenFolder { opened })
 }
 
 fn check(status: i32) -> io::Result<()> {

@@ -1,6 +1,6 @@
 // What is asked of the places below a folder, as one trait without types of its own: what stands on it is proved for less than on the system's files.
-use crate::folders::folder::Folder;
-use crate::local::{Change, Flush, LocalFiles, OpenPart, OpenSource, Reading};
+use crate::folders::folder::OpenFolder;
+use crate::local::{Change, Flush, LimitedContent, LocalFiles, OpenPart, OpenSource};
 use ftp_facts::{Moment, Text};
 use std::alloc::Global;
 use std::fs::{File, Files, Metadata};
@@ -10,7 +10,7 @@ use std::{fs, io};
 
 /// What stands under a name of a directory.
 #[derive(Drop)]
-pub struct Finding {
+pub struct DirectoryEntry {
     /// Its octets, which need be no text.
     pub name: Text<Global>,
     /// What the system says of it, of a link itself; none where its name is no text.
@@ -20,7 +20,7 @@ pub struct Finding {
 /// What stands in a directory.
 #[derive(Drop)]
 pub enum Sightings {
-    All(Vec<Finding, Global>),
+    All(Vec<DirectoryEntry, Global>),
     /// More than were asked for.
     TooMany,
 }
@@ -37,7 +37,7 @@ pub struct OpenBelow {
 /// A directory that is open.
 #[derive(Drop)]
 pub struct OpenDir {
-    _folder: Folder,
+    _folder: OpenFolder,
 }
 
 /// Who has folders. A path `below` a root has slashes between its parts, and is empty for the root itself; no link below the root is followed.
@@ -49,7 +49,7 @@ pub trait Places {
     fn found(&self, root: &str, below: &str) -> io::Result<Option<Metadata>>;
 
     /// The octets of the file there, where it has `limit` octets at most.
-    fn read_below(&self, root: &str, below: &str, limit: u64) -> io::Result<Reading>;
+    fn read_below(&self, root: &str, below: &str, limit: u64) -> io::Result<LimitedContent>;
 
     /// Opens the file there, to be read as it goes; none where its size is not known.
     fn open_below(&self, root: &str, below: &str) -> io::Result<Option<OpenBelow>>;
@@ -90,7 +90,7 @@ pub trait Places {
 
 impl<R: Files<File = File> + Clock + AllocGlobal> Places for R {
     fn sightings(&self, root: &str, below: &str, most: usize) -> io::Result<Sightings> {
-        let folder = Folder::reach(self.alloc(), root, below)?;
+        let folder = OpenFolder::reach(self.alloc(), root, below)?;
         seen(self, self.alloc(), &folder, most)
     }
 
@@ -99,7 +99,7 @@ impl<R: Files<File = File> + Clock + AllocGlobal> Places for R {
         found_at(self, folder.path_of(self.alloc(), name)?.as_str())
     }
 
-    fn read_below(&self, root: &str, below: &str, limit: u64) -> io::Result<Reading> {
+    fn read_below(&self, root: &str, below: &str, limit: u64) -> io::Result<LimitedContent> {
         let (_folder, path) = file_at(self, self.alloc(), root, below)?;
         self.read_from(path.as_str(), 0, limit)
     }
@@ -184,7 +184,7 @@ fn file_at<R: Files>(
     alloc: Global,
     root: &str,
     below: &str,
-) -> io::Result<(Folder, String<Global>)> {
+) -> io::Result<(OpenFolder, String<Global>)> {
     let (folder, name) = parent(alloc, root, below)?;
     let path = folder.path_of(alloc, name)?;
     if !fs::symlink_metadata(files, path.as_str())?.is_file() {
@@ -194,7 +194,7 @@ fn file_at<R: Files>(
 }
 
 /// The directory in which something stands below a root, and its name there.
-fn parent<'a>(alloc: Global, root: &str, below: &'a str) -> io::Result<(Folder, &'a str)> {
+fn parent<'a>(alloc: Global, root: &str, below: &'a str) -> io::Result<(OpenFolder, &'a str)> {
     let (dir, name) = match below.rsplit_once('/') {
         Some((dir, name)) => (dir, name),
         None => ("", below),
@@ -202,7 +202,7 @@ fn parent<'a>(alloc: Global, root: &str, below: &'a str) -> io::Result<(Folder, 
     if name.is_empty() || name == "." || name == ".." {
         return Err(Error::from(ErrorKind::InvalidInput));
     }
-    Ok((Folder::reach(alloc, root, dir)?, name))
+    Ok((OpenFolder::reach(alloc, root, dir)?, name))
 }
 
 /// What the system says of what has a name, be it a link; none where nothing has it.
@@ -215,9 +215,14 @@ fn found_at<R: Files>(files: &R, path: &str) -> io::Result<Option<Metadata>> {
 }
 
 /// What stands in a directory that is open.
-fn seen<R: Files>(files: &R, alloc: Global, folder: &Folder, most: usize) -> io::Result<Sightings> {
+fn seen<R: Files>(
+    files: &R,
+    alloc: Global,
+    folder: &OpenFolder,
+    most: usize,
+) -> io::Result<Sightings> {
     let mut all = Vec::new(alloc);
-    let mut room = Folder::room();
+    let mut room = OpenFolder::room();
     for _ in 0..u64::MAX {
         let count = folder.read_names(&mut room)?;
         if count == 0 {
@@ -236,9 +241,9 @@ fn seen<R: Files>(files: &R, alloc: Global, folder: &Folder, most: usize) -> io:
 fn put_names<R: Files>(
     files: &R,
     alloc: Global,
-    folder: &Folder,
+    folder: &OpenFolder,
     names: &[u8],
-    all: &mut Vec<Finding, Global>,
+    all: &mut Vec<DirectoryEntry, Global>,
 ) -> io::Result<()> {
     for name in names.split(|octet| *octet == 0) {
         if !is_dots(name) {
@@ -257,9 +262,9 @@ fn is_dots(name: &[u8]) -> bool {
 fn put_finding<R: Files>(
     files: &R,
     alloc: Global,
-    folder: &Folder,
+    folder: &OpenFolder,
     name: &[u8],
-    all: &mut Vec<Finding, Global>,
+    all: &mut Vec<DirectoryEntry, Global>,
 ) -> io::Result<()> {
     let found = match std::str::from_utf8(name) {
         Ok(text) => match found_at(files, folder.path_of(alloc, text)?.as_str())? {
@@ -269,6 +274,6 @@ fn put_finding<R: Files>(
         Err(_) => None,
     };
     let name = Text::copy_of(alloc, name)?;
-    all.push(Finding { name, found })?;
+    all.push(DirectoryEntry { name, found })?;
     Ok(())
 }

@@ -10,15 +10,15 @@ use std::time::SystemTime;
 
 /// Octets of a file, and when it was changed last, where that is known.
 #[derive(Drop)]
-pub struct Content {
+pub struct FileContent {
     pub octets: Vec<u8, Global>,
     pub changed: Option<SystemTime>,
 }
 
 /// What is read where a limit stands.
 #[derive(Drop)]
-pub enum Reading {
-    Content(Content),
+pub enum LimitedContent {
+    Content(FileContent),
     /// There are more octets than the limit: so many where the size is known before the end, and else so many at least.
     TooLarge(u64),
 }
@@ -29,11 +29,11 @@ pub fn read_from<R: Files + AllocGlobal>(
     file: &str,
     from: u64,
     limit: u64,
-) -> io::Result<Reading> {
+) -> io::Result<LimitedContent> {
     let mut opened = File::open(files, file)?;
     let found = opened.metadata()?;
     if found.len() > limit {
-        return Ok(Reading::TooLarge(found.len()));
+        return Ok(LimitedContent::TooLarge(found.len()));
     }
     if from > 0 {
         let _place = opened.seek(SeekFrom::Start(from))?;
@@ -43,7 +43,7 @@ pub fn read_from<R: Files + AllocGlobal>(
 }
 
 /// All octets that a reader gives, where these are `limit` at most.
-pub fn read_most<F: Read>(alloc: Global, reader: &mut F, limit: u64) -> io::Result<Reading> {
+pub fn read_most<F: Read>(alloc: Global, reader: &mut F, limit: u64) -> io::Result<LimitedContent> {
     read_into(reader, Vec::new(alloc), 0, limit, None)
 }
 
@@ -54,14 +54,14 @@ fn read_into<F: Read>(
     from: u64,
     limit: u64,
     changed: Option<SystemTime>,
-) -> io::Result<Reading> {
+) -> io::Result<LimitedContent> {
     let mut octets = octets;
     let _count = reader.take(room_for(from, limit)).read_to_end(&mut octets)?;
     let size = from.saturating_add(octets.len() as u64);
     if size > limit {
-        return Ok(Reading::TooLarge(size));
+        return Ok(LimitedContent::TooLarge(size));
     }
-    Ok(Reading::Content(Content { octets, changed }))
+    Ok(LimitedContent::Content(FileContent { octets, changed }))
 }
 
 /// How many octets are read from one of them on, so that more than the limit are noticed.

@@ -3,10 +3,10 @@
 ghost use Rattle.std.specs.Prelude.{ℕ, IfOk, ⊤};
 ghost use Rattle.tool_files.specs.declared.local.open_part.OpenPart.{OpenPart};
 
-use crate::local::content::{Reading, read_from};
-use crate::local::identity::Look;
+use crate::local::content::{LimitedContent, read_from};
+use crate::local::identity::FileStatus;
 use crate::local::open_part::OpenPart;
-use crate::local::place::Standing;
+use crate::local::place::FileKind;
 use crate::local::writing::{create_beside, open_again, write_into, write_new};
 use ftp_facts::Text;
 use std::alloc::Global;
@@ -21,7 +21,7 @@ pub(crate) struct Reopened {
     pub(crate) opened: File,
     /// How many octets it has.
     pub(crate) count: u64,
-    pub(crate) look: Look,
+    pub(crate) look: FileStatus,
 }
 
 /// What is asked of files by their names.
@@ -30,13 +30,13 @@ pub(crate) trait Disk {
     ghost has_length: { OpenPart → (length : ℕ) → Type 0 } = { λ part length. ⊤ };
 
     /// All octets of a file, where it has `limit` octets at most.
-    fn read(&self, name: &str, limit: u64) -> io::Result<Reading>;
+    fn read(&self, name: &str, limit: u64) -> io::Result<LimitedContent>;
 
     /// What stands at a name, where links are followed.
-    fn standing_at(&self, name: &str) -> io::Result<Standing>;
+    fn standing_at(&self, name: &str) -> io::Result<FileKind>;
 
     /// What has this very name, be it a link; none where nothing has it.
-    fn look_at(&self, name: &str) -> io::Result<Option<Look>>;
+    fn look_at(&self, name: &str) -> io::Result<Option<FileStatus>>;
 
     /// The permissions of the file that has this very name; none where no file has it, as where a link has.
     fn mode_at(&self, name: &str) -> io::Result<Option<u32>>;
@@ -79,15 +79,15 @@ pub(crate) trait Disk {
 }
 
 impl<R: Files<File = File> + AllocGlobal> Disk for R {
-    fn read(&self, name: &str, limit: u64) -> io::Result<Reading> {
+    fn read(&self, name: &str, limit: u64) -> io::Result<LimitedContent> {
         read_from(self, name, 0, limit)
     }
 
-    fn standing_at(&self, name: &str) -> io::Result<Standing> {
+    fn standing_at(&self, name: &str) -> io::Result<FileKind> {
         standing_at(self, name)
     }
 
-    fn look_at(&self, name: &str) -> io::Result<Option<Look>> {
+    fn look_at(&self, name: &str) -> io::Result<Option<FileStatus>> {
         look_at(self, name)
     }
 
@@ -127,7 +127,7 @@ impl<R: Files<File = File> + AllocGlobal> Disk for R {
                 Ok(Some(Reopened {
                     opened,
                     count: found.len(),
-                    look: Look::of(&found),
+                    look: FileStatus::of(&found),
                 }))
             }
             None => Ok(None),
@@ -159,26 +159,26 @@ impl<R: Files<File = File> + AllocGlobal> Disk for R {
     }
 }
 
-fn standing_at<R: Files>(files: &R, name: &str) -> io::Result<Standing> {
+fn standing_at<R: Files>(files: &R, name: &str) -> io::Result<FileKind> {
     match fs::metadata(files, name) {
-        Ok(found) => Ok(Standing::of(&found)),
-        Err(error) if error.kind() == ErrorKind::NotFound => Ok(Standing::Nothing),
+        Ok(found) => Ok(FileKind::of(&found)),
+        Err(error) if error.kind() == ErrorKind::NotFound => Ok(FileKind::Nothing),
         Err(error) => Err(error),
     }
 }
 
-fn look_at<R: Files>(files: &R, name: &str) -> io::Result<Option<Look>> {
+fn look_at<R: Files>(files: &R, name: &str) -> io::Result<Option<FileStatus>> {
     match fs::symlink_metadata(files, name) {
-        Ok(found) => Ok(Some(Look::of(&found))),
+        Ok(found) => Ok(Some(FileStatus::of(&found))),
         Err(error) if error.kind() == ErrorKind::NotFound => Ok(None),
         Err(error) => Err(error),
     }
 }
 
 /// The permissions of a file.
-fn mode_of(standing: Standing) -> Option<u32> {
+fn mode_of(standing: FileKind) -> Option<u32> {
     match standing {
-        Standing::File(mode) => Some(mode),
+        FileKind::File(mode) => Some(mode),
         _ => None,
     }
 }

@@ -2,7 +2,7 @@
 ghost use Rattle.std.specs.Prelude.{◌≡◌};
 ghost use Rattle.tool_files.specs.local.Identity.{is_file, is_lone_file, is_own_part, is_same_file};
 
-use crate::local::place::Standing;
+use crate::local::place::FileKind;
 use std::fs::Metadata;
 use std::os::unix::fs::MetadataExt;
 
@@ -15,22 +15,22 @@ pub struct FileId {
 
 /// What the system says of what is open, or of what has a name.
 #[derive(Clone, Copy)]
-pub struct Look {
+pub struct FileStatus {
     pub id: FileId,
-    pub standing: Standing,
+    pub standing: FileKind,
     /// How many names it has.
     pub links: u64,
 }
 
-impl Look {
+impl FileStatus {
     /// What the system found.
-    pub(crate) fn of(found: &Metadata) -> Look {
-        Look {
+    pub(crate) fn of(found: &Metadata) -> FileStatus {
+        FileStatus {
             id: FileId {
                 device: found.dev(),
                 inode: found.ino(),
             },
-            standing: Standing::of(found),
+            standing: FileKind::of(found),
             links: found.nlink(),
         }
     }
@@ -47,24 +47,24 @@ pub fn is_same_file(opened: FileId, named: Option<FileId>) -> bool
 }
 
 /// Whether it is a regular file that has one name at most.
-pub fn is_lone_file(look: Look) -> bool
+pub fn is_lone_file(look: FileStatus) -> bool
     ensures { result ≡ is_lone_file look }
 {
     is_file(look.standing) && look.links < 2
 }
 
 /// Whether a part that was opened again may be written to, where the file of this identity has its name.
-pub fn is_own_part(opened: Look, named: Option<FileId>) -> bool
+pub fn is_own_part(opened: FileStatus, named: Option<FileId>) -> bool
     ensures { result ≡ is_own_part opened named }
 {
     is_lone_file(opened) && is_same_file(opened.id, named)
 }
 
-fn is_file(standing: Standing) -> bool
+fn is_file(standing: FileKind) -> bool
     ensures { result ≡ is_file standing }
 {
     match standing {
-        Standing::File(_) => true,
-        Standing::Directory | Standing::Other | Standing::Nothing => false,
+        FileKind::File(_) => true,
+        FileKind::Directory | FileKind::Other | FileKind::Nothing => false,
     }
 }

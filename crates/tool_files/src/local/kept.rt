@@ -2,13 +2,13 @@
 ghost use Rattle.std.specs.Prelude.{◌≡◌};
 ghost use Rattle.tool_files.specs.local.Note.{is_part_of};
 
-use crate::local::content::Reading;
+use crate::local::content::LimitedContent;
 use crate::local::disk::{Disk, Reopened};
 use crate::local::identity::{is_lone_file, is_own_part};
 use crate::local::note::{GROWING, Note, note_in};
 use crate::local::open_part::OpenPart;
 use crate::local::part::beside;
-use crate::local::place::{Place, Standing, place_of};
+use crate::local::place::{Destination, FileKind, place_of};
 use crate::local::writing::PARTS;
 use std::alloc::{AllocError, Global};
 use std::io;
@@ -22,7 +22,7 @@ const NOTE_LIMIT: u64 = 65_536;
 
 /// A part of a download, open to be gone on with.
 #[derive(Drop)]
-pub struct Kept {
+pub struct KeptPart {
     pub part: OpenPart,
     /// How many octets it has.
     pub count: u64,
@@ -31,9 +31,9 @@ pub struct Kept {
 
 /// What stands beside a file.
 #[derive(Drop)]
-pub enum Beside {
+pub enum PartBeside {
     /// A part with its note.
-    Kept(Kept),
+    Kept(KeptPart),
     /// A part of this name, which has a note that fits and is not gone on with, since it is a link, no regular file, or called otherwise too.
     Refused(String<Global>),
     /// A part of which there is no note, or one that does not fit.
@@ -43,8 +43,8 @@ pub enum Beside {
 
 /// What stands at the name of a part.
 #[derive(Drop)]
-enum Found {
-    Kept(Kept),
+enum FoundPart {
+    Kept(KeptPart),
     /// A link, what is no regular file, or a file that has another name too: nothing is written there.
     Foreign,
     /// No part that is gone on with.
@@ -57,10 +57,10 @@ pub(crate) fn kept_beside<D: Disk>(
     alloc: Global,
     file: &str,
     place: &[u8],
-) -> io::Result<Beside> {
+) -> io::Result<PartBeside> {
     match &place_of(disk, alloc, file)? {
-        Place::File { name, mode } => kept_at(disk, alloc, name.as_str(), place, *mode),
-        Place::Device => Ok(Beside::Nothing),
+        Destination::File { name, mode } => kept_at(disk, alloc, name.as_str(), place, *mode),
+        Destination::Device => Ok(PartBeside::Nothing),
     }
 }
 
@@ -71,23 +71,23 @@ fn kept_at<D: Disk>(
     name: &str,
     place: &[u8],
     mode: Option<u32>,
-) -> io::Result<Beside> {
+) -> io::Result<PartBeside> {
     let mut refused = None;
     for number in 0..PARTS {
         match kept_as(disk, alloc, name, number, place, mode)? {
-            Found::Kept(kept) => return Ok(Beside::Kept(kept)),
-            Found::Foreign if refused.is_none() => refused = Some(number),
-            Found::Foreign | Found::Other => {}
+            FoundPart::Kept(kept) => return Ok(PartBeside::Kept(kept)),
+            FoundPart::Foreign if refused.is_none() => refused = Some(number),
+            FoundPart::Foreign | FoundPart::Other => {}
         }
     }
     if let Some(number) = refused {
-        return Ok(Beside::Refused(beside(alloc, name, number)?));
+        return Ok(PartBeside::Refused(beside(alloc, name, number)?));
     }
     let first = beside(alloc, name, 0)?;
     Ok(if disk.exists(first.as_str())? {
-        Beside::Unnoted
+        PartBeside::Unnoted
     } else {
-        Beside::Nothing
+        PartBeside::Nothing
     })
 }
 
@@ -99,22 +99,22 @@ fn kept_as<D: Disk>(
     number: u32,
     place: &[u8],
     mode: Option<u32>,
-) -> io::Result<Found> {
+) -> io::Result<FoundPart> {
     let part = beside(alloc, name, number)?;
     let Some(note) = noted(disk, alloc, part.as_str(), place)? else {
-        return Ok(Found::Other);
+        return Ok(FoundPart::Other);
     };
     match disk.look_at(part.as_str())? {
         Some(look) if is_lone_file(look) => {}
-        Some(_) => return Ok(Found::Foreign),
-        None => return Ok(Found::Other),
+        Some(_) => return Ok(FoundPart::Foreign),
+        None => return Ok(FoundPart::Other),
     }
     let Some(again) = disk.open_again(part.as_str())? else {
-        return Ok(Found::Other);
+        return Ok(FoundPart::Other);
     };
     let named = disk.look_at(part.as_str())?.map(|look| look.id);
     if !is_own_part(again.look, named) {
-        return Ok(Found::Foreign);
+        return Ok(FoundPart::Foreign);
     }
     taken_up(alloc, again, note, number, mode)
 }
@@ -126,16 +126,16 @@ fn taken_up(
     note: Note,
     number: u32,
     mode: Option<u32>,
-) -> io::Result<Found> {
+) -> io::Result<FoundPart> {
     let Reopened {
         opened,
         count,
         look: _,
     } = again;
     if !is_part_of(note, count) {
-        return Ok(Found::Other);
+        return Ok(FoundPart::Other);
     }
-    Ok(Found::Kept(Kept {
+    Ok(FoundPart::Kept(KeptPart {
         part: OpenPart::new(alloc, number, opened, mode)?,
         count,
         note,
@@ -160,12 +160,12 @@ fn noted<D: Disk>(disk: &D, alloc: Global, part: &str, place: &[u8]) -> io::Resu
 
 /// The octets of a file; none where there is no such file, or one of too many octets. What is none, as a pipe, is not waited for.
 fn octets_of<D: Disk>(disk: &D, file: &str, limit: u64) -> io::Result<Option<Vec<u8, Global>>> {
-    if !matches!(disk.standing_at(file)?, Standing::File(_)) {
+    if !matches!(disk.standing_at(file)?, FileKind::File(_)) {
         return Ok(None);
     }
     match disk.read(file, limit) {
-        Ok(Reading::Content(content)) => Ok(Some(content.octets)),
-        Ok(Reading::TooLarge(_)) => Ok(None),
+        Ok(LimitedContent::Content(content)) => Ok(Some(content.octets)),
+        Ok(LimitedContent::TooLarge(_)) => Ok(None),
         Err(error) if error.kind() == ErrorKind::NotFound => Ok(None),
         Err(error) => Err(error),
     }

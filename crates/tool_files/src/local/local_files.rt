@@ -1,8 +1,8 @@
 // The files of this end as one trait without types of its own: what stands on it is proved for less than on the system's, which has two types and
 // their bounds.
 use crate::local::change::{Change, changed};
-use crate::local::content::{Reading, read_from};
-use crate::local::kept::{Beside, kept_beside};
+use crate::local::content::{LimitedContent, read_from};
+use crate::local::kept::{PartBeside, kept_beside};
 use crate::local::open_part::OpenPart;
 use crate::local::open_source::{OpenSource, open_source};
 use crate::local::part::{
@@ -22,7 +22,7 @@ pub trait LocalFiles {
     fn present(&self) -> u64;
 
     /// The octets of a file from one of them on, where it has `limit` octets at most.
-    fn read_from(&self, file: &str, from: u64, limit: u64) -> io::Result<Reading>;
+    fn read_from(&self, file: &str, from: u64, limit: u64) -> io::Result<LimitedContent>;
 
     /// Writes the octets of a file: beside its name, to where links lead, and moved over it; into what is no file, as it stands. It keeps the permissions
     /// of the file that it replaces; its last change was at the moment, where there is one.
@@ -95,7 +95,7 @@ pub trait LocalFiles {
 
     /// The first part beside a file that is what its note says, of the file at this place of a server, that has one name, and that no other
     /// process has open.
-    fn kept_beside(&self, file: &str, place: &[u8]) -> io::Result<Beside>;
+    fn kept_beside(&self, file: &str, place: &[u8]) -> io::Result<PartBeside>;
 
     /// Changes what stands at a place, beside the octets of files.
     fn change(&self, change: Change, place: &str) -> io::Result<()>;
@@ -109,7 +109,7 @@ impl<R: Files<File = File> + Clock + AllocGlobal> LocalFiles for R {
         }
     }
 
-    fn read_from(&self, file: &str, from: u64, limit: u64) -> io::Result<Reading> {
+    fn read_from(&self, file: &str, from: u64, limit: u64) -> io::Result<LimitedContent> {
         read_from(self, file, from, limit)
     }
 
@@ -188,7 +188,7 @@ impl<R: Files<File = File> + Clock + AllocGlobal> LocalFiles for R {
         own_name(self, self.alloc(), file, part)
     }
 
-    fn kept_beside(&self, file: &str, place: &[u8]) -> io::Result<Beside> {
+    fn kept_beside(&self, file: &str, place: &[u8]) -> io::Result<PartBeside> {
         kept_beside(self, self.alloc(), file, place)
     }
 

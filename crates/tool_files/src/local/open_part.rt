@@ -1,5 +1,5 @@
 // A part of a file that is open.
-use crate::local::identity::Look;
+use crate::local::identity::FileStatus;
 use std::alloc::{AllocError, Global};
 use std::fs::File;
 use std::io;
@@ -42,8 +42,8 @@ impl OpenPart {
     }
 
     /// What the system says of it, whatever became of its name.
-    pub(crate) fn look(&self) -> io::Result<Look> {
-        Ok(Look::of(&self.opened.metadata()?))
+    pub(crate) fn look(&self) -> io::Result<FileStatus> {
+        Ok(FileStatus::of(&self.opened.metadata()?))
     }
 
     /// Leaves its first octets, so many.

@@ -6,8 +6,8 @@ use crate::local::disk::Disk;
 use crate::local::identity::is_same_file;
 use crate::local::kept::{forget_note, name_of_note, write_note};
 use crate::local::open_part::OpenPart;
-use crate::local::place::{Place, place_of};
-use crate::local::writing::{Flush, Writing, settle, write_to};
+use crate::local::place::{Destination, place_of};
+use crate::local::writing::{FileWriting, Flush, settle, write_to};
 use ftp_facts::{Moment, Text};
 use itoa::Buffer;
 use std::alloc::{AllocError, Global};
@@ -28,8 +28,8 @@ pub(crate) fn write_over<D: Disk>(
     flush: Flush,
 ) -> io::Result<()> {
     match &place_of(disk, alloc, file)? {
-        Place::File { name, mode } => {
-            let writing = Writing {
+        Destination::File { name, mode } => {
+            let writing = FileWriting {
                 pieces,
                 kept: *mode,
                 moment,
@@ -37,7 +37,7 @@ pub(crate) fn write_over<D: Disk>(
             };
             replace(disk, alloc, name.as_str(), writing)
         }
-        Place::Device => disk.write_into(file, pieces),
+        Destination::Device => disk.write_into(file, pieces),
     }
 }
 
@@ -50,7 +50,7 @@ pub(crate) fn write_at<D: Disk>(
     moment: Option<Moment>,
     flush: Flush,
 ) -> io::Result<()> {
-    let writing = Writing {
+    let writing = FileWriting {
         pieces,
         kept: disk.mode_at(name)?,
         moment,
@@ -61,7 +61,12 @@ pub(crate) fn write_at<D: Disk>(
 
 /// Writes a file beside its name, flushes it where that comes first, and moves it over the name. Where that fails, what was written beside is removed
 /// again.
-fn replace<D: Disk>(disk: &D, alloc: Global, file: &str, writing: Writing<'_>) -> io::Result<()> {
+fn replace<D: Disk>(
+    disk: &D,
+    alloc: Global,
+    file: &str,
+    writing: FileWriting<'_>,
+) -> io::Result<()> {
     let part = disk.create_beside(file, writing.kept, false, &[])?;
     let name = beside(alloc, file, part.number)?;
     let done = match write_to(&part, writing) {
@@ -107,10 +112,10 @@ pub(crate) fn begin_part<D: Disk>(
     passed: &[u32],
 ) -> io::Result<Option<OpenPart>> {
     match &place_of(disk, alloc, file)? {
-        Place::File { name, mode } => {
+        Destination::File { name, mode } => {
             Ok(Some(disk.create_beside(name.as_str(), *mode, is_noted, passed)?))
         }
-        Place::Device => Ok(None),
+        Destination::Device => Ok(None),
     }
 }
 
@@ -241,8 +246,11 @@ fn name_of<D: Disk>(
 /// The name beside which a file is written.
 fn file_of<D: Disk>(disk: &D, alloc: Global, file: &str) -> io::Result<PathBuf<Global>> {
     match place_of(disk, alloc, file)? {
-        Place::File { name, mode: _ } => Ok(name),
-        Place::Device => Err(Error::new(ErrorKind::InvalidInput, "no file stands beside a device")),
+        Destination::File { name, mode: _ } => Ok(name),
+        Destination::Device => Err(Error::new(
+            ErrorKind::InvalidInput,
+            "no file stands beside a device",
+        )),
     }
 }
 

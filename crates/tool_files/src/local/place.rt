@@ -18,7 +18,7 @@ const PROCESSES: &str = "/proc/";
 
 /// What stands at a name, or where the links from it lead.
 #[derive(Clone, Copy)]
-pub enum Standing {
+pub enum FileKind {
     Nothing,
     /// A file with these permissions.
     File(u32),
@@ -27,22 +27,22 @@ pub enum Standing {
     Other,
 }
 
-impl Standing {
+impl FileKind {
     /// What the system found at a name.
-    pub(crate) fn of(found: &Metadata) -> Standing {
+    pub(crate) fn of(found: &Metadata) -> FileKind {
         if found.is_file() {
-            Standing::File(found.permissions().mode() & 0o777)
+            FileKind::File(found.permissions().mode() & 0o777)
         } else if found.is_dir() {
-            Standing::Directory
+            FileKind::Directory
         } else {
-            Standing::Other
+            FileKind::Other
         }
     }
 }
 
 /// How octets get to a name.
 #[derive(Clone, Copy)]
-pub enum Way {
+pub enum WriteMode {
     /// They are written beside it, and moved over it, with these permissions, where a file stands there.
     Over(Option<u32>),
     /// Behind what stands there, which is never replaced.
@@ -52,7 +52,7 @@ pub enum Way {
 
 /// Where the octets of a file go.
 #[derive(Drop)]
-pub(crate) enum Place {
+pub(crate) enum Destination {
     /// A file is written beside this name and moved over it. The one that stands there, if one does, has these permissions.
     File {
         name: PathBuf<Global>,
@@ -62,26 +62,26 @@ pub(crate) enum Place {
 }
 
 /// Where the octets of a file go: past links, so that none is replaced by a file. No octets go to a directory.
-pub(crate) fn place_of<D: Disk>(disk: &D, alloc: Global, file: &str) -> io::Result<Place> {
+pub(crate) fn place_of<D: Disk>(disk: &D, alloc: Global, file: &str) -> io::Result<Destination> {
     let standing = disk.standing_at(file)?;
     let name = led(disk, alloc, file)?;
     match way_of(standing, name.as_str().starts_with(PROCESSES)) {
-        Way::Over(mode) => Ok(Place::File { name, mode }),
-        Way::Into => Ok(Place::Device),
-        Way::Nowhere => Err(bad("a directory has that name")),
+        WriteMode::Over(mode) => Ok(Destination::File { name, mode }),
+        WriteMode::Into => Ok(Destination::Device),
+        WriteMode::Nowhere => Err(bad("a directory has that name")),
     }
 }
 
 /// How octets get to a name where this stands; `is_open`: links lead to what a process has open.
-fn way_of(standing: Standing, is_open: bool) -> Way
+fn way_of(standing: FileKind, is_open: bool) -> WriteMode
     ensures { result ≡ way_of standing is_open }
 {
     match standing {
-        Standing::Directory => Way::Nowhere,
-        Standing::Other => Way::Into,
-        Standing::File(_) | Standing::Nothing if is_open => Way::Into,
-        Standing::File(mode) => Way::Over(Some(mode)),
-        Standing::Nothing => Way::Over(None),
+        FileKind::Directory => WriteMode::Nowhere,
+        FileKind::Other => WriteMode::Into,
+        FileKind::File(_) | FileKind::Nothing if is_open => WriteMode::Into,
+        FileKind::File(mode) => WriteMode::Over(Some(mode)),
+        FileKind::Nothing => WriteMode::Over(None),
     }
 }
 

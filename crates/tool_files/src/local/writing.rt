@@ -27,7 +27,7 @@ pub enum Flush {
 
 /// What goes into a file, and how.
 #[derive(Clone, Copy)]
-pub(crate) struct Writing<'a> {
+pub(crate) struct FileWriting<'a> {
     pub(crate) pieces: &'a [Text<Global>],
     /// The permissions of the file that it replaces, which it keeps.
     pub(crate) kept: Option<u32>,
@@ -106,7 +106,7 @@ fn has_note<R: Files>(files: &R, alloc: Global, part: &str) -> io::Result<bool> 
 }
 
 /// Writes the octets of a file, and flushes it where that comes first.
-pub(crate) fn write_to(part: &OpenPart, writing: Writing<'_>) -> io::Result<()> {
+pub(crate) fn write_to(part: &OpenPart, writing: FileWriting<'_>) -> io::Result<()> {
     let mut opened = part.writer();
     for piece in writing.pieces {
         opened.write_all(piece.as_slice())?;

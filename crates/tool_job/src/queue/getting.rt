@@ -1,8 +1,8 @@
 // A file that is one of several which are fetched.
 use crate::queue::job_queue::QueuedJob;
 use crate::single::{
-    Download, Job, OUTPUT, Parts, Target, Targets, discard, keep_part, leave, place_text, prepare,
-    stamp_of, tell_unwritten,
+    DownloadJob, Job, OUTPUT, PartHandling, Target, Targets, discard, keep_part, leave, place_text,
+    prepare, stamp_of, tell_unwritten,
 };
 use ftp_operation::Answer;
 use std::alloc::Global;
@@ -19,7 +19,7 @@ pub struct Getting<'a> {
     pub alloc: Global,
     /// What is asked, but for the path of a file.
     pub asked: Target<'a>,
-    pub parts: Parts,
+    pub parts: PartHandling,
     /// Whether the last change of a file is to be at the server's moment of it.
     pub moment: bool,
     /// Where the files of the same command line go, where there are several.
@@ -34,7 +34,7 @@ impl<'a> Getting<'a> {
     {
         Ok(Job {
             alloc: self.alloc,
-            download: Download {
+            download: DownloadJob {
                 file,
                 parts: self.parts,
                 moment: self.moment,
@@ -149,7 +149,7 @@ impl<'a, R: LocalFiles + Print + Eprint> Fetched<'a, R> {
 impl<'a, R: LocalFiles + Print + Eprint> QueuedJob for Fetched<'a, R> {
     /// A part that is kept may be gone on with: what is told of it is told in its turn.
     fn foresee<S: ClientSession>(&mut self, slot: &mut S) {
-        if matches!(self.getting.parts, Parts::Continued) {
+        if matches!(self.getting.parts, PartHandling::Continued) {
             return;
         }
         self.take_up();
@@ -182,7 +182,7 @@ impl<'a, R: LocalFiles + Print + Eprint> QueuedJob for Fetched<'a, R> {
         self.fault.is_none() && !self.downloading.is_spent()
     }
 
-    fn leave(&mut self, answer: &Answer<Global>, noticed: &LastReply) -> io::Result<Status> {
+    fn leave(&mut self, answer: &Answer<Global>, last_reply: &LastReply) -> io::Result<Status> {
         self.take_up();
         let rt = self.rt;
         if let Some(error) = self.fault {
@@ -190,12 +190,19 @@ impl<'a, R: LocalFiles + Print + Eprint> QueuedJob for Fetched<'a, R> {
         }
         let job = self.job()?;
         let nothing = LastReply::new();
-        let noticed = if self.is_named && !matches!(answer, Answer::Lost) {
+        let last_reply = if self.is_named && !matches!(answer, Answer::Lost) {
             &nothing
         } else {
-            noticed
+            last_reply
         };
-        leave(rt, &self.asked(), &job, answer, &self.downloading, noticed)
+        leave(
+            rt,
+            &self.asked(),
+            &job,
+            answer,
+            &self.downloading,
+            last_reply,
+        )
     }
 
     fn stop(&mut self, stop: SessionFault) -> io::Result<Status> {

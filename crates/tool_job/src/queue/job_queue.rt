@@ -35,7 +35,7 @@ pub trait QueuedJob {
     fn goes_on(&self) -> bool;
 
     /// Leaves at this end what came of it, as the server answered; tells why it is not done, if it is not, and gives the exit status.
-    fn leave(&mut self, answer: &Answer<Global>, noticed: &LastReply) -> io::Result<Status>;
+    fn leave(&mut self, answer: &Answer<Global>, last_reply: &LastReply) -> io::Result<Status>;
 
     /// The same where it was stopped.
     fn stop(&mut self, stop: SessionFault) -> io::Result<Status>;
@@ -48,7 +48,7 @@ pub trait QueuedJob {
 }
 
 /// What waits until it is taken up.
-pub trait Waiting<E> {
+pub trait WaitingJobs<E> {
     /// The next one; of it nothing was asked yet.
     fn next(&mut self) -> io::Result<Option<E>>;
 }
@@ -100,7 +100,7 @@ impl<'a, R, E: Drop, W: Drop> Drop for JobQueue<'a, R, E, W> {
     }
 }
 
-impl<'a, R: Eprint, E: QueuedJob + Drop, W: Waiting<E> + Drop> JobQueue<'a, R, E, W> {
+impl<'a, R: Eprint, E: QueuedJob + Drop, W: WaitingJobs<E> + Drop> JobQueue<'a, R, E, W> {
     /// Of which nothing was asked yet. `done` says what one is not that is not done.
     pub fn new(
         rt: &'a R,
@@ -229,8 +229,8 @@ impl<'a, R: Eprint, E: QueuedJob + Drop, W: Waiting<E> + Drop> JobQueue<'a, R, E
             }
             self.is_over = true;
         }
-        let noticed = slot.take_noticed();
-        at(Phase::Report, self.left(queued_job, &answer, &noticed))?;
+        let last_reply = slot.take_noticed();
+        at(Phase::Report, self.left(queued_job, &answer, &last_reply))?;
         Ok(None)
     }
 
@@ -239,10 +239,10 @@ impl<'a, R: Eprint, E: QueuedJob + Drop, W: Waiting<E> + Drop> JobQueue<'a, R, E
         &mut self,
         queued_job: E,
         answer: &Answer<Global>,
-        noticed: &LastReply,
+        last_reply: &LastReply,
     ) -> io::Result<()> {
         let mut queued_job = queued_job;
-        let status = queued_job.leave(answer, noticed)?;
+        let status = queued_job.leave(answer, last_reply)?;
         self.count(&queued_job, status)
     }
 
@@ -264,10 +264,10 @@ impl<'a, R: Eprint, E: QueuedJob + Drop, W: Waiting<E> + Drop> JobQueue<'a, R, E
     }
 
     /// The one that has its turn is left as the server answered, over no control connection any more; says whether there was one.
-    pub fn give_up(&mut self, answer: &Answer<Global>, noticed: &LastReply) -> io::Result<bool> {
+    pub fn give_up(&mut self, answer: &Answer<Global>, last_reply: &LastReply) -> io::Result<bool> {
         match self.next()? {
             Some(queued_job) => {
-                self.left(queued_job, answer, noticed)?;
+                self.left(queued_job, answer, last_reply)?;
                 Ok(true)
             }
             None => Ok(false),
@@ -297,7 +297,7 @@ impl<'a, R, E, W> SessionTask<Result<Answer<Global>, SessionFault>> for JobQueue
 where
     R: Eprint,
     E: QueuedJob + Drop,
-    W: Waiting<E> + Drop,
+    W: WaitingJobs<E> + Drop,
 {
     fn play<S: ClientSession>(&mut self, slot: &mut S) -> Result<Answer<Global>, SessionFault> {
         self.begin();
@@ -315,17 +315,17 @@ pub fn done_all<R, E, W>(
     rt: &R,
     asked: &Target<'_>,
     job_queue: &mut JobQueue<'_, R, E, W>,
-    noticed: &mut LastReply,
+    last_reply: &mut LastReply,
 ) -> Result<Status, SessionFault>
 where
     R: Converses + Logins + Eprint,
     E: QueuedJob + Drop,
-    W: Waiting<E> + Drop,
+    W: WaitingJobs<E> + Drop,
 {
     for _ in 0..ROUNDS {
-        let goes_on = match walked(rt, asked, job_queue, noticed) {
+        let goes_on = match walked(rt, asked, job_queue, last_reply) {
             Ok(answer) => {
-                let left = went(job_queue, &answer, noticed);
+                let left = went(job_queue, &answer, last_reply);
                 drop(answer);
                 left
             }
@@ -334,7 +334,7 @@ where
         if !at(Phase::Report, goes_on)? {
             break;
         }
-        *noticed = LastReply::new();
+        *last_reply = LastReply::new();
     }
     Ok(job_queue.worst())
 }
@@ -343,17 +343,17 @@ where
 fn went<R, E, W>(
     job_queue: &mut JobQueue<'_, R, E, W>,
     answer: &Answer<Global>,
-    noticed: &LastReply,
+    last_reply: &LastReply,
 ) -> io::Result<bool>
 where
     R: Eprint,
     E: QueuedJob + Drop,
-    W: Waiting<E> + Drop,
+    W: WaitingJobs<E> + Drop,
 {
     match (answer, job_queue.often) {
         (Answer::Done, _) => Ok(false),
         (Answer::Lost, Often::Once) => Ok(true),
-        _ => job_queue.give_up(answer, noticed),
+        _ => job_queue.give_up(answer, last_reply),
     }
 }
 
@@ -362,19 +362,19 @@ fn walked<R, E, W>(
     rt: &R,
     asked: &Target<'_>,
     job_queue: &mut JobQueue<'_, R, E, W>,
-    noticed: &mut LastReply,
+    last_reply: &mut LastReply,
 ) -> Result<Answer<Global>, SessionFault>
 where
     R: Converses + Logins + Eprint,
     E: QueuedJob + Drop,
-    W: Waiting<E> + Drop,
+    W: WaitingJobs<E> + Drop,
 {
     if let Often::Once = job_queue.often {
-        return converse_as(rt, asked.server(), asked.user, noticed, job_queue);
+        return converse_as(rt, asked.server(), asked.user, last_reply, job_queue);
     }
     for _ in 0..ROUNDS {
         let before = job_queue.reach();
-        let answered = ask(rt, asked.server(), asked.user, noticed, job_queue);
+        let answered = ask(rt, asked.server(), asked.user, last_reply, job_queue);
         let is_lost = matches!(&answered, Ok(Answer::Lost));
         if !is_lost || job_queue.reach() == before {
             return answered;

@@ -1,6 +1,6 @@
 // A file that is one of several which are sent.
 use crate::queue::job_queue::QueuedJob;
-use crate::single::{Loaded, Target, TooLarge, load};
+use crate::single::{Loaded, Target, UploadTooLarge, load};
 use ftp_operation::Answer;
 use std::alloc::Global;
 use std::io;
@@ -12,7 +12,7 @@ use tool_terminal::Status;
 
 /// How files are sent.
 #[derive(Clone, Copy)]
-pub struct Putting<'a> {
+pub struct UploadSettings<'a> {
     pub alloc: Global,
     /// What is asked, but for the path of a file.
     pub asked: Target<'a>,
@@ -24,7 +24,7 @@ enum Hand<'a, R> {
     Nothing,
     Upload(Uploading<'a, R>),
     /// It has more octets than may be.
-    TooLarge(TooLarge),
+    TooLarge(UploadTooLarge),
     /// It can't be read.
     Unread(SessionFault),
 }
@@ -40,9 +40,9 @@ impl<'a, R> Drop for Hand<'a, R> {
 }
 
 /// A file that is one of several which are sent.
-pub struct Sent<'a, R> {
+pub struct QueuedUpload<'a, R> {
     rt: &'a R,
-    putting: Putting<'a>,
+    putting: UploadSettings<'a>,
     file: &'a str,
     path: &'a str,
     hand: Hand<'a, R>,
@@ -53,7 +53,7 @@ pub struct Sent<'a, R> {
 }
 
 /// By hand, as above.
-impl<'a, R> Drop for Sent<'a, R> {
+impl<'a, R> Drop for QueuedUpload<'a, R> {
     fn drop(self) {
         let Self {
             rt: _,
@@ -67,10 +67,15 @@ impl<'a, R> Drop for Sent<'a, R> {
     }
 }
 
-impl<'a, R: LocalFiles + Input + Eprint> Sent<'a, R> {
+impl<'a, R: LocalFiles + Input + Eprint> QueuedUpload<'a, R> {
     /// The file of this end, which goes to a path of the server; nothing was asked of it yet.
-    pub fn new(rt: &'a R, putting: Putting<'a>, file: &'a str, path: &'a str) -> Sent<'a, R> {
-        Sent {
+    pub fn new(
+        rt: &'a R,
+        putting: UploadSettings<'a>,
+        file: &'a str,
+        path: &'a str,
+    ) -> QueuedUpload<'a, R> {
+        QueuedUpload {
             rt,
             putting,
             file,
@@ -86,7 +91,7 @@ impl<'a, R: LocalFiles + Input + Eprint> Sent<'a, R> {
         if !matches!(&self.hand, Hand::Nothing) {
             return;
         }
-        let Putting { alloc, asked } = self.putting;
+        let UploadSettings { alloc, asked } = self.putting;
         self.hand = match at(Phase::Reading, load(self.rt, alloc, self.file, asked.limit)) {
             Ok(Ok(loaded)) => self.uploading(loaded),
             Ok(Err(large)) => Hand::TooLarge(large),
@@ -96,7 +101,7 @@ impl<'a, R: LocalFiles + Input + Eprint> Sent<'a, R> {
 
     /// The upload of a file that is at hand.
     fn uploading(&mut self, loaded: Loaded<'a>) -> Hand<'a, R> {
-        let Putting { alloc, asked } = self.putting;
+        let UploadSettings { alloc, asked } = self.putting;
         let mut loaded = loaded;
         self.sending = match loaded.seen {
             Some((total, changed)) => Some(Sending {
@@ -127,7 +132,7 @@ impl<'a, R: LocalFiles + Input + Eprint> Sent<'a, R> {
     }
 }
 
-impl<'a, R: LocalFiles + Input + Eprint> QueuedJob for Sent<'a, R> {
+impl<'a, R: LocalFiles + Input + Eprint> QueuedJob for QueuedUpload<'a, R> {
     fn foresee<S: ClientSession>(&mut self, slot: &mut S) {
         if self.is_ahead() {
             return;
@@ -169,13 +174,13 @@ impl<'a, R: LocalFiles + Input + Eprint> QueuedJob for Sent<'a, R> {
         matches!(&self.hand, Hand::Upload(_))
     }
 
-    fn leave(&mut self, answer: &Answer<Global>, noticed: &LastReply) -> io::Result<Status> {
+    fn leave(&mut self, answer: &Answer<Global>, last_reply: &LastReply) -> io::Result<Status> {
         self.take_up();
         let (rt, file) = (self.rt, self.file);
         let asked = self.asked();
         let subject = asked.subject(file);
         match &self.hand {
-            Hand::Upload(uploading) => uploading.finish(answer, noticed),
+            Hand::Upload(uploading) => uploading.finish(answer, last_reply),
             Hand::TooLarge(large) => tell_too_large(rt, file, large.size, large.limit),
             Hand::Unread(stop) => stop.tell(rt, subject),
             Hand::Nothing => Ok(Status::Failed),

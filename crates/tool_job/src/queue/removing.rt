@@ -81,8 +81,8 @@ impl<'a, R: Print + Eprint> QueuedJob for Removed<'a, R> {
         false
     }
 
-    fn leave(&mut self, answer: &Answer<Global>, noticed: &LastReply) -> io::Result<Status> {
-        report(self.rt, &self.asked, answer, noticed)
+    fn leave(&mut self, answer: &Answer<Global>, last_reply: &LastReply) -> io::Result<Status> {
+        report(self.rt, &self.asked, answer, last_reply)
     }
 
     fn stop(&mut self, stop: SessionFault) -> io::Result<Status> {

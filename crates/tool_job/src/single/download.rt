@@ -9,9 +9,10 @@ use std::alloc::{AllocError, Global};
 use std::io;
 use std::io::{Eprint, Error, Print, Write};
 use tool_connect::{Converses, Logins};
-use tool_files::{Beside, Flush, Kept, LocalFiles, OpenPart};
+use tool_files::{Flush, KeptPart, LocalFiles, OpenPart, PartBeside};
 use tool_resume::{
-    Arrival, Came, Downloading, Part, Stamp, is_counted, limit_held, tell, tell_too_large,
+    Arrival, Downloading, KnownMoment, ReceivedOctets, ToldPart, is_counted, limit_held, tell,
+    tell_too_large,
 };
 use tool_session::{LastReply, Phase, SessionFault, at, say, told};
 use tool_terminal::Status;
@@ -21,7 +22,7 @@ pub const OUTPUT: &str = "-";
 
 /// What becomes of the octets of a download that is not whole.
 #[derive(Clone, Copy)]
-pub enum Parts {
+pub enum PartHandling {
     Dropped,
     /// They are kept beside the file, in one of its name with `.ftp-part` behind.
     Kept,
@@ -31,10 +32,10 @@ pub enum Parts {
 
 /// A download.
 #[derive(Clone, Copy)]
-pub struct Download<'a> {
+pub struct DownloadJob<'a> {
     /// The file of this end: written beside its name, and moved over it once it is whole; `-` is standard output.
     pub file: &'a str,
-    pub parts: Parts,
+    pub parts: PartHandling,
     /// Whether its last change is to be at the server's moment of the file.
     pub moment: bool,
     /// Where the files of the same command line go, where there are several.
@@ -44,7 +45,7 @@ pub struct Download<'a> {
 /// A download, and the place of its file at a server.
 pub struct Job<'a> {
     pub alloc: Global,
-    pub download: Download<'a>,
+    pub download: DownloadJob<'a>,
     pub place: String<Global>,
 }
 
@@ -64,8 +65,8 @@ pub fn get<R>(
     rt: &R,
     alloc: Global,
     asked: &Target<'_>,
-    download: Download<'_>,
-    noticed: &mut LastReply,
+    download: DownloadJob<'_>,
+    last_reply: &mut LastReply,
 ) -> Result<Status, SessionFault>
 where
     R: Converses + Logins + LocalFiles + Print + Eprint,
@@ -77,7 +78,7 @@ where
         place: at(Phase::Asking, place_text(alloc, asked))?,
     };
     at(Phase::Writing, prepare(rt, &job, &mut downloading))?;
-    get_by(rt, asked, &job, &mut downloading, noticed)
+    get_by(rt, asked, &job, &mut downloading, last_reply)
 }
 
 /// A download of which nothing came yet.
@@ -85,7 +86,7 @@ fn begun<'a, R: LocalFiles + Eprint>(
     rt: &'a R,
     alloc: Global,
     asked: &Target<'a>,
-    download: Download<'_>,
+    download: DownloadJob<'_>,
 ) -> io::Result<Downloading<'a, R>> {
     let path = asked.place.path;
     let mut downloading = Downloading::new(rt, alloc, path, asked.how, asked.openings)?;
@@ -99,11 +100,11 @@ fn begun<'a, R: LocalFiles + Eprint>(
 }
 
 /// The moment is asked for where it is wanted, and where the size of the file tells whether it is the same still.
-pub fn stamp_of(how: How, moment: bool) -> Stamp {
+pub fn stamp_of(how: How, moment: bool) -> KnownMoment {
     if moment || is_counted(how) {
-        Stamp::Untold
+        KnownMoment::Untold
     } else {
-        Stamp::Unasked
+        KnownMoment::Unasked
     }
 }
 
@@ -120,7 +121,7 @@ pub fn prepare<R: LocalFiles + Eprint>(
     job: &Job<'_>,
     downloading: &mut Downloading<'_, R>,
 ) -> io::Result<()> {
-    let Download {
+    let DownloadJob {
         file,
         parts,
         moment: _,
@@ -129,14 +130,14 @@ pub fn prepare<R: LocalFiles + Eprint>(
     if file == OUTPUT {
         return Ok(());
     }
-    if parts != Parts::Continued || !resume(rt, job, downloading)? {
+    if parts != PartHandling::Continued || !resume(rt, job, downloading)? {
         let passed = passed_over(job)?;
-        match rt.begin_part(file, parts != Parts::Dropped, passed.as_slice())? {
+        match rt.begin_part(file, parts != PartHandling::Dropped, passed.as_slice())? {
             Some(part) => downloading.pour_into(part),
             None => return Ok(()),
         }
     }
-    if parts != Parts::Dropped {
+    if parts != PartHandling::Dropped {
         downloading.note_as(file, job.place.as_str())?;
     }
     Ok(())
@@ -157,12 +158,12 @@ fn resume<R: LocalFiles + Eprint>(
     downloading: &mut Downloading<'_, R>,
 ) -> io::Result<bool> {
     match rt.kept_beside(job.download.file, job.place.as_bytes())? {
-        Beside::Kept(kept) => {
-            let Kept { part, count, note } = kept;
+        PartBeside::Kept(kept) => {
+            let KeptPart { part, count, note } = kept;
             downloading.go_on_in(part, count, note.size, Moment::new(note.moment));
             Ok(true)
         }
-        Beside::Refused(name) => {
+        PartBeside::Refused(name) => {
             let _told = say(
                 rt,
                 "note: ",
@@ -171,7 +172,7 @@ fn resume<R: LocalFiles + Eprint>(
             );
             Ok(false)
         }
-        Beside::Unnoted => {
+        PartBeside::Unnoted => {
             let _told = say(
                 rt,
                 "note: no part beside ",
@@ -180,7 +181,7 @@ fn resume<R: LocalFiles + Eprint>(
             );
             Ok(false)
         }
-        Beside::Nothing => Ok(false),
+        PartBeside::Nothing => Ok(false),
     }
 }
 
@@ -190,14 +191,14 @@ fn get_by<R>(
     asked: &Target<'_>,
     job: &Job<'_>,
     downloading: &mut Downloading<'_, R>,
-    noticed: &mut LastReply,
+    last_reply: &mut LastReply,
 ) -> Result<Status, SessionFault>
 where
     R: Converses + Logins + LocalFiles + Print + Eprint,
 {
-    match ask_at(rt, asked, noticed, downloading) {
+    match ask_at(rt, asked, last_reply, downloading) {
         Ok(answer) => {
-            let left = leave(rt, asked, job, &answer, downloading, noticed);
+            let left = leave(rt, asked, job, &answer, downloading, last_reply);
             drop(answer);
             at(Phase::Report, left)
         }
@@ -215,7 +216,7 @@ pub fn leave<R: LocalFiles + Print + Eprint>(
     job: &Job<'_>,
     answer: &Answer<Global>,
     downloading: &Downloading<'_, R>,
-    noticed: &LastReply,
+    last_reply: &LastReply,
 ) -> io::Result<Status> {
     if let Some(error) = downloading.came().fault() {
         let status = tell_unwritten(rt, asked, job.download.file, error)?;
@@ -228,7 +229,7 @@ pub fn leave<R: LocalFiles + Print + Eprint>(
             keep_part(rt, job, downloading, status)
         }
         _ => {
-            let status = tell(rt, asked.place.path, asked.stranger(), answer, noticed)?;
+            let status = tell(rt, asked.place.path, asked.stranger(), answer, last_reply)?;
             keep_part(rt, job, downloading, status)
         }
     }
@@ -296,8 +297,8 @@ fn tell_unknown<R: Eprint>(rt: &R, asked: &Target<'_>) {
 }
 
 /// Tells that another number of octets came than the server says that the file has.
-fn tell_wrong<R: Eprint>(rt: &R, came: &Came, total: u64) -> io::Result<()> {
-    let told = Part {
+fn tell_wrong<R: Eprint>(rt: &R, came: &ReceivedOctets, total: u64) -> io::Result<()> {
+    let told = ToldPart {
         count: came.count(),
         between: " octets came of a file that has ",
         total,
@@ -358,7 +359,7 @@ fn written<R: LocalFiles + Print + Eprint>(
 /// The moment that the file's last change is to be at; where the server does not tell it, that is told.
 fn moment_for<R: LocalFiles + Eprint>(
     rt: &R,
-    download: Download<'_>,
+    download: DownloadJob<'_>,
     downloading: &Downloading<'_, R>,
 ) -> Option<Moment> {
     if !download.moment {
@@ -372,7 +373,7 @@ fn moment_for<R: LocalFiles + Eprint>(
 }
 
 /// Writes what came to standard output.
-fn put_out<R: Print>(rt: &R, came: &Came) -> io::Result<()> {
+fn put_out<R: Print>(rt: &R, came: &ReceivedOctets) -> io::Result<()> {
     let mut out = io::writer(rt);
     for piece in came.pieces() {
         out.write_all(piece.as_slice())?;
@@ -381,7 +382,7 @@ fn put_out<R: Print>(rt: &R, came: &Came) -> io::Result<()> {
 }
 
 /// Tells behind how many octets the data connection broke, and gives the exit status.
-fn tell_broken<R: Eprint>(rt: &R, came: &Came) -> io::Result<Status> {
+fn tell_broken<R: Eprint>(rt: &R, came: &ReceivedOctets) -> io::Result<Status> {
     told(
         rt,
         "error: the data connection broke behind ",
@@ -398,7 +399,7 @@ pub fn keep_part<R: LocalFiles + Eprint>(
     downloading: &Downloading<'_, R>,
     status: Status,
 ) -> io::Result<Status> {
-    let Download {
+    let DownloadJob {
         file,
         parts,
         moment: _,
@@ -408,7 +409,7 @@ pub fn keep_part<R: LocalFiles + Eprint>(
     let Some(part) = came.part() else {
         return Ok(status);
     };
-    if parts == Parts::Dropped || came.count() == 0 {
+    if parts == PartHandling::Dropped || came.count() == 0 {
         discard(rt, job, downloading);
         return Ok(status);
     }

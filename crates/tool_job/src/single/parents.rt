@@ -18,7 +18,7 @@ pub fn make_all<R>(
     rt: &R,
     alloc: Global,
     asked: &Target<'_>,
-    noticed: &mut LastReply,
+    last_reply: &mut LastReply,
 ) -> Result<Status, SessionFault>
 where
     R: Converses + Logins + Print + Eprint,
@@ -27,8 +27,8 @@ where
         alloc,
         path: asked.place.path,
     };
-    let answer = converse_as(rt, asked.server(), asked.user, noticed, &mut making)?;
-    at(Phase::Report, report(rt, asked, &answer, noticed))
+    let answer = converse_as(rt, asked.server(), asked.user, last_reply, &mut making)?;
+    at(Phase::Report, report(rt, asked, &answer, last_reply))
 }
 
 /// A directory that is to stand at a path.

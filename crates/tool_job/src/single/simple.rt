@@ -51,13 +51,13 @@ pub fn do_simple<R>(
     alloc: Global,
     asked: &Target<'_>,
     simple: Simple<'_>,
-    noticed: &mut LastReply,
+    last_reply: &mut LastReply,
 ) -> Result<Status, SessionFault>
 where
     R: Converses + Logins + Print + Eprint,
 {
-    let answer = ask_once(rt, alloc, asked, simple, noticed)?;
-    at(Phase::Report, report(rt, asked, &answer, noticed))
+    let answer = ask_once(rt, alloc, asked, simple, last_reply)?;
+    at(Phase::Report, report(rt, asked, &answer, last_reply))
 }
 
 /// Tells an answer at a path: a size on standard output, what was done not at all, and anything else as `tell` does.
@@ -65,7 +65,7 @@ pub fn report<R: Print + Eprint>(
     rt: &R,
     asked: &Target<'_>,
     answer: &Answer<Global>,
-    noticed: &LastReply,
+    last_reply: &LastReply,
 ) -> io::Result<Status> {
     match answer {
         Answer::Done | Answer::Path(_) => Ok(Status::Done),
@@ -73,6 +73,6 @@ pub fn report<R: Print + Eprint>(
             println!(rt; "{count}")?;
             Ok(Status::Done)
         }
-        _ => tell(rt, asked.place.path, asked.stranger(), answer, noticed),
+        _ => tell(rt, asked.place.path, asked.stranger(), answer, last_reply),
     }
 }

@@ -9,10 +9,10 @@ use std::alloc::{AllocError, Global};
 use std::io::{Eprint, Error, ErrorKind};
 use tool_connect::{Converses, Logins, ask, converse_as};
 use tool_listing::lists_nothing;
-use tool_session::{
-    ClientSession, Ending, LastReply, Openings, Phase, Request, SessionFault, SessionTask, at,
-};
 use tool_location::{last_part, says_directory};
+use tool_session::{
+    ClientSession, DataEnding, LastReply, Openings, Phase, Request, SessionFault, SessionTask, at,
+};
 
 /// What is wished for at a place.
 #[derive(Clone, Copy)]
@@ -36,7 +36,7 @@ pub(crate) fn ask_once<R>(
     alloc: Global,
     asked: &Target<'_>,
     simple: Simple<'_>,
-    noticed: &mut LastReply,
+    last_reply: &mut LastReply,
 ) -> Result<Answer<Global>, SessionFault>
 where
     R: Converses + Logins,
@@ -48,7 +48,7 @@ where
         openings: asked.openings,
         wish: Wish::Simple(simple),
     };
-    converse_as(rt, asked.server(), asked.user, noticed, &mut single)
+    converse_as(rt, asked.server(), asked.user, last_reply, &mut single)
 }
 
 /// Asks for one thing. Where its control connection ends, it is asked anew over another one.
@@ -57,7 +57,7 @@ pub fn ask_for<R>(
     alloc: Global,
     asked: &Target<'_>,
     wish: Wish<'_>,
-    noticed: &mut LastReply,
+    last_reply: &mut LastReply,
 ) -> Result<Answer<Global>, SessionFault>
 where
     R: Converses + Logins + Eprint,
@@ -69,21 +69,21 @@ where
         openings: asked.openings,
         wish,
     };
-    ask_at(rt, asked, noticed, &mut single)
+    ask_at(rt, asked, last_reply, &mut single)
 }
 
 /// Does a task that asks at a place, by its user. Where its control connection ends, it is done anew over another one.
 pub(crate) fn ask_at<R, P>(
     rt: &R,
     asked: &Target<'_>,
-    noticed: &mut LastReply,
+    last_reply: &mut LastReply,
     task: &mut P,
 ) -> Result<Answer<Global>, SessionFault>
 where
     R: Converses + Logins + Eprint,
     P: SessionTask<Result<Answer<Global>, SessionFault>>,
 {
-    ask(rt, asked.server(), asked.user, noticed, task)
+    ask(rt, asked.server(), asked.user, last_reply, task)
 }
 
 /// A wish at a path, whose request is made anew for each control connection.
@@ -204,7 +204,7 @@ impl<'a> SessionTask<Result<Answer<Global>, SessionFault>> for Single<'a> {
         let Ok(answer) = self.looked(slot) else {
             return Ok(Answer::Memory);
         };
-        if slot.ending() != Ending::PastLimit {
+        if slot.ending() != DataEnding::PastLimit {
             return Ok(answer);
         }
         drop(answer);

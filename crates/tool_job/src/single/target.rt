@@ -1,8 +1,8 @@
 // Which file of which server is meant, and who asks.
 use ftp_operation::How;
-use tool_session::{Openings, ServerAddress, Stranger, Subject};
 use tool_location::Location;
 use tool_login::User;
+use tool_session::{Openings, ServerAddress, Stranger, Subject};
 
 /// What is asked of which server, by whom.
 #[derive(Clone, Copy)]

@@ -6,8 +6,8 @@ use std::io;
 use std::io::Eprint;
 use std::time::SystemTime;
 use tool_connect::{Converses, Logins};
-use tool_files::{LocalFiles, Reading, read_most};
-use tool_resume::{Source, Uploading, limit_held, tell_too_large};
+use tool_files::{LimitedContent, LocalFiles, read_most};
+use tool_resume::{UploadSource, Uploading, limit_held, tell_too_large};
 use tool_session::{LastReply, Phase, SessionFault, at};
 use tool_terminal::Status;
 
@@ -20,14 +20,14 @@ pub fn put<R>(
     alloc: Global,
     asked: &Target<'_>,
     file: &str,
-    noticed: &mut LastReply,
+    last_reply: &mut LastReply,
 ) -> Result<Status, SessionFault>
 where
     R: Converses + Logins + LocalFiles + Input + Eprint,
 {
     let mut loaded = match at(Phase::Reading, load(rt, alloc, file, asked.limit))? {
         Ok(loaded) => loaded,
-        Err(TooLarge { size, limit }) => return at(
+        Err(UploadTooLarge { size, limit }) => return at(
             Phase::Report,
             tell_too_large(rt, file, size, limit),
         ),
@@ -37,19 +37,19 @@ where
     };
     let path = asked.place.path;
     let mut uploading = Uploading::new(rt, alloc, source, path, asked.how, asked.openings);
-    put_by(rt, asked, &mut uploading, noticed)
+    put_by(rt, asked, &mut uploading, last_reply)
 }
 
 /// What is not uploaded: it has more octets than may be.
 #[derive(Clone, Copy)]
-pub struct TooLarge {
+pub struct UploadTooLarge {
     pub size: u64,
     pub limit: u64,
 }
 
 /// What is uploaded.
 pub struct Loaded<'a> {
-    source: Option<Source<'a>>,
+    source: Option<UploadSource<'a>>,
     /// How many octets a file has, and when it was changed last, where that is known; nothing of what is held in memory.
     pub seen: Option<(u64, Option<SystemTime>)>,
 }
@@ -63,7 +63,7 @@ impl<'a> Drop for Loaded<'a> {
 
 impl<'a> Loaded<'a> {
     /// Its octets, once.
-    pub fn take_source(&mut self) -> Option<Source<'a>> {
+    pub fn take_source(&mut self) -> Option<UploadSource<'a>> {
         self.source.take()
     }
 }
@@ -74,27 +74,27 @@ pub fn load<'a, R: LocalFiles + Input>(
     alloc: Global,
     file: &'a str,
     limit: u64,
-) -> io::Result<Result<Loaded<'a>, TooLarge>> {
+) -> io::Result<Result<Loaded<'a>, UploadTooLarge>> {
     if file != INPUT {
         if let Some(opened) = rt.open_source(file, 0)? {
             let size = opened.total;
             return Ok(if size > limit {
-                Err(TooLarge { size, limit })
+                Err(UploadTooLarge { size, limit })
             } else {
                 Ok(Loaded {
                     seen: Some((size, opened.changed)),
-                    source: Some(Source::file(file, opened)),
+                    source: Some(UploadSource::file(file, opened)),
                 })
             });
         }
     }
     let limit = limit_held(limit);
     match read(rt, alloc, file, limit)? {
-        Reading::Content(content) => Ok(Ok(Loaded {
-            source: Some(Source::Kept(content.octets)),
+        LimitedContent::Content(content) => Ok(Ok(Loaded {
+            source: Some(UploadSource::Kept(content.octets)),
             seen: None,
         })),
-        Reading::TooLarge(size) => Ok(Err(TooLarge { size, limit })),
+        LimitedContent::TooLarge(size) => Ok(Err(UploadTooLarge { size, limit })),
     }
 }
 
@@ -104,7 +104,7 @@ fn read<R: LocalFiles + Input>(
     alloc: Global,
     file: &str,
     limit: u64,
-) -> io::Result<Reading> {
+) -> io::Result<LimitedContent> {
     if file == INPUT {
         read_most(alloc, &mut rt.reader(), limit)
     } else {
@@ -117,14 +117,14 @@ fn put_by<R>(
     rt: &R,
     asked: &Target<'_>,
     uploading: &mut Uploading<'_, R>,
-    noticed: &mut LastReply,
+    last_reply: &mut LastReply,
 ) -> Result<Status, SessionFault>
 where
     R: Converses + Logins + LocalFiles + Eprint,
 {
-    match ask_at(rt, asked, noticed, uploading) {
+    match ask_at(rt, asked, last_reply, uploading) {
         Ok(answer) => {
-            let finished = uploading.finish(&answer, noticed);
+            let finished = uploading.finish(&answer, last_reply);
             drop(answer);
             at(Phase::Report, finished)
         }

@@ -4,9 +4,9 @@ use Rattle.std.specs.List.{list_any}
 use Rattle.ftp_facts.specs.declared.entry.Entry.{Entry}
 use Rattle.ftp_facts.specs.declared.entry.EntryKind.{EntryKind}
 use Rattle.ftp_facts.specs.declared.entry.EntryKind.TheVariants as Kinds
-use Rattle.tool_listing.specs.declared.entries.item.Item.{Item}
-use Rattle.tool_listing.specs.declared.entries.item.Kind.{Kind}
-use Rattle.tool_listing.specs.declared.entries.item.Kind.TheVariants as Stands
+use Rattle.tool_listing.specs.declared.entries.item.ListedItem.{ListedItem}
+use Rattle.tool_listing.specs.declared.entries.item.ItemKind.{ItemKind}
+use Rattle.tool_listing.specs.declared.entries.item.ItemKind.TheVariants as Stands
 use Rattle.tool_listing.specs.entries.Lines.{is_listed, without_slash}
 use Rattle.tool_listing.specs.entries.Name.{is_name}
 use Rattle.tool_listing.specs.pattern.Pattern.{matches, question, star}
@@ -39,11 +39,11 @@ abbrev pub is_chosen_name : (pattern path name : List ℕ) → Bool
 is_chosen_name pattern path name = is_listed path name && matches pattern (bare_name path name)
 
 -- what is fetched by a pattern
-abbrev pub is_fetched : Kind → Bool
+abbrev pub is_fetched : ItemKind → Bool
 is_fetched (Stands.File facts) = true
 is_fetched Stands.Other = true
 is_fetched kind = false
 
 -- what stands under a name is chosen by a pattern
-abbrev pub is_chosen_item : {A : Type 0} → (pattern : List ℕ) → Item A → Bool
+abbrev pub is_chosen_item : {A : Type 0} → (pattern : List ℕ) → ListedItem A → Bool
 is_chosen_item pattern item = (is_fetched item.kind && is_name item.name) && matches pattern item.name

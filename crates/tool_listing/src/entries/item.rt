@@ -4,15 +4,15 @@ use std::alloc::Allocator;
 
 /// What is known of a file: its octets, and when it was changed last, in seconds since 1970 began.
 #[derive(Clone, Copy)]
-pub struct Facts {
+pub struct ItemFacts {
     pub size: Option<u64>,
     pub moment: Option<u64>,
 }
 
 /// What stands under a name.
 #[derive(Clone, Copy)]
-pub enum Kind {
-    File(Facts),
+pub enum ItemKind {
+    File(ItemFacts),
     Dir,
     /// A link, a pipe or another thing that is neither, or what has no type.
     Other,
@@ -24,23 +24,23 @@ pub enum Kind {
 
 /// An entry of a directory.
 #[derive(Drop)]
-pub struct Item<A: Allocator + Copy> {
+pub struct ListedItem<A: Allocator + Copy> {
     pub name: Text<A>,
-    pub kind: Kind,
+    pub kind: ItemKind,
 }
 
 /// The entries of a directory.
-pub enum Listing<A: Allocator + Copy> {
-    Whole(Vec<Item<A>, A>),
+pub enum DirectoryListing<A: Allocator + Copy> {
+    Whole(Vec<ListedItem<A>, A>),
     /// It has more entries than are taken.
     CutOff,
 }
 
 /// By hand: a derived drop is proved again, part by part, wherever a listing is let go.
-impl<A: Allocator + Copy> Drop for Listing<A> {
+impl<A: Allocator + Copy> Drop for DirectoryListing<A> {
     fn drop(self) {
         match self {
-            Listing::Whole(_) | Listing::CutOff => {}
+            DirectoryListing::Whole(_) | DirectoryListing::CutOff => {}
         }
     }
 }

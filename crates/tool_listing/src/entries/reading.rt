@@ -2,7 +2,7 @@
 ghost use Rattle.std.specs.Prelude.{◌≡◌};
 ghost use Rattle.tool_listing.specs.entries.Text.{odd_name};
 
-use crate::entries::item::{Facts, Item, Kind};
+use crate::entries::item::{ItemFacts, ItemKind, ListedItem};
 use crate::entries::text::{cut_line, entry_in, is_shown};
 use crate::entries::unix_line::{UnixKind, UnixLine, cut_one, read_unix_line};
 use ftp_facts::{Entry, EntryKind, Text};
@@ -11,7 +11,10 @@ use std::alloc::{AllocError, Global};
 
 /// What a directory has by the text of MLSD: each entry, and for each line that is none an odd one, by the name behind its first space (RFC 3659, section
 /// 7.2).
-pub fn items_of_facts(alloc: Global, text: &[u8]) -> Result<Vec<Item<Global>, Global>, AllocError> {
+pub fn items_of_facts(
+    alloc: Global,
+    text: &[u8],
+) -> Result<Vec<ListedItem<Global>, Global>, AllocError> {
     let mut items = Vec::new(alloc);
     let mut rest = text;
     while !rest.is_empty() {
@@ -25,10 +28,10 @@ pub fn items_of_facts(alloc: Global, text: &[u8]) -> Result<Vec<Item<Global>, Gl
 fn put_fact_line(
     alloc: Global,
     line: &[u8],
-    items: &mut Vec<Item<Global>, Global>,
+    items: &mut Vec<ListedItem<Global>, Global>,
 ) -> Result<(), AllocError> {
     let Some(entry) = entry_in(alloc, line)? else {
-        return put(alloc, odd_name(line), Kind::Odd, items);
+        return put(alloc, odd_name(line), ItemKind::Odd, items);
     };
     if !is_shown(&entry) {
         return Ok(());
@@ -44,17 +47,17 @@ fn odd_name(line: &[u8]) -> &[u8]
     name
 }
 
-fn kind_of(entry: &Entry<Global>) -> Kind {
+fn kind_of(entry: &Entry<Global>) -> ItemKind {
     match &entry.kind {
-        Some(EntryKind::File) => Kind::File(Facts {
+        Some(EntryKind::File) => ItemKind::File(ItemFacts {
             size: entry.size,
             moment: match entry.modify {
                 Some(moment) => Some(moment.seconds),
                 None => None,
             },
         }),
-        Some(EntryKind::Dir) => Kind::Dir,
-        _ => Kind::Other,
+        Some(EntryKind::Dir) => ItemKind::Dir,
+        _ => ItemKind::Other,
     }
 }
 
@@ -63,7 +66,7 @@ fn kind_of(entry: &Entry<Global>) -> Kind {
 pub fn items_of_columns(
     alloc: Global,
     text: &[u8],
-) -> Result<Vec<Item<Global>, Global>, AllocError> {
+) -> Result<Vec<ListedItem<Global>, Global>, AllocError> {
     let mut items = Vec::new(alloc);
     let mut rest = text;
     while !rest.is_empty() {
@@ -77,7 +80,7 @@ pub fn items_of_columns(
 fn put_columns_line(
     alloc: Global,
     line: &[u8],
-    items: &mut Vec<Item<Global>, Global>,
+    items: &mut Vec<ListedItem<Global>, Global>,
 ) -> Result<(), AllocError> {
     match read_unix_line(line) {
         Some(told) => put_told(alloc, told, items),
@@ -85,7 +88,7 @@ fn put_columns_line(
             if line.starts_with(b"total ") {
                 return Ok(());
             }
-            put(alloc, &[], Kind::Odd, items)
+            put(alloc, &[], ItemKind::Odd, items)
         }
     }
 }
@@ -93,39 +96,39 @@ fn put_columns_line(
 fn put_told(
     alloc: Global,
     told: UnixLine<'_>,
-    items: &mut Vec<Item<Global>, Global>,
+    items: &mut Vec<ListedItem<Global>, Global>,
 ) -> Result<(), AllocError> {
     let name = told.name;
     if name == b".".as_slice() || name == b"..".as_slice() {
         return Ok(());
     }
     if !is_path_text(name) {
-        return put(alloc, name, Kind::Odd, items);
+        return put(alloc, name, ItemKind::Odd, items);
     }
     put(alloc, name, kind_by(told), items)
 }
 
-fn kind_by(told: UnixLine<'_>) -> Kind {
+fn kind_by(told: UnixLine<'_>) -> ItemKind {
     match told.kind {
-        UnixKind::File => Kind::File(Facts {
+        UnixKind::File => ItemKind::File(ItemFacts {
             size: Some(told.size),
             moment: match told.day {
                 Some(day) => Some(day.seconds),
                 None => None,
             },
         }),
-        UnixKind::Dir => Kind::Dir,
-        UnixKind::Link | UnixKind::Other => Kind::Other,
+        UnixKind::Dir => ItemKind::Dir,
+        UnixKind::Link | UnixKind::Other => ItemKind::Other,
     }
 }
 
 fn put(
     alloc: Global,
     name: &[u8],
-    kind: Kind,
-    items: &mut Vec<Item<Global>, Global>,
+    kind: ItemKind,
+    items: &mut Vec<ListedItem<Global>, Global>,
 ) -> Result<(), AllocError> {
     let name = Text::copy_of(alloc, name)?;
-    items.push(Item { name, kind })?;
+    items.push(ListedItem { name, kind })?;
     Ok(())
 }

@@ -3,7 +3,7 @@ ghost use Rattle.std.specs.Prelude.{◌≡◌};
 ghost use Rattle.std.specs.List.{list_any};
 ghost use Rattle.tool_listing.specs.pattern.Chosen.{bare_name, is_chosen, is_chosen_item, is_chosen_name, is_dir_kind, is_fetched, is_pattern, is_wild};
 
-use crate::entries::{Item, Kind, is_listed, is_name, without_slash};
+use crate::entries::{ItemKind, ListedItem, is_listed, is_name, without_slash};
 use crate::pattern::pattern::matches;
 use ftp_facts::{Entry, EntryKind, Text};
 use std::alloc::{AllocError, Global};
@@ -75,7 +75,7 @@ pub fn chosen_entries(
 pub fn chosen_items(
     alloc: Global,
     pattern: &[u8],
-    items: &[Item<Global>],
+    items: &[ListedItem<Global>],
 ) -> Result<Vec<Text<Global>, Global>, AllocError> {
     let mut chosen = Vec::new(alloc);
     for item in items {
@@ -87,19 +87,19 @@ pub fn chosen_items(
 }
 
 /// Whether a pattern chooses what stands under a name: it is no directory, and no line that is no entry.
-pub fn is_chosen_item(pattern: &[u8], item: &Item<Global>) -> bool
+pub fn is_chosen_item(pattern: &[u8], item: &ListedItem<Global>) -> bool
     ensures { result ≡ is_chosen_item pattern.now item.now }
 {
     let name = item.name.as_slice();
     is_fetched(item.kind) && is_name(name) && matches(pattern, name)
 }
 
-fn is_fetched(kind: Kind) -> bool
+fn is_fetched(kind: ItemKind) -> bool
     ensures { result ≡ is_fetched kind }
 {
     match kind {
-        Kind::File(_) | Kind::Other => true,
-        Kind::Dir | Kind::Excluded | Kind::Odd => false,
+        ItemKind::File(_) | ItemKind::Other => true,
+        ItemKind::Dir | ItemKind::Excluded | ItemKind::Odd => false,
     }
 }
 

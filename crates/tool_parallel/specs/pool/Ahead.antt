@@ -5,14 +5,14 @@ use Rattle.ftp_operation.specs.declared.answer.Answer.TheVariants as Answers
 use Rattle.ftp_operation.specs.declared.op.Op.{Op}
 use Rattle.ftp_operation.specs.declared.op.Op.TheVariants as Ops
 use Rattle.ftp_reply.specs.declared.code.TheConstants.{NOT_IMPLEMENTED, UNAVAILABLE, UNKNOWN}
-use Rattle.tool_parallel.specs.declared.pool.ahead.What.{What}
-use Rattle.tool_parallel.specs.declared.pool.ahead.What.TheVariants as Whats
+use Rattle.tool_parallel.specs.declared.pool.ahead.PrefetchKind.{PrefetchKind}
+use Rattle.tool_parallel.specs.declared.pool.ahead.PrefetchKind.TheVariants as Whats
 use Rattle.tool_session.specs.declared.request.Request.{Request}
 use Rattle.tool_session.specs.declared.session.Ticket.{Ticket}
 use Rattle.tool_session.specs.declared.request.Request.TheVariants.{One, Upload, Download, Drawn}
 
 -- what an operation without octets of a file asks of which path, where it is asked ahead: a listing, that a file is removed, its size, or its moment
-abbrev pub ahead_of : Op (List ℕ) → Option (What × List ℕ)
+abbrev pub ahead_of : Op (List ℕ) → Option (PrefetchKind × List ℕ)
 ahead_of (Ops.List path how) = Some (Whats.Listing, path)
 ahead_of (Ops.Text verb path how) = Some (Whats.Listing, path)
 ahead_of (Ops.Delete path) = Some (Whats.Removal, path)
@@ -21,17 +21,17 @@ ahead_of (Ops.Modified path) = Some (Whats.Moment, path)
 ahead_of op = None
 
 -- what a download asks, where it is of all of a file
-abbrev pub fetched_ahead : Op (List ℕ) → Option (What × List ℕ)
+abbrev pub fetched_ahead : Op (List ℕ) → Option (PrefetchKind × List ℕ)
 fetched_ahead (Ops.Get path how) = Some (Whats.Download, path)
 fetched_ahead op = None
 
 -- what an upload asks whose octets are read as they go, where it is of all of a file
-abbrev pub sent_ahead : Op (List ℕ) → Option (What × List ℕ)
+abbrev pub sent_ahead : Op (List ℕ) → Option (PrefetchKind × List ℕ)
 sent_ahead (Ops.Put path octets how) = Some (Whats.Upload, path)
 sent_ahead op = None
 
 -- what a request asks of which path, where it is asked ahead
-abbrev pub asked_ahead : Request → Option (What × List ℕ)
+abbrev pub asked_ahead : Request → Option (PrefetchKind × List ℕ)
 asked_ahead (One (Some op)) = ahead_of op
 asked_ahead (Download (Some op) terms) = fetched_ahead op
 asked_ahead (Upload (Some file) how) = Some (Whats.Upload, file.0)
@@ -45,7 +45,7 @@ is_for None None = true
 is_for held asked = false
 
 -- a fact of a file: it is told by a reply alone (RFC 3659, sections 3 and 4)
-abbrev pub is_fact : What → Bool
+abbrev pub is_fact : PrefetchKind → Bool
 is_fact Whats.Size = true
 is_fact Whats.Moment = true
 is_fact what = false
@@ -76,18 +76,18 @@ is_removed Answers.Lost = true
 is_removed answer = false
 
 -- what is asked ahead only over a control connection whose login was accepted: a removal, since else none could tell whether one that is lost was asked
-abbrev pub wants_login : What → Bool
+abbrev pub wants_login : PrefetchKind → Bool
 wants_login Whats.Removal = true
 wants_login what = false
 
 -- what is asked in its turn leaves the files of the server as they are (RFC 959, section 4.1.3)
-abbrev pub leaves_all : What → Bool
+abbrev pub leaves_all : PrefetchKind → Bool
 leaves_all Whats.Upload = false
 leaves_all Whats.Removal = false
 leaves_all what = true
 
 -- an answer that came ahead is given
-abbrev pub is_given : {A : Type 0} → What → Answer A → Bool
+abbrev pub is_given : {A : Type 0} → PrefetchKind → Answer A → Bool
 is_given Whats.Size answer = is_told answer
 is_given Whats.Moment answer = is_told answer
 is_given Whats.Removal answer = is_removed answer

@@ -6,8 +6,8 @@ use ftp_client_stream::{CarriedLink, CarriedPorts};
 use ftp_operation::Answer;
 use std::alloc::Global;
 use std::rc::Rc;
-use tool_polling::{Awaits, Leaving, Line, LineReader, LineWriter};
-use tool_session::{Cargo, Course, Ending, Request, begin};
+use tool_polling::{Awaits, ControlLine, Leaving, LineReader, LineWriter};
+use tool_session::{DataEnding, Request, RequestState, StreamBody, begin};
 use tool_sockets::Sockets;
 
 /// The most turns of a drive in one turn of a channel: as many octets of a line may be heard.
@@ -15,7 +15,7 @@ const MOST: u64 = 1_024;
 
 /// How a channel stands.
 #[derive(Clone, Copy)]
-enum Stands {
+enum ChannelState {
     /// Nothing is asked.
     Idle,
     /// Something is, and its next turn would wait.
@@ -38,19 +38,19 @@ pub trait TakesTurns {
     fn awaits(&self) -> Awaits;
 
     /// Begins what is requested, with what goes over its data connection. Nothing else is under way.
-    fn begin(&mut self, request: Request, cargo: Cargo);
+    fn begin(&mut self, request: Request, stream_body: StreamBody);
 
     /// A turn; gives the answer where that is there. `told` is what the round's poll found of what the last turn waited for.
     fn turn(&mut self, told: Awaits) -> Option<Answer<Global>>;
 
     /// What went over the data connection of what was answered last.
-    fn unload(&mut self) -> Cargo;
+    fn unload(&mut self) -> StreamBody;
 
     /// How many data connections were opened so far.
     fn opened(&self) -> u32;
 
     /// How the last data connection ended, beside what was answered.
-    fn ending(&self) -> Ending;
+    fn ending(&self) -> DataEnding;
 
     /// What came of the download that was asked for last, where its control connection ended in its middle; else nothing.
     fn came(&self) -> &[u8];
@@ -68,12 +68,12 @@ pub trait TakesTurns {
 /// A client, beside its connections.
 pub struct Channel<'a, R: Sockets, N: Near<Global>> {
     client: N,
-    line: Rc<Line, Global>,
+    line: Rc<ControlLine, Global>,
     control: Control<LineReader, LineWriter>,
     ports: ChannelPorts<'a, R>,
-    data: Data<CarriedLink<'a, ChannelLink<'a>, Cargo>>,
-    course: &'a Course,
-    stands: Stands,
+    data: Data<CarriedLink<'a, ChannelLink<'a>, StreamBody>>,
+    course: &'a RequestState,
+    stands: ChannelState,
 }
 
 /// Its data connection is closed, if one stands.
@@ -89,7 +89,7 @@ impl<'a, R: Sockets, N: Near<Global>> Drop for Channel<'a, R, N> {
             stands: _,
         } = self;
         let mut ports = ports;
-        data.finish(&mut CarriedPorts::new(&mut ports, &course.cargo));
+        data.finish(&mut CarriedPorts::new(&mut ports, &course.stream_body));
     }
 }
 
@@ -97,10 +97,10 @@ impl<'a, R: Sockets, N: Near<Global>> Channel<'a, R, N> {
     /// A client at its control connection.
     pub fn new(
         client: N,
-        line: Rc<Line, Global>,
+        line: Rc<ControlLine, Global>,
         control: Control<LineReader, LineWriter>,
         ports: ChannelPorts<'a, R>,
-        course: &'a Course,
+        course: &'a RequestState,
     ) -> Channel<'a, R, N> {
         Channel {
             client,
@@ -109,12 +109,12 @@ impl<'a, R: Sockets, N: Near<Global>> Channel<'a, R, N> {
             ports,
             data: Data::new(),
             course,
-            stands: Stands::Idle,
+            stands: ChannelState::Idle,
         }
     }
 
     fn drive(&mut self) -> Turned<Driven<Global>> {
-        let mut ports = CarriedPorts::new(&mut self.ports, &self.course.cargo);
+        let mut ports = CarriedPorts::new(&mut self.ports, &self.course.stream_body);
         drive_some(
             &mut self.client,
             &mut self.control,
@@ -133,9 +133,9 @@ impl<'a, R: Sockets, N: Near<Global>> Channel<'a, R, N> {
             None => Answer::Lost,
         };
         self.stands = if matches!(&answer, Answer::Lost) {
-            Stands::Gone
+            ChannelState::Gone
         } else {
-            Stands::Idle
+            ChannelState::Idle
         };
         answer
     }
@@ -143,57 +143,60 @@ impl<'a, R: Sockets, N: Near<Global>> Channel<'a, R, N> {
 
 impl<'a, R: Sockets, N: Near<Global>> TakesTurns for Channel<'a, R, N> {
     fn is_gone(&self) -> bool {
-        matches!(self.stands, Stands::Gone)
+        matches!(self.stands, ChannelState::Gone)
     }
 
     fn is_due(&self) -> bool {
         match self.stands {
-            Stands::Due => true,
-            Stands::Waits => self.line.timeouts.left() == Some(0),
-            Stands::Idle | Stands::Gone => false,
+            ChannelState::Due => true,
+            ChannelState::Waits => self.line.timeouts.left() == Some(0),
+            ChannelState::Idle | ChannelState::Gone => false,
         }
     }
 
     fn awaits(&self) -> Awaits {
         match self.stands {
-            Stands::Waits => self.ports.awaits(),
-            Stands::Due | Stands::Idle | Stands::Gone => Awaits::nothing(),
+            ChannelState::Waits => self.ports.awaits(),
+            ChannelState::Due | ChannelState::Idle | ChannelState::Gone => Awaits::nothing(),
         }
     }
 
-    fn begin(&mut self, request: Request, cargo: Cargo) {
+    fn begin(&mut self, request: Request, stream_body: StreamBody) {
         let mut request = request;
         self.line.timeouts.touch();
         self.course.begin(&request);
-        self.course.cargo.set(Some(cargo));
+        self.course.stream_body.set(Some(stream_body));
         begin(&mut self.client, &mut request);
-        self.stands = Stands::Due;
+        self.stands = ChannelState::Due;
     }
 
     fn turn(&mut self, told: Awaits) -> Option<Answer<Global>> {
         self.line.begin_turn(told);
         match self.drive() {
             Turned::Later => {
-                self.stands = Stands::Waits;
+                self.stands = ChannelState::Waits;
                 None
             }
             Turned::More => {
-                self.stands = Stands::Due;
+                self.stands = ChannelState::Due;
                 None
             }
             Turned::Over(driven) => Some(self.answered(driven)),
         }
     }
 
-    fn unload(&mut self) -> Cargo {
-        self.course.cargo.replace(None).unwrap_or(Cargo::Own)
+    fn unload(&mut self) -> StreamBody {
+        self.course
+            .stream_body
+            .replace(None)
+            .unwrap_or(StreamBody::Own)
     }
 
     fn opened(&self) -> u32 {
         self.ports.opened()
     }
 
-    fn ending(&self) -> Ending {
+    fn ending(&self) -> DataEnding {
         self.course.ending()
     }
 

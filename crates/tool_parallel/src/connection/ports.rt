@@ -7,14 +7,14 @@ use ftp_ports::{Accepted, Awaited, Beside, Duplex, For, Ports, Ready, Spoken, Wh
 use std::io;
 use std::io::{Error, ErrorKind, Read, Write};
 use tool_polling::{Awaits, LineLink, LinePorts};
-use tool_session::{Course, pause_of, piece_of};
+use tool_session::{RequestState, pause_of, piece_of};
 use tool_sockets::{Sockets, monotonic_millis};
 
 /// Data connections of which none is waited for.
 #[derive(Drop)]
 pub struct ChannelPorts<'a, R: Sockets> {
     ports: LinePorts<'a, R>,
-    course: &'a Course,
+    course: &'a RequestState,
     /// The most octets a second; 0: without a limit.
     rate: u64,
     /// How many were opened.
@@ -27,7 +27,7 @@ pub struct ChannelPorts<'a, R: Sockets> {
 #[derive(Drop)]
 pub struct ChannelLink<'a> {
     link: LineLink,
-    course: &'a Course,
+    course: &'a RequestState,
     rate: u64,
     /// When it was opened, in milliseconds of the monotonic clock.
     begun: u64,
@@ -39,7 +39,11 @@ pub struct ChannelLink<'a> {
 
 impl<'a, R: Sockets> ChannelPorts<'a, R> {
     /// None was opened yet.
-    pub fn new(ports: LinePorts<'a, R>, course: &'a Course, rate: u64) -> ChannelPorts<'a, R> {
+    pub fn new(
+        ports: LinePorts<'a, R>,
+        course: &'a RequestState,
+        rate: u64,
+    ) -> ChannelPorts<'a, R> {
         ChannelPorts {
             ports,
             course,

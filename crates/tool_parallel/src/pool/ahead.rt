@@ -7,11 +7,11 @@ use ftp_facts::Text;
 use ftp_operation::{Answer, Op};
 use ftp_reply::code::{NOT_IMPLEMENTED, UNAVAILABLE, UNKNOWN};
 use std::alloc::Global;
-use tool_session::{Cargo, Ending, Request, Ticket};
+use tool_session::{DataEnding, Request, StreamBody, Ticket};
 
 /// What can be asked ahead of a path.
 #[derive(Clone, Copy)]
-pub(crate) enum What {
+pub(crate) enum PrefetchKind {
     Download,
     Upload,
     Listing,
@@ -22,7 +22,7 @@ pub(crate) enum What {
 
 /// What is asked, and of which path.
 pub(crate) struct Key {
-    what: What,
+    what: PrefetchKind,
     path: Text<Global>,
 }
 
@@ -36,9 +36,9 @@ impl Drop for Key {
 /// What was answered ahead, how its data connection ended, how many were opened, and what went over it.
 pub(crate) struct Done {
     pub(crate) answer: Answer<Global>,
-    pub(crate) ending: Ending,
+    pub(crate) ending: DataEnding,
     pub(crate) opened: u32,
-    pub(crate) cargo: Cargo,
+    pub(crate) stream_body: StreamBody,
 }
 
 /// By hand, as above.
@@ -48,7 +48,7 @@ impl Drop for Done {
             answer: _,
             ending: _,
             opened: _,
-            cargo: _,
+            stream_body: _,
         } = self;
     }
 }
@@ -68,7 +68,7 @@ impl Key {
     }
 
     /// What is asked.
-    pub(crate) fn what(&self) -> What
+    pub(crate) fn what(&self) -> PrefetchKind
         ensures { result ≡ self.now.what }
     {
         self.what
@@ -93,30 +93,39 @@ impl Key {
     }
 }
 
-fn is_same(one: What, other: What) -> bool
+fn is_same(one: PrefetchKind, other: PrefetchKind) -> bool
     ensures { IsTrue result → one ≡ other }
 {
     match (one, other) {
-        (What::Download, What::Download) | (What::Upload, What::Upload) => true,
-        (What::Listing, What::Listing) | (What::Removal, What::Removal) => true,
-        (What::Size, What::Size) | (What::Moment, What::Moment) => true,
+        (PrefetchKind::Download, PrefetchKind::Download)
+        | (PrefetchKind::Upload, PrefetchKind::Upload) => true,
+        (PrefetchKind::Listing, PrefetchKind::Listing)
+        | (PrefetchKind::Removal, PrefetchKind::Removal) => true,
+        (PrefetchKind::Size, PrefetchKind::Size) | (PrefetchKind::Moment, PrefetchKind::Moment) =>
+            true,
         _ => false,
     }
 }
 
 /// What a request asks of which path: of a download all of the file.
-fn parts_of(request: &Request) -> Option<(What, &[u8])>
+fn parts_of(request: &Request) -> Option<(PrefetchKind, &[u8])>
     ensures { option_map (λ parts. (parts.0, parts.1.now)) result ≡ asked_ahead request.now }
 {
     match request {
-        Request::One(Some(Op::List(path, _))) => Some((What::Listing, path.as_slice())),
-        Request::One(Some(Op::Text(_, path, _))) => Some((What::Listing, path.as_slice())),
-        Request::One(Some(Op::Delete(path))) => Some((What::Removal, path.as_slice())),
-        Request::One(Some(Op::Size(path, _))) => Some((What::Size, path.as_slice())),
-        Request::One(Some(Op::Modified(path))) => Some((What::Moment, path.as_slice())),
-        Request::Download(Some(Op::Get(path, _)), _) => Some((What::Download, path.as_slice())),
-        Request::Upload(Some((path, _)), _) => Some((What::Upload, path.as_slice())),
-        Request::Drawn(Some(Op::Put(path, _, _)), _) => Some((What::Upload, path.as_slice())),
+        Request::One(Some(Op::List(path, _))) => Some((PrefetchKind::Listing, path.as_slice())),
+        Request::One(Some(Op::Text(_, path, _))) => Some((PrefetchKind::Listing, path.as_slice())),
+        Request::One(Some(Op::Delete(path))) => Some((PrefetchKind::Removal, path.as_slice())),
+        Request::One(Some(Op::Size(path, _))) => Some((PrefetchKind::Size, path.as_slice())),
+        Request::One(Some(Op::Modified(path))) => Some((PrefetchKind::Moment, path.as_slice())),
+        Request::Download(Some(Op::Get(path, _)), _) => Some((
+            PrefetchKind::Download,
+            path.as_slice(),
+        )),
+        Request::Upload(Some((path, _)), _) => Some((PrefetchKind::Upload, path.as_slice())),
+        Request::Drawn(Some(Op::Put(path, _, _)), _) => Some((
+            PrefetchKind::Upload,
+            path.as_slice(),
+        )),
         _ => None,
     }
 }
@@ -134,15 +143,15 @@ pub(crate) fn is_for(held: Option<Ticket>, asked: Option<Ticket>) -> bool
 }
 
 /// Whether this is a fact of a file, which a reply alone tells.
-pub(crate) fn is_fact(what: What) -> bool
+pub(crate) fn is_fact(what: PrefetchKind) -> bool
     ensures { result ≡ is_fact what }
 {
-    matches!(what, What::Size | What::Moment)
+    matches!(what, PrefetchKind::Size | PrefetchKind::Moment)
 }
 
 /// Whether octets of a file go over its data connection.
-pub(crate) fn is_transfer(what: What) -> bool {
-    matches!(what, What::Download | What::Upload)
+pub(crate) fn is_transfer(what: PrefetchKind) -> bool {
+    matches!(what, PrefetchKind::Download | PrefetchKind::Upload)
 }
 
 /// Whether a request that is asked in its turn leaves the files of the server as they are; of what is not asked ahead that is not known.
@@ -154,10 +163,10 @@ pub(crate) fn changes_none(request: &Request) -> bool {
 }
 
 /// Whether this leaves the files of the server as they are.
-fn leaves_all(what: What) -> bool
+fn leaves_all(what: PrefetchKind) -> bool
     ensures { result ≡ leaves_all what }
 {
-    !matches!(what, What::Upload | What::Removal)
+    !matches!(what, PrefetchKind::Upload | PrefetchKind::Removal)
 }
 
 /// Whether a request is asked ahead only over a control connection whose login was accepted.
@@ -169,20 +178,20 @@ pub(crate) fn wants_login_of(request: &Request) -> bool {
 }
 
 /// The same of what is asked.
-fn wants_login(what: What) -> bool
+fn wants_login(what: PrefetchKind) -> bool
     ensures { result ≡ wants_login what }
 {
-    matches!(what, What::Removal)
+    matches!(what, PrefetchKind::Removal)
 }
 
 /// Whether an answer that came ahead is given: another one is asked for once more in its turn, so that what is told of it is of that.
-pub(crate) fn is_given(what: What, answer: &Answer<Global>) -> bool
+pub(crate) fn is_given(what: PrefetchKind, answer: &Answer<Global>) -> bool
     ensures { result ≡ is_given what answer.now }
 {
     match what {
-        What::Size | What::Moment => is_told(answer),
-        What::Removal => is_removed(answer),
-        What::Download | What::Upload | What::Listing => is_done(answer),
+        PrefetchKind::Size | PrefetchKind::Moment => is_told(answer),
+        PrefetchKind::Removal => is_removed(answer),
+        PrefetchKind::Download | PrefetchKind::Upload | PrefetchKind::Listing => is_done(answer),
     }
 }
 

@@ -1,8 +1,8 @@
 // Several control connections to a server in one thread: what comes next is asked ahead over those that are free, and all of them have turns.
 use crate::connection::TakesTurns;
 use crate::pool::ahead::{changes_none, wants_login_of};
-use crate::pool::row::Row;
-use crate::pool::slot::{Came, Doing, Slot};
+use crate::pool::row::RequestBatch;
+use crate::pool::slot::{Activity, PoolSlot, ReceivedAnswer};
 use ftp_operation::Answer;
 use ftp_ports::TURNS;
 use libc::net as c;
@@ -13,7 +13,9 @@ use std::fmt::{Display, Formatter};
 use std::io::Eprint;
 use std::{fmt, mem};
 use tool_polling::{Awaits, Leaving};
-use tool_session::{Cargo, ClientSession, Ending, Freight, LastReply, Request, Said, Ticket, say};
+use tool_session::{
+    ClientSession, DataEnding, FromStreamBody, LastReply, Request, Said, StreamBody, Ticket, say,
+};
 use tool_sockets::monotonic_millis;
 
 /// The most control connections at once.
@@ -32,14 +34,14 @@ const LAST_MILLIS: u64 = 1_000;
 pub struct Channels<'n, 'r, R, L> {
     rt: &'r R,
     alloc: Global,
-    slots: Vec<Slot<L>, Global>,
-    noticed: &'n mut LastReply,
+    slots: Vec<PoolSlot<L>, Global>,
+    last_reply: &'n mut LastReply,
     /// How many data connections were opened for what was answered.
     opened: u32,
     /// How many of them were told.
     told: u32,
     /// How the data connection ended of what was answered last.
-    ending: Ending,
+    ending: DataEnding,
     /// Over which channel that was asked, where it was in its turn.
     last: Option<usize>,
     /// Over which channel it was asked ahead, where more was asked behind it and is not given yet.
@@ -59,7 +61,7 @@ impl<'n, 'r, R, L: Drop> Drop for Channels<'n, 'r, R, L> {
             rt: _,
             alloc: _,
             slots: _,
-            noticed: _,
+            last_reply: _,
             opened: _,
             told: _,
             ending: _,
@@ -77,19 +79,19 @@ impl<'n, 'r, R: Eprint, L: TakesTurns + Drop> Channels<'n, 'r, R, L> {
     pub fn new(
         rt: &'r R,
         alloc: Global,
-        slots: Vec<Slot<L>, Global>,
-        noticed: &'n mut LastReply,
+        slots: Vec<PoolSlot<L>, Global>,
+        last_reply: &'n mut LastReply,
         (timeout, until): (u32, Option<u64>),
     ) -> Channels<'n, 'r, R, L> {
-        noticed.begin();
+        last_reply.begin();
         Channels {
             rt,
             alloc,
             slots,
-            noticed,
+            last_reply,
             opened: 0,
             told: 0,
-            ending: Ending::Answered,
+            ending: DataEnding::Answered,
             last: None,
             row: None,
             tickets: 0,
@@ -207,7 +209,7 @@ impl<'n, 'r, R: Eprint, L: TakesTurns + Drop> Channels<'n, 'r, R, L> {
     }
 
     /// What this was answered ahead, once it is; none where it was not asked ahead, by this ticket or by none, or its answer is not given.
-    fn given(&mut self, request: &Request, ticket: Option<Ticket>) -> Option<Came> {
+    fn given(&mut self, request: &Request, ticket: Option<Ticket>) -> Option<ReceivedAnswer> {
         let place = self.place_of(request, ticket)?;
         self.await_row(place);
         let slot = self.slots.get_mut(place)?;
@@ -219,38 +221,38 @@ impl<'n, 'r, R: Eprint, L: TakesTurns + Drop> Channels<'n, 'r, R, L> {
         self.ending = done.ending;
         self.last = None;
         self.note_end(place, matches!(&done.answer, Answer::Lost));
-        Some(Came {
+        Some(ReceivedAnswer {
             answer: mem::replace(&mut done.answer, Answer::Done),
-            cargo: mem::replace(&mut done.cargo, Cargo::Own),
+            stream_body: mem::replace(&mut done.stream_body, StreamBody::Own),
         })
     }
 
     /// Asks in its turn, over a channel that is free.
-    fn asked(&mut self, request: Request, cargo: Cargo) -> Came {
+    fn asked(&mut self, request: Request, stream_body: StreamBody) -> ReceivedAnswer {
         if !changes_none(&request) {
             self.forget_facts();
         }
         let Some(place) = self.await_free() else {
-            return Came {
+            return ReceivedAnswer {
                 answer: Answer::Lost,
-                cargo,
+                stream_body,
             };
         };
         if let Some(slot) = self.slots.get_mut(place) {
-            slot.begin(Doing::Asked, request, cargo);
+            slot.begin(Activity::Asked, request, stream_body);
         }
         self.await_channel(place);
         match self.answered(place) {
             Some(came) => came,
-            None => Came {
+            None => ReceivedAnswer {
                 answer: Answer::Lost,
-                cargo: Cargo::Own,
+                stream_body: StreamBody::Own,
             },
         }
     }
 
     /// The answer of a channel, and what was said with it.
-    fn answered(&mut self, place: usize) -> Option<Came> {
+    fn answered(&mut self, place: usize) -> Option<ReceivedAnswer> {
         let slot = self.slots.get_mut(place)?;
         self.opened = self.opened.saturating_add(slot.opened_since());
         self.ending = slot.channel.ending();
@@ -268,12 +270,12 @@ impl<'n, 'r, R: Eprint, L: TakesTurns + Drop> Channels<'n, 'r, R, L> {
         if !is_told {
             return;
         }
-        self.noticed.keep(slot.channel.last_reply());
+        self.last_reply.keep(slot.channel.last_reply());
         if slot.channel.is_gone() && slot.channel.is_late() {
             if is_past(self.until) {
-                self.noticed.ran_out();
+                self.last_reply.ran_out();
             } else {
-                self.noticed.fell_silent(self.timeout);
+                self.last_reply.fell_silent(self.timeout);
             }
         }
     }
@@ -283,7 +285,7 @@ impl<'n, 'r, R: Eprint, L: TakesTurns + Drop> Channels<'n, 'r, R, L> {
     fn begin_row(
         &mut self,
         requests: Vec<Request, Global>,
-        cargo: Cargo,
+        stream_body: StreamBody,
         ticket: Option<Ticket>,
     ) -> bool {
         if requests.iter().any(|request| self.is_ahead(request)) {
@@ -296,7 +298,7 @@ impl<'n, 'r, R: Eprint, L: TakesTurns + Drop> Channels<'n, 'r, R, L> {
         let Some(place) = self.idle_place(first) else {
             return false;
         };
-        let Some(row) = Row::of(self.alloc, requests, cargo, ticket) else {
+        let Some(row) = RequestBatch::of(self.alloc, requests, stream_body, ticket) else {
             return false;
         };
         match self.slots.get_mut(place) {
@@ -358,7 +360,7 @@ impl<'n, 'r, R: Eprint, L: TakesTurns + Drop> Channels<'n, 'r, R, L> {
 
     /// Says goodbye over each channel, and waits a moment for the ends of all.
     pub fn leave(&mut self) {
-        self.noticed.add_opened(self.opened);
+        self.last_reply.add_opened(self.opened);
         let mut leaving = Vec::new(self.alloc);
         for slot in self.slots.iter_mut() {
             let left = slot.channel.leave();
@@ -407,7 +409,7 @@ fn row_of_nothing() -> pollfd {
 }
 
 /// Puts what busy channels wait for into rows, and gives for how many milliseconds that is waited for.
-fn await_all<L: TakesTurns + Drop>(slots: &[Slot<L>], rows: &mut [pollfd; ROWS]) -> i32 {
+fn await_all<L: TakesTurns + Drop>(slots: &[PoolSlot<L>], rows: &mut [pollfd; ROWS]) -> i32 {
     let now = monotonic_millis();
     let mut left = PIECE_MILLIS;
     for (place, slot) in slots.iter().enumerate() {
@@ -447,7 +449,7 @@ fn told_at(rows: &[pollfd; ROWS], place: usize) -> Awaits {
 }
 
 /// Whether a channel has a turn now, of which the poll told this.
-fn is_ready<L: TakesTurns + Drop>(slot: &Slot<L>, told: &Awaits, now: u64) -> bool {
+fn is_ready<L: TakesTurns + Drop>(slot: &PoolSlot<L>, told: &Awaits, now: u64) -> bool {
     let is_told = told.rows.iter().any(|row| row.revents != 0);
     slot.is_busy() && (is_told || slot.channel.is_due() || slot.channel.awaits().until <= now)
 }
@@ -466,30 +468,30 @@ impl<'n, 'r, R: Eprint, L: TakesTurns + Drop> ClientSession for Channels<'n, 'r,
     fn answer(&mut self, request: Request) -> Answer<Global> {
         match self.given(&request, None) {
             Some(came) => came.into_answer(),
-            None => self.asked(request, Cargo::Own).into_answer(),
+            None => self.asked(request, StreamBody::Own).into_answer(),
         }
     }
 
-    fn answer_carried<T: Freight>(
+    fn answer_carried<T: FromStreamBody>(
         &mut self,
         request: Request,
         home: &Cell<Option<T>>,
     ) -> Answer<Global> {
-        let cargo = match home.replace(None) {
+        let stream_body = match home.replace(None) {
             Some(carried) => match carried.load(self.alloc) {
-                Ok(cargo) => cargo,
+                Ok(stream_body) => stream_body,
                 Err(carried) => {
                     home.set(Some(carried));
                     return Answer::Memory;
                 }
             },
-            None => Cargo::Own,
+            None => StreamBody::Own,
         };
-        let came = self.asked(request, cargo);
+        let came = self.asked(request, stream_body);
         landed(came, home).unwrap_or(Answer::Lost)
     }
 
-    fn answer_ahead<T: Freight>(
+    fn answer_ahead<T: FromStreamBody>(
         &mut self,
         ticket: Ticket,
         request: &Request,
@@ -512,7 +514,7 @@ impl<'n, 'r, R: Eprint, L: TakesTurns + Drop> ClientSession for Channels<'n, 'r,
         self.opened
     }
 
-    fn ending(&self) -> Ending {
+    fn ending(&self) -> DataEnding {
         self.ending
     }
 
@@ -532,19 +534,19 @@ impl<'n, 'r, R: Eprint, L: TakesTurns + Drop> ClientSession for Channels<'n, 'r,
     }
 
     fn foresee_row(&mut self, requests: Vec<Request, Global>) {
-        let _begun = self.begin_row(requests, Cargo::Own, None);
+        let _begun = self.begin_row(requests, StreamBody::Own, None);
     }
 
-    fn foresee_carried<T: Freight>(
+    fn foresee_carried<T: FromStreamBody>(
         &mut self,
         requests: Vec<Request, Global>,
         carried: T,
     ) -> Option<Ticket> {
-        let Ok(cargo) = carried.load(self.alloc) else {
+        let Ok(stream_body) = carried.load(self.alloc) else {
             return None;
         };
         let ticket = self.next_ticket();
-        if self.begin_row(requests, cargo, Some(ticket)) {
+        if self.begin_row(requests, stream_body, Some(ticket)) {
             Some(ticket)
         } else {
             None
@@ -554,17 +556,20 @@ impl<'n, 'r, R: Eprint, L: TakesTurns + Drop> ClientSession for Channels<'n, 'r,
     fn take_noticed(&mut self) -> LastReply {
         let opened = self.opened.saturating_sub(self.told);
         self.told = self.opened;
-        let noticed = self.noticed.with_opened(opened);
-        self.noticed.begin();
-        noticed
+        let last_reply = self.last_reply.with_opened(opened);
+        self.last_reply.begin();
+        last_reply
     }
 }
 
 /// An answer, once what went over its data connection is in the cell; none where that is another thing than is wanted there.
-fn landed<T: Freight>(came: Came, home: &Cell<Option<T>>) -> Option<Answer<Global>> {
+fn landed<T: FromStreamBody>(
+    came: ReceivedAnswer,
+    home: &Cell<Option<T>>,
+) -> Option<Answer<Global>> {
     let mut came = came;
-    if !came.cargo.is_own() {
-        let carried = T::unload(mem::replace(&mut came.cargo, Cargo::Own));
+    if !came.stream_body.is_own() {
+        let carried = T::unload(mem::replace(&mut came.stream_body, StreamBody::Own));
         if carried.is_none() {
             return None;
         }

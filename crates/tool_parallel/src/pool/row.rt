@@ -2,15 +2,15 @@
 use crate::pool::ahead::{Done, Key, is_fact, is_for, is_given, is_transfer};
 use std::alloc::Global;
 use std::mem;
-use tool_session::{Cargo, Request, Ticket};
+use tool_session::{Request, StreamBody, Ticket};
 
 /// One thing that is asked ahead.
-struct Step {
+struct BatchedRequest {
     key: Key,
     /// Until it is asked.
     request: Option<Request>,
     /// What goes over its data connection, until it is asked.
-    cargo: Cargo,
+    stream_body: StreamBody,
     /// By which it is given alone, where something of its own goes over its data connection.
     ticket: Option<Ticket>,
     /// Once it is answered.
@@ -18,12 +18,12 @@ struct Step {
 }
 
 /// By hand: a derived drop is proved again, part by part, wherever a step is let go.
-impl Drop for Step {
+impl Drop for BatchedRequest {
     fn drop(self) {
         let Self {
             key: _,
             request: _,
-            cargo: _,
+            stream_body: _,
             ticket: _,
             done: _,
         } = self;
@@ -32,40 +32,40 @@ impl Drop for Step {
 
 /// What is asked one after another over one control connection, and given in that order. First what was answered, then what is asked now, then what is still
 /// to be asked; what was given is in it no more.
-pub(crate) struct Row {
-    steps: Vec<Step, Global>,
+pub(crate) struct RequestBatch {
+    steps: Vec<BatchedRequest, Global>,
 }
 
 /// By hand, as above.
-impl Drop for Row {
+impl Drop for RequestBatch {
     fn drop(self) {
         let Self { steps: _ } = self;
     }
 }
 
-impl Row {
+impl RequestBatch {
     /// These, in their order, and what goes over the data connection of the first transfer, which then is given by its ticket alone; none where there is none,
     /// where one of them is not asked ahead, or memory is refused.
     pub(crate) fn of(
         alloc: Global,
         requests: Vec<Request, Global>,
-        cargo: Cargo,
+        stream_body: StreamBody,
         ticket: Option<Ticket>,
-    ) -> Option<Row> {
-        let mut cargo = cargo;
+    ) -> Option<RequestBatch> {
+        let mut stream_body = stream_body;
         let mut steps = Vec::new(alloc);
         for request in requests {
             let key = Key::of(alloc, &request)?;
             let carried = if is_transfer(key.what()) {
-                mem::replace(&mut cargo, Cargo::Own)
+                mem::replace(&mut stream_body, StreamBody::Own)
             } else {
-                Cargo::Own
+                StreamBody::Own
             };
             let held = if carried.is_own() { None } else { ticket };
-            let step = Step {
+            let step = BatchedRequest {
                 key,
                 request: Some(request),
-                cargo: carried,
+                stream_body: carried,
                 ticket: held,
                 done: None,
             };
@@ -76,14 +76,17 @@ impl Row {
         if steps.is_empty() {
             return None;
         }
-        Some(Row { steps })
+        Some(RequestBatch { steps })
     }
 
     /// What is to be asked now, where something still is, with what goes over its data connection.
-    pub(crate) fn next(&mut self) -> Option<(Request, Cargo)> {
+    pub(crate) fn next(&mut self) -> Option<(Request, StreamBody)> {
         let step = self.steps.iter_mut().find(|step| step.request.is_some())?;
         let request = step.request.take()?;
-        Some((request, mem::replace(&mut step.cargo, Cargo::Own)))
+        Some((
+            request,
+            mem::replace(&mut step.stream_body, StreamBody::Own),
+        ))
     }
 
     /// What was asked last is answered so. Where that is not given, nothing is of it and of what comes behind it; says whether it is.

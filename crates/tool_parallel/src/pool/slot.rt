@@ -1,17 +1,17 @@
 // One of several control connections, and what is asked over it: in its turn, or ahead.
 use crate::connection::TakesTurns;
 use crate::pool::ahead::Done;
-use crate::pool::row::Row;
+use crate::pool::row::RequestBatch;
 use ftp_operation::{Answer, Op};
 use ftp_reply::code::NOT_LOGGED_IN;
 use std::alloc::Global;
 use std::mem;
 use tool_polling::Awaits;
-use tool_session::{Cargo, Request, Ticket};
+use tool_session::{Request, StreamBody, Ticket};
 
 /// What a channel does now.
 #[derive(Clone, Copy)]
-pub(crate) enum Doing {
+pub(crate) enum Activity {
     Nothing,
     /// What is asked in its turn.
     Asked,
@@ -23,7 +23,7 @@ pub(crate) enum Doing {
 
 /// How far a channel is relied on.
 #[derive(Clone, Copy)]
-pub enum Stand {
+pub enum Reliability {
     /// Nothing was answered over it yet that is given: only what is asked ahead goes over it.
     Untried,
     Tried,
@@ -32,43 +32,46 @@ pub enum Stand {
 }
 
 /// An answer, and what went over its data connection.
-pub(crate) struct Came {
+pub(crate) struct ReceivedAnswer {
     pub(crate) answer: Answer<Global>,
-    pub(crate) cargo: Cargo,
+    pub(crate) stream_body: StreamBody,
 }
 
 /// By hand: a derived drop is proved again, part by part, wherever one is let go.
-impl Drop for Came {
+impl Drop for ReceivedAnswer {
     fn drop(self) {
         let Self {
             answer: _,
-            cargo: _,
+            stream_body: _,
         } = self;
     }
 }
 
-impl Came {
+impl ReceivedAnswer {
     /// The answer, of which nothing went over a data connection that is wanted.
     pub(crate) fn into_answer(self) -> Answer<Global> {
-        let Came { answer, cargo: _ } = self;
+        let ReceivedAnswer {
+            answer,
+            stream_body: _,
+        } = self;
         answer
     }
 }
 
 /// A channel, and what it does.
-pub struct Slot<L> {
+pub struct PoolSlot<L> {
     pub(crate) channel: L,
-    stand: Stand,
-    doing: Doing,
+    stand: Reliability,
+    doing: Activity,
     /// What is asked ahead over it, and not given yet.
-    ahead: Option<Row>,
-    pub(crate) answer: Option<Came>,
+    ahead: Option<RequestBatch>,
+    pub(crate) answer: Option<ReceivedAnswer>,
     /// How many data connections were opened when it began what it does.
     opened: u32,
 }
 
 /// By hand, as above.
-impl<L: Drop> Drop for Slot<L> {
+impl<L: Drop> Drop for PoolSlot<L> {
     fn drop(self) {
         let Self {
             channel: _,
@@ -81,13 +84,13 @@ impl<L: Drop> Drop for Slot<L> {
     }
 }
 
-impl<L: TakesTurns + Drop> Slot<L> {
+impl<L: TakesTurns + Drop> PoolSlot<L> {
     /// A channel of which nothing is asked.
-    pub fn new(channel: L, stand: Stand) -> Slot<L> {
-        Slot {
+    pub fn new(channel: L, stand: Reliability) -> PoolSlot<L> {
+        PoolSlot {
             channel,
             stand,
-            doing: Doing::Nothing,
+            doing: Activity::Nothing,
             ahead: None,
             answer: None,
             opened: 0,
@@ -95,17 +98,17 @@ impl<L: TakesTurns + Drop> Slot<L> {
     }
 
     pub(crate) fn is_busy(&self) -> bool {
-        !matches!(self.doing, Doing::Nothing)
+        !matches!(self.doing, Activity::Nothing)
     }
 
     /// Whether nothing is asked over it any more.
     pub(crate) fn is_over(&self) -> bool {
-        self.channel.is_gone() || matches!(self.stand, Stand::Refused)
+        self.channel.is_gone() || matches!(self.stand, Reliability::Refused)
     }
 
     /// Whether something may be asked over it in its turn now.
     pub(crate) fn is_free(&self) -> bool {
-        !self.is_busy() && !self.channel.is_gone() && matches!(self.stand, Stand::Tried)
+        !self.is_busy() && !self.channel.is_gone() && matches!(self.stand, Reliability::Tried)
     }
 
     /// Whether something may be asked over it ahead now.
@@ -115,12 +118,12 @@ impl<L: TakesTurns + Drop> Slot<L> {
 
     /// The same, of what is asked ahead only where the login was accepted, or of anything else.
     pub(crate) fn is_idle_for(&self, wants_login: bool) -> bool {
-        self.is_idle() && (!wants_login || matches!(self.stand, Stand::Tried))
+        self.is_idle() && (!wants_login || matches!(self.stand, Reliability::Tried))
     }
 
     /// Whether nothing is known of its login yet, and nothing is asked.
     pub(crate) fn is_new(&self) -> bool {
-        self.is_idle() && matches!(self.stand, Stand::Untried)
+        self.is_idle() && matches!(self.stand, Reliability::Untried)
     }
 
     /// Whether this, by this ticket or by none, is given next of what is asked ahead over it.
@@ -162,7 +165,7 @@ impl<L: TakesTurns + Drop> Slot<L> {
     }
 
     /// Begins what is asked ahead.
-    pub(crate) fn begin_row(&mut self, row: Row) {
+    pub(crate) fn begin_row(&mut self, row: RequestBatch) {
         self.ahead = Some(row);
         self.go_on();
     }
@@ -175,20 +178,24 @@ impl<L: TakesTurns + Drop> Slot<L> {
         let Some(row) = &mut self.ahead else {
             return;
         };
-        if let Some((request, cargo)) = row.next() {
-            self.begin(Doing::Ahead, request, cargo);
+        if let Some((request, stream_body)) = row.next() {
+            self.begin(Activity::Ahead, request, stream_body);
         }
     }
 
-    pub(crate) fn begin(&mut self, doing: Doing, request: Request, cargo: Cargo) {
+    pub(crate) fn begin(&mut self, doing: Activity, request: Request, stream_body: StreamBody) {
         self.opened = self.channel.opened();
         self.doing = doing;
-        self.channel.begin(request, cargo);
+        self.channel.begin(request, stream_body);
     }
 
     /// Asks for the current directory, so that its login is known to be accepted or refused.
     pub(crate) fn try_out(&mut self) {
-        self.begin(Doing::Trial, Request::One(Some(Op::Where)), Cargo::Own);
+        self.begin(
+            Activity::Trial,
+            Request::One(Some(Op::Where)),
+            StreamBody::Own,
+        );
     }
 
     /// How many data connections were opened for what it did last.
@@ -204,18 +211,21 @@ impl<L: TakesTurns + Drop> Slot<L> {
         let Some(answer) = self.channel.turn(told) else {
             return false;
         };
-        match mem::replace(&mut self.doing, Doing::Nothing) {
-            Doing::Ahead => {
+        match mem::replace(&mut self.doing, Activity::Nothing) {
+            Activity::Ahead => {
                 self.keep(answer);
                 self.is_over()
             }
-            Doing::Trial => {
+            Activity::Trial => {
                 self.stand = stand_behind(&answer);
                 self.is_over()
             }
-            Doing::Asked | Doing::Nothing => {
-                let cargo = self.channel.unload();
-                self.answer = Some(Came { answer, cargo });
+            Activity::Asked | Activity::Nothing => {
+                let stream_body = self.channel.unload();
+                self.answer = Some(ReceivedAnswer {
+                    answer,
+                    stream_body,
+                });
                 false
             }
         }
@@ -227,12 +237,12 @@ impl<L: TakesTurns + Drop> Slot<L> {
             answer,
             ending: self.channel.ending(),
             opened: self.opened_since(),
-            cargo: self.channel.unload(),
+            stream_body: self.channel.unload(),
         };
         self.heed(&done.answer);
         if let Some(row) = &mut self.ahead {
             if row.keep(done) {
-                self.stand = Stand::Tried;
+                self.stand = Reliability::Tried;
             }
             if row.is_empty() {
                 self.ahead = None;
@@ -243,8 +253,8 @@ impl<L: TakesTurns + Drop> Slot<L> {
 
     /// Where nothing was given over the channel before, a refused login is that of the channel.
     fn heed(&mut self, answer: &Answer<Global>) {
-        if let (Stand::Untried, Answer::Refused(NOT_LOGGED_IN)) = (self.stand, answer) {
-            self.stand = Stand::Refused;
+        if let (Reliability::Untried, Answer::Refused(NOT_LOGGED_IN)) = (self.stand, answer) {
+            self.stand = Reliability::Refused;
         }
     }
 
@@ -265,9 +275,9 @@ impl<L: TakesTurns + Drop> Slot<L> {
 }
 
 /// How far a channel is relied on whose trial was answered so.
-fn stand_behind(answer: &Answer<Global>) -> Stand {
+fn stand_behind(answer: &Answer<Global>) -> Reliability {
     match answer {
-        Answer::Refused(NOT_LOGGED_IN) => Stand::Refused,
-        _ => Stand::Tried,
+        Answer::Refused(NOT_LOGGED_IN) => Reliability::Refused,
+        _ => Reliability::Tried,
     }
 }

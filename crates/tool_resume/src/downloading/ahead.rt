@@ -2,15 +2,15 @@
 ghost use Rattle.std.specs.Prelude.{◌≡◌};
 ghost use Rattle.tool_resume.specs.Ahead.{is_foreseen};
 
-use crate::downloading::{Downloading, Sight, Stamp};
+use crate::downloading::{Downloading, KnownMoment, VersionCheck};
 use crate::trying::{moment_request, size_request};
+use crate::version::Size;
 use ftp_operation::Answer;
 use std::alloc::{AllocError, Global};
 use std::cell::Cell;
 use std::io::Eprint;
 use tool_files::LocalFiles;
 use tool_session::{ClientSession, Request, Ticket};
-use crate::version::Size;
 
 impl<'a, R: LocalFiles + Eprint> Downloading<'a, R> {
     /// Asks ahead of its turn what its first try asks, where a control connection is free for that: which file the server has, all of it, and again which file
@@ -57,7 +57,7 @@ impl<'a, R: LocalFiles + Eprint> Downloading<'a, R> {
     /// What its first try asks, in this order, where all comes.
     fn row(&self) -> Result<Vec<Request, Global>, AllocError> {
         let mut row = Vec::new(self.alloc);
-        if matches!(self.sight, Sight::Asked) {
+        if matches!(self.sight, VersionCheck::Asked) {
             self.put_facts(&mut row)?;
         }
         row.push(self.request()?)?;
@@ -70,7 +70,7 @@ impl<'a, R: LocalFiles + Eprint> Downloading<'a, R> {
         if matches!(self.size, Size::Untold | Size::Told(_)) {
             row.push(size_request(self.alloc, self.path.as_str(), self.how)?)?;
         }
-        if matches!(self.stamp, Stamp::Untold | Stamp::Told(_)) {
+        if matches!(self.stamp, KnownMoment::Untold | KnownMoment::Told(_)) {
             row.push(moment_request(self.alloc, self.path.as_str())?)?;
         }
         Ok(())

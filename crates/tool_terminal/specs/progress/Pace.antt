@@ -2,7 +2,7 @@
 use Rattle.std.specs.Prelude.{ℕ, ◌+◌, ◌-◌, ◌*◌, ◌/◌, ◌==◌, Option, Some, None, option_map, if◌then◌else◌}
 use Rattle.tool_terminal.specs.declared.progress.pace.Span.{Span}
 use Rattle.tool_terminal.specs.declared.progress.pace.Pace.{Pace}
-use Rattle.tool_terminal.specs.declared.progress.pace.Rest.{Rest}
+use Rattle.tool_terminal.specs.declared.progress.pace.Remaining.{Remaining}
 
 -- octets a second, rounded down; none before the first millisecond
 abbrev pub per_second : (moved millis : ℕ) → ℕ
@@ -17,7 +17,7 @@ abbrev pub seconds_left : (count total rate : ℕ) → Option ℕ
 seconds_left count total rate = if rate == 0 then None else Some ((total - count) / rate)
 
 -- what is left of a file of which so many octets are there
-abbrev pub rest_of : (count rate total : ℕ) → Rest
+abbrev pub rest_of : (count rate total : ℕ) → Remaining
 rest_of count rate total = record { total = total; percent = hundredths count total; seconds = seconds_left count total rate }
 
 -- how far a transfer is that moved so many octets in so many milliseconds: those before its first octet are there too

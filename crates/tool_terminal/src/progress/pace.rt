@@ -20,12 +20,12 @@ pub struct Pace {
     pub count: u128,
     pub per_second: u128,
     /// Where the size of the file is known.
-    pub rest: Option<Rest>,
+    pub rest: Option<Remaining>,
 }
 
 /// What is left of a file.
 #[derive(Clone, Copy)]
-pub struct Rest {
+pub struct Remaining {
     pub total: u64,
     /// How many hundredths of it are there.
     pub percent: u128,
@@ -40,7 +40,7 @@ pub fn pace_of(span: Span, moved: u64, millis: u64) -> Pace
     let count = u128::from(span.start) + u128::from(moved);
     let per_second = per_second(moved, millis);
     let rest = match span.total {
-        Some(total) => Some(Rest {
+        Some(total) => Some(Remaining {
             total,
             percent: hundredths(span.start, moved, total),
             seconds: seconds_left(count, total, per_second),
@@ -108,7 +108,11 @@ impl Display for Pace {
 }
 
 /// Writes how much of a file is there: both sizes in the unit of the whole.
-fn write_part<W: fmt::Write>(count: u128, rest: Rest, formatter: &mut Formatter<W>) -> fmt::Result {
+fn write_part<W: fmt::Write>(
+    count: u128,
+    rest: Remaining,
+    formatter: &mut Formatter<W>,
+) -> fmt::Result {
     let total = u128::from(rest.total);
     let unit = unit_for(total);
     measured(unit, count).write_number(formatter)?;

@@ -1,6 +1,6 @@
 // A handle of a system that tells all, or errors alone.
 use crate::verbosity::head::Head;
-use crate::verbosity::told::{Told, is_told};
+use crate::verbosity::told::{Verbosity, is_told};
 use std::alloc::{AllocError, Allocator};
 use std::env::Env;
 use std::fmt::{Display, Write};
@@ -16,7 +16,7 @@ use std::{env, io};
 /// Gives what another handle gives, and tells on its standard error what is to be told.
 pub struct QuietHandle<'a, R> {
     pub rt: &'a R,
-    pub told: Told,
+    pub told: Verbosity,
 }
 
 /// By hand: a derived one asks for as much of what it borrows.
@@ -31,7 +31,7 @@ impl<'a, R> Copy for QuietHandle<'a, R> {}
 impl<'a, R> QuietHandle<'a, R> {
     /// Whether a value is told.
     fn tells<D: Display>(&self, value: &D) -> bool {
-        if self.told == Told::All {
+        if self.told == Verbosity::All {
             return true;
         }
         let mut head = Head::new();

@@ -4,18 +4,18 @@ ghost use Rattle.tool_terminal.specs.verbosity.Told.{is_told};
 
 /// What is told on standard error.
 #[derive(Clone, Copy, Debug, PartialEq, Eq)]
-pub enum Told {
+pub enum Verbosity {
     All,
     /// Errors alone: no progress, no notes, no summary.
     Errors,
 }
 
 /// Whether a text that begins with these octets, seven where there are so many, is told. Each error is a text of its own, and begins with `error: `.
-pub fn is_told(told: Told, text: &[u8]) -> bool
+pub fn is_told(told: Verbosity, text: &[u8]) -> bool
     ensures { result ≡ is_told told text.now }
 {
     match told {
-        Told::All => true,
-        Told::Errors => text.starts_with(b"error: "),
+        Verbosity::All => true,
+        Verbosity::Errors => text.starts_with(b"error: "),
     }
 }

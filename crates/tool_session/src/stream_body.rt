@@ -37,99 +37,99 @@ impl Write for SharedFile {
 }
 
 /// A download whose octets go to a file.
-pub type Poured = SinkTransfer<WriterSink<SharedFile>>;
+pub type FileDownloadStream = SinkTransfer<WriterSink<SharedFile>>;
 
 /// An upload whose octets are read of a file.
-pub type Drawn = SourceTransfer<ReaderSource<File>, Global>;
+pub type FileUploadStream = SourceTransfer<ReaderSource<File>, Global>;
 
 /// What goes over a data connection; in boxes, since it is handed on often, and has thousands of octets.
-pub enum Cargo {
+pub enum StreamBody {
     /// What a client gives and hears.
     Own,
-    Poured(Box<Poured, Global>),
-    Drawn(Box<Drawn, Global>),
+    Poured(Box<FileDownloadStream, Global>),
+    Drawn(Box<FileUploadStream, Global>),
 }
 
 /// By hand, as above.
-impl Drop for Cargo {
+impl Drop for StreamBody {
     fn drop(self) {
         match self {
-            Cargo::Own => {}
-            Cargo::Poured(_) | Cargo::Drawn(_) => {}
+            StreamBody::Own => {}
+            StreamBody::Poured(_) | StreamBody::Drawn(_) => {}
         }
     }
 }
 
-impl Cargo {
-    fn into_poured(self) -> Option<Poured> {
+impl StreamBody {
+    fn into_poured(self) -> Option<FileDownloadStream> {
         match self {
-            Cargo::Poured(poured) => Some(Box::into_inner(poured)),
+            StreamBody::Poured(poured) => Some(Box::into_inner(poured)),
             _ => None,
         }
     }
 
-    fn into_drawn(self) -> Option<Drawn> {
+    fn into_drawn(self) -> Option<FileUploadStream> {
         match self {
-            Cargo::Drawn(drawn) => Some(Box::into_inner(drawn)),
+            StreamBody::Drawn(drawn) => Some(Box::into_inner(drawn)),
             _ => None,
         }
     }
 
     /// Whether nothing is carried.
     pub fn is_own(&self) -> bool {
-        matches!(self, Cargo::Own)
+        matches!(self, StreamBody::Own)
     }
 }
 
-impl Carries for Cargo {
+impl Carries for StreamBody {
     fn hear<L: Read>(&mut self, link: &mut L, room: &mut [u8]) -> io::Result<usize> {
         match self {
-            Cargo::Own => link.read(room),
-            Cargo::Poured(poured) => Carries::hear(&mut **poured, link, room),
-            Cargo::Drawn(drawn) => Carries::hear(&mut **drawn, link, room),
+            StreamBody::Own => link.read(room),
+            StreamBody::Poured(poured) => Carries::hear(&mut **poured, link, room),
+            StreamBody::Drawn(drawn) => Carries::hear(&mut **drawn, link, room),
         }
     }
 
     fn give<L: Write>(&mut self, link: &mut L, octets: &[u8]) -> io::Result<usize> {
         match self {
-            Cargo::Own => link.write(octets),
-            Cargo::Poured(poured) => poured.give(link, octets),
-            Cargo::Drawn(drawn) => drawn.give(link, octets),
+            StreamBody::Own => link.write(octets),
+            StreamBody::Poured(poured) => poured.give(link, octets),
+            StreamBody::Drawn(drawn) => drawn.give(link, octets),
         }
     }
 }
 
 /// What can be carried over any control connection.
-pub trait Freight: Carries + Drop {
+pub trait FromStreamBody: Carries + Drop {
     /// As cargo; itself where memory is refused.
-    fn load(self, alloc: Global) -> Result<Cargo, Self>;
+    fn load(self, alloc: Global) -> Result<StreamBody, Self>;
 
     /// What was loaded; none where the cargo is another.
-    fn unload(cargo: Cargo) -> Option<Self>;
+    fn unload(stream_body: StreamBody) -> Option<Self>;
 }
 
-impl Freight for Poured {
-    fn load(self, alloc: Global) -> Result<Cargo, Poured> {
+impl FromStreamBody for FileDownloadStream {
+    fn load(self, alloc: Global) -> Result<StreamBody, FileDownloadStream> {
         match Box::new(alloc, self) {
-            Ok(poured) => Ok(Cargo::Poured(poured)),
+            Ok(poured) => Ok(StreamBody::Poured(poured)),
             Err(failed) => Err(failed.value),
         }
     }
 
-    fn unload(cargo: Cargo) -> Option<Poured> {
-        cargo.into_poured()
+    fn unload(stream_body: StreamBody) -> Option<FileDownloadStream> {
+        stream_body.into_poured()
     }
 }
 
-impl Freight for Drawn {
-    fn load(self, alloc: Global) -> Result<Cargo, Drawn> {
+impl FromStreamBody for FileUploadStream {
+    fn load(self, alloc: Global) -> Result<StreamBody, FileUploadStream> {
         match Box::new(alloc, self) {
-            Ok(drawn) => Ok(Cargo::Drawn(drawn)),
+            Ok(drawn) => Ok(StreamBody::Drawn(drawn)),
             Err(failed) => Err(failed.value),
         }
     }
 
-    fn unload(cargo: Cargo) -> Option<Drawn> {
-        cargo.into_drawn()
+    fn unload(stream_body: StreamBody) -> Option<FileUploadStream> {
+        stream_body.into_drawn()
     }
 }

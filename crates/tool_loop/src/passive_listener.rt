@@ -6,13 +6,13 @@ use std::io;
 use std::net::TcpListener;
 
 /// The port at which an end listens, if it does, and what came there until it is accepted.
-pub(crate) struct Door {
+pub(crate) struct PassiveListener {
     listener: RefCell<Option<TcpListener>>,
     came: RefCell<Option<Socket>>,
 }
 
 /// By hand: a derived drop is proved again, part by part, wherever a door is let go.
-impl Drop for Door {
+impl Drop for PassiveListener {
     fn drop(self) {
         let Self {
             listener: _,
@@ -21,10 +21,10 @@ impl Drop for Door {
     }
 }
 
-impl Door {
+impl PassiveListener {
     /// Nothing is listened at.
-    pub(crate) fn new() -> Door {
-        Door {
+    pub(crate) fn new() -> PassiveListener {
+        PassiveListener {
             listener: RefCell::new(None),
             came: RefCell::new(None),
         }

@@ -1,7 +1,7 @@
 use Rattle.std.proofs.Common.{◌+◌, drop, ap, refl, [], arith}
 use Rattle.ftp_repr.specs.Items.{signs, given_signs}
 use Rattle.tool_codec.proofs.Framing.{sent_front, gives_more, puts_none}
-use Rattle.tool_codec.proofs.frames.Sending.piece.Goals as goal
+use Rattle.tool_codec.proofs.frames.FramedFile.piece.Goals as goal
 
 pub loop-at-preserved-in-Continue-1 : goal.loop-at-preserved-in-Continue-1
 loop-at-preserved-in-Continue-1 g c =

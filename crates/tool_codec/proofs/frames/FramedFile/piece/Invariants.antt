@@ -1,6 +1,6 @@
 use Rattle.std.proofs.Common.{◌-◌, ◌≤◌, length, drop}
 use Rattle.tool_codec.specs.Sending.{Gives}
-use Rattle.tool_codec.proofs.frames.Sending.piece.Given as goal
+use Rattle.tool_codec.proofs.frames.FramedFile.piece.Given as goal
 
 abbrev pub invariant-loop-at : goal.invariant-loop-at
 invariant-loop-at g l = record {

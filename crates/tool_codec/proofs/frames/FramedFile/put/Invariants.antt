@@ -2,7 +2,7 @@ use Rattle.std.proofs.Common.{◌≡◌}
 use Rattle.ftp_repr.specs.Items.{signs}
 use Rattle.ftp_repr.specs.declared.item.Item.TheVariants.{EndFile}
 use Rattle.tool_codec.specs.Sending.{Puts}
-use Rattle.tool_codec.proofs.frames.Sending.put.Given as goal
+use Rattle.tool_codec.proofs.frames.FramedFile.put.Given as goal
 
 abbrev pub invariant-loop : goal.invariant-loop
 invariant-loop g l = record {

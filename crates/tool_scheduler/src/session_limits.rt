@@ -1,7 +1,7 @@
 // How many clients are served at once, and who is told that there is no slot.
 /// How many are served.
 #[derive(Clone, Copy)]
-pub struct House {
+pub struct SessionLimits {
     /// How many at once, from 1 to 64.
     pub at_once: usize,
     /// How many of them from one address.
@@ -29,7 +29,7 @@ pub enum Full {
     Host,
 }
 
-impl House {
+impl SessionLimits {
     /// Why there is no slot for a client that comes while so many are taken, so many of them by clients from its address; none where there is one.
     pub(crate) fn full(self, taken: usize, of_host: usize) -> Option<Full> {
         if of_host >= self.per_host && of_host < self.at_once {

@@ -1,6 +1,6 @@
 use Rattle.std.proofs.Common.{rules}
 use Rattle.tool_accounts.proofs.accounts_file.LinesLemmas.{adds_line}
-use Rattle.tool_accounts.proofs.accounts_file.reading.Said.read_line.Goals as goal
+use Rattle.tool_accounts.proofs.accounts_file.reading.ParsedAccounts.read_line.Goals as goal
 
 pub returns-in-Ok-clause-adds : goal.returns-in-Ok-clause-adds
 returns-in-Ok-clause-adds g c =

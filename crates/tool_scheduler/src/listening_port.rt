@@ -11,7 +11,7 @@ const AGAIN_MILLIS: u64 = 1_000;
 
 /// A port that is listened at.
 #[derive(Drop)]
-pub(crate) struct Door<'a> {
+pub(crate) struct ListeningPort<'a> {
     listener: &'a TcpListener,
     /// Until when no client is taken, since the system gave none.
     shut: Option<u64>,
@@ -26,9 +26,9 @@ pub(crate) enum Caller {
     Failed(io::Error),
 }
 
-impl<'a> Door<'a> {
-    pub(crate) fn new(listener: &'a TcpListener) -> Door<'a> {
-        Door {
+impl<'a> ListeningPort<'a> {
+    pub(crate) fn new(listener: &'a TcpListener) -> ListeningPort<'a> {
+        ListeningPort {
             listener,
             shut: None,
         }
