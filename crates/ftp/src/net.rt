@@ -5,4 +5,6 @@ pub use ftp_facts::Moment;
 pub use ftp_ports::{
     Accepted, Awaited, Beside, Cause, Control, Duplex, For, Ports, Ready, Spoken, Watch,
 };
-pub use tool_sockets::{ControlReader, ControlWriter, SocketPorts, Sockets, SystemWatch, Timeouts};
+pub use tool_sockets::{
+    ClientTimeouts as Timeouts, ControlReader, ControlWriter, SocketPorts, Sockets, SystemWatch,
+};
