@@ -21,6 +21,7 @@ where
     R: Read,
     W: Write,
     F: Write,
+    // Witness: `edits/facts_are_read_as_a_dialogue`.
     ensures done { result ≢ 3 → Does A task (R.remaining reader.old) (R.remaining reader.new) (W.contents writer.old) (W.contents writer.new)
         (F.contents faults.old) (F.contents faults.new) result }
     ensures failed { result ≡ 3 → BreaksOff A task (R.remaining reader.old) (R.remaining reader.new) (W.contents writer.old) (W.contents writer.new)

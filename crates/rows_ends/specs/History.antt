@@ -5,7 +5,7 @@ use Rattle.ftp_ports.specs.Asking as Asks
 use Rattle.rows_ends.specs.declared.history.PortCall.{PortCall}
 use Rattle.rows_ends.specs.declared.history.PortCall.TheVariants as Actions
 
--- a action, and the octets that were written by then; what is left to be read is not told
+-- an action, and the octets that were written by then; what is left to be read is not told
 abbrev pub asked_by : PortCall → List ℕ → Asked
 asked_by (Actions.Listened port) written = Asks.Listened port
 asked_by (Actions.Came host) written = Asks.Came host None (Some written)

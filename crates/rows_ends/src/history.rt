@@ -39,6 +39,7 @@ pub struct History {
 
 impl History {
     pub fn new(alloc: Global) -> History
+        // Witness: equations; `edits/a_closed_port_is_not_noted`, `a_connection_came_from_elsewhere`, `a_reset_is_noted_as_an_end`.
         ensures { result.log.items ≡ [] }
     {
         History {
@@ -51,6 +52,7 @@ impl History {
 
     /// This was asked too, of no data connection that stands.
     pub fn note(&mut self, action: PortCall)
+        // Witness: as of `new`.
         ensures { asked_in self.new.log.items ≡ asked_by action [] ∷ asked_in self.old.log.items }
     {
         let none = Vec::new(self.alloc);
@@ -59,6 +61,7 @@ impl History {
 
     /// This was asked too, of a data connection to which these octets were written by then.
     pub fn note_of(&mut self, action: PortCall, written: &Vec<u8>)
+        // Witness: as of `new`.
         ensures { asked_in self.new.log.items ≡ asked_by action written.now.items ∷ asked_in self.old.log.items }
     {
         let log = self.log.and(&action, written);

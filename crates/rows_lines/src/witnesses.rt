@@ -31,6 +31,7 @@ pub fn an_item_keeps_the_room<A: Allocator + Copy>(
     item: Item<'_>,
     file: &mut Vec<u8, A>,
 ) -> bool
+    // Witness: it passes on the clause `capacity` of `Receiver::take` and `end`; nothing stands on it.
     ensures { vec_capacity file.old ≤ vec_capacity file.new }
 {
     let taken = receiver.take(item, file).is_ok();

@@ -117,7 +117,9 @@ where
     A: Allocator + Copy,
     R: Read,
     W: Write,
+    // Witness of done: `a_fault_is_status_0`.
     ensures done { result ≢ 3 → TellsAll A (R.remaining reader.old) (R.remaining reader.new) (W.contents writer.old) (W.contents writer.new) result }
+    // Witness of failed: `edits/a_line_keeps_its_return`.
     ensures failed { result ≡ 3 → TellsFront A (R.remaining reader.old) (R.remaining reader.new) (W.contents writer.old) (W.contents writer.new) }
 {
     match tell_all(alloc, reader, writer) {

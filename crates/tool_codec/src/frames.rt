@@ -194,6 +194,8 @@ where
     R: Read,
     W: Write,
     F: Write,
+    // Witness of done: to a wire `a_file_that_broke_off_is_status_0`, from one `what_was_read_before_a_fault_is_not_written`.
+    // Witness: `markers_are_written_unasked`.
     ensures done { result ≢ 3 → Goes form direction (R.remaining reader.old) (R.remaining reader.new) (W.contents writer.old) (W.contents writer.new)
         (F.contents faults.old) (F.contents faults.new) result }
     ensures failed { result ≡ 3 → GoesFront form direction (R.remaining reader.old) (R.remaining reader.new) (W.contents writer.old) (W.contents writer.new)

@@ -151,6 +151,7 @@ where
     R: Read,
     W: Write,
     F: Write,
+    // Witness: `frame`, done and failed, from a wire; `a_fault_of_a_wire_is_status_0`.
     ensures done { result ≢ 3 → Tells form (R.remaining reader.old) (R.remaining reader.new) (W.contents writer.old) (W.contents writer.new)
         (F.contents faults.old) (F.contents faults.new) result }
     ensures failed { result ≡ 3 → TellsFront form (R.remaining reader.old) (R.remaining reader.new) (W.contents writer.old) (W.contents writer.new)

@@ -12,6 +12,7 @@ use ftp_settings::{Kind, Mode, Representation, Structure};
 
 /// A decimal number below 2^32, as it is written: digits alone, leading zeros read, no sign.
 pub fn number_of(text: &str) -> Option<u32>
+    // Witness: an equation; `a_number_may_have_a_sign`, `a_word_is_read_as_the_number_0`.
     ensures { SomeIff result (IsNumeral 10 text.now × (digits_value 10 text.now < 2 ^ 32)) (digits_value 10 text.now) }
 {
     if text.starts_with('+') {
@@ -22,6 +23,7 @@ pub fn number_of(text: &str) -> Option<u32>
 
 /// Type, structure and mode, each by its letter (RFC 959, section 5.3.2); none where one is no such letter.
 pub fn representation_of(kind: &str, structure: &str, mode: &str) -> Option<Representation>
+    // Witness: an equation: three letters name one representation at most.
     ensures some { IfSome result (λ form. Names kind.now structure.now mode.now form) }
     ensures none { IsNone result → (form : Representation) → ¬ Names kind.now structure.now mode.now form }
 {

@@ -45,9 +45,11 @@ impl<A: Allocator + Copy> Answers<A> {
         writer: &mut W,
     ) -> Result<(), Failed>
         requires free { IsFree (view_of T.table J.view server.old) }
+        // Witness of free, answers, wrote: `dialogue`, done.
         ensures free { OnOk result (IsFree (view_of T.table J.view server.new)) }
         ensures answers { OnOk result (IsAnswered piece.now (view_of T.table J.view server.old) self.old.refused self.new.text.items (view_of T.table J.view server.new) self.new.refused) }
         ensures wrote { OnOk result (Appends (W.contents writer.old) (W.contents writer.new) self.new.text.items) }
+        // Witness of err: `dialogue`, failed.
         ensures err { OnErr result ((read : Reading) → IsReading read → (before : List ℕ)
             → BreaksIn read piece.now (view_of T.table J.view server.old) self.old.refused before (W.contents writer.old) (W.contents writer.new)) }
     {

@@ -34,7 +34,10 @@ where
     A: Allocator + Copy,
     R: Read,
     W: Write,
+    // Witness of done: the law `laws::one_dialogue`: of a known input it leaves one output and one status; `a_refusal_is_status_0`,
+    // `reads_on_after_goodbye`, `reads_more_than_asked_for`.
     ensures done { result ≢ 3 → Converses (most_of piece) (R.remaining reader.old) (R.remaining reader.new) (W.contents writer.old) (W.contents writer.new) result }
+    // Witness of failed: `never_greets`.
     ensures failed { result ≡ 3 → BreaksOff (most_of piece) (R.remaining reader.old) (R.remaining reader.new) (W.contents writer.old) (W.contents writer.new) }
 {
     let tree = MemTree::new(alloc);

@@ -22,6 +22,7 @@ where
     T: SureTree<A>,
     J: ServerTransfer<A, T>,
     requires { may_hear (view_of T.table J.view server.old) ≡ true }
+    // Witness: an equation, but for want of memory; `want_of_memory_is_no_error`.
     ensures { OnOk result ((read : Reading) → IsReading read
         → view_of T.table J.view server.new ≡ hears_octet read (view_of T.table J.view server.old) octet) }
 {

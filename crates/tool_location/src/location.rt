@@ -31,6 +31,7 @@ impl<'a> Location<'a> {
 
 /// The place that a text names: HOST/PATH or HOST:PORT/PATH, an IPv6 address in brackets; `None` where it names none.
 pub fn place_of(text: &str) -> Option<Location<'_>>
+    // Witness: law: `one_place`.
     ensures some { IfSome result (λ place. Names text.now place.host.now place.port place.path.now) }
     ensures none { IfNone result ((host : List ℕ) (port : ℕ) (path : List ℕ) → ¬ Names text.now host port path) }
 {

@@ -6,6 +6,7 @@ use std::alloc::{AllocError, Global};
 
 /// The path of what stands below a root, or below a directory: both, with one slash between them where neither is empty.
 pub fn joined(alloc: Global, root: &str, below: &str) -> Result<String<Global>, AllocError>
+    // Witness: an equation, where memory is not refused.
     ensures { IfOk result (λ path. string_bytes path ≡ joined root.now below.now) }
 {
     let mut path: String<Global> = String::from_str(alloc, root)?;
@@ -40,6 +41,7 @@ pub fn place_for(
     target: &str,
     file: &str,
 ) -> Result<String<Global>, AllocError>
+    // Witness: an equation, where memory is not refused.
     ensures { IfOk result (λ path. string_bytes path ≡ place_for into target.now file.now) }
 {
     if into {

@@ -16,7 +16,9 @@ pub fn netrc_entry(
     host: &[u8],
     user: &[u8],
 ) -> Result<Option<NetrcEntry<Text<Global>>>, NetrcFault>
+    // Witness of entry: an equation, where memory is not refused.
     ensures entry { IfOk result (λ entry. entry ≡ entry_said host.now user.now text.now) }
+    // Witness of fault: an equation, beside memory.
     ensures fault { IfErr result (λ fault. IsNetrcFault host.now user.now text.now fault) }
 {
     match read(alloc, text, Wanted { host, user }) {

@@ -90,6 +90,7 @@ fn check_private<F: OpenFile>(opened: &F, most: u64) -> Result<(), NotPrivate> {
 
 /// Who may use a file of this owner and mode, where `me` runs; users by the system's numbers.
 pub fn access_of(owner: u32, me: u32, mode: u32) -> FileAccess
+    // Witness: an equation; `root_reads_what_another_may_write.edit`, `a_group_reads_the_file_of_any_owner.edit`, beside the gate.
     ensures { result ≡ access_of owner me mode }
 {
     if owner != ROOT && owner != me {

@@ -1,4 +1,4 @@
--- Refused logins, counted by the address that they came from (own choice; RFC 2577, section 5, advises to slow who login_limiter).
+-- Refused logins, counted by the address that they came from (own choice; RFC 2577, section 5, advises to slow who guesses).
 use Rattle.std.specs.Prelude.{ℕ, ◌+◌, ◌-◌, ◌==◌, ◌++◌, Bool, nat_lt, min, List, [], ◌∷◌, Option, Some, None, length, not, remove, slice_get, slice_set, if◌then◌else◌}
 use Rattle.std.specs.List.{find, position}
 use Rattle.std.specs.Option.{option_map, unwrap_or}

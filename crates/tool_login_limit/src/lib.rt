@@ -1,4 +1,4 @@
-//! Refused logins, counted by the address that they came from: who login_limiter passwords over many connections is answered slowly (RFC 2577, section 5).
+//! Refused logins, counted by the address that they came from: who guesses passwords over many connections is answered slowly (RFC 2577, section 5).
 #![tactic(auto)]
 
 mod login_limiter;

@@ -24,6 +24,7 @@ pub fn plan(
     source: &DirectoryListing<Global>,
     target: &DirectoryListing<Global>,
 ) -> Result<Vec<PlanStep<Global>, Global>, AllocError>
+    // Witness: an equation, where memory is not refused.
     ensures { IfOk result (λ planned. planned.items ≡ plan rules source.now target.now) }
 {
     match (source, target) {

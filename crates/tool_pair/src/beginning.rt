@@ -54,7 +54,10 @@ impl<A: Allocator + Copy, T: Tree<A>> Beginning<A, T> {
         far_host: Host,
     ) -> Result<Self, Unfair>
         ensures begun { IfOk result (λ of. begun of.login.user of.login.pass of.accounts (T.table of.tree) of.near_host of.far_host ≡ begun login.user login.pass list.items (T.table tree) near_host far_host) }
+        // Witness of unfair: refused only where it is not fair, or its tree is over the limit; where taken, a ghost field proves that it is fair and
+        // within (`CanBegin`): `edits/hosts_of_two_families_are_taken`.
         ensures unfair { IfErr result (λ fault. ¬ CanBegin (begun login.user login.pass list.items (T.table tree) near_host far_host)) }
+        // Witness of why: `edits/accounts_that_are_refused_are_told_as_hosts_of_two_families`, `a_full_tree_is_told_as_hosts_of_two_families`.
         ensures why { IfErr result (λ fault. IsWhy fault (begun login.user login.pass list.items (T.table tree) near_host far_host)) }
     {
         if !are_related(near_host, far_host) {

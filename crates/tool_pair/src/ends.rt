@@ -20,6 +20,7 @@ pub fn world_of<A: Allocator + Copy, T: SureTree<A>, C: ClientTransfer<A>, J: Se
     alloc: A,
     of: Beginning<A, T>,
 ) -> Result<Ends<A, T, C, J>, AllocError>
+    // Witness: equations; `edits/both_ends_are_on_one_host`.
     ensures world { IfOk result (λ w. w.world ≡ world_of (begun of.login.user of.login.pass of.accounts (T.table of.tree) of.near_host of.far_host)) }
     ensures calm { IfOk result (λ w. w.calm ≡ true) }
 {

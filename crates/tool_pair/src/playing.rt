@@ -58,6 +58,10 @@ where
     R: Read,
     W: Write,
     F: Write,
+    // Witness: `edits/octets_that_were_taken_are_not_told`, `the_client_says_what_the_server_did`, `a_script_that_was_played_is_told_of_as_a_fault`.
+    // Witness: `edits/the_transcript_is_empty`, `the_transcript_is_written_twice`, `a_transcript_is_written_unasked`.
+    // Witness: `edits/an_order_is_left_out`, `each_order_has_one_second`, `both_logins_are_at_the_root`, `something_is_in_flight`.
+    // Witness: `edits/no_report_is_written`, `a_report_is_left_out_at_status_1`, `a_refusal_is_status_0`, `refused_memory_is_status_1`.
     ensures { Tells A settings.transcript settings.roots (R.remaining reader.old) (R.remaining reader.new) (W.contents writer.old) (W.contents writer.new)
         (F.contents faults.old) (F.contents faults.new) result }
 {

@@ -23,6 +23,7 @@ impl<A: Allocator + Copy> Transcript<A> {
     /// No lines yet; none are kept where they are not wanted. Takes no memory.
     pub fn new(alloc: A, wanted: bool) -> Transcript<A>
         ensures wanted { is_wanted result ≡ wanted }
+        // Witness of told: equations.
         ensures told { HasTold result [] }
     {
         Transcript {
@@ -35,6 +36,8 @@ impl<A: Allocator + Copy> Transcript<A> {
 
     /// Octets of a queue were taken by its receiver. Refused memory, a transcript is of no use any more.
     pub fn take(&mut self, queue: Queue, octets: &[u8]) -> Result<(), AllocError>
+        // Witness: `edits/the_front_of_a_line_is_forgotten`, `the_end_of_a_line_is_told`; text and unfinished lines are equations.
+        // Witness: `edits/nothing_is_told`, `a_line_is_told_before_its_end`, `a_line_is_told_twice`, `lines_of_the_server_are_the_clients`.
         ensures tells { OnOk result (TellsMore self.old (delivered (queue_of queue) octets.now ∷ []) self.new) }
     {
         if !self.wanted {
@@ -53,6 +56,7 @@ impl<A: Allocator + Copy> Transcript<A> {
 
     /// The lines, with who says each before it.
     pub fn lines(&self) -> &[u8]
+        // Witness: an equation; `edits/the_transcript_says_done`.
         ensures { result.now ≡ text_of self.now }
     {
         self.lines.as_slice()

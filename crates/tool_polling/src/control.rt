@@ -10,7 +10,7 @@ use std::rc::Rc;
 use tool_sockets::send_now;
 
 /// Reads a control connection, where octets are there. The system takes an urgent octet out of what is read; behind CR it is taken for LF, and behind IAC
-/// for the data mark 242, so that an ABOR whose last octet is urgent is a line, and a Synch is whole. Where timeouts is over, the connection has ended.
+/// for the data mark 242, so that an ABOR whose last octet is urgent is a line, and a Synch is whole. Where its time is over, the connection has ended.
 #[derive(Drop)]
 pub struct LineReader {
     line: Rc<ControlLine, Global>,

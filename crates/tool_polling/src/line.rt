@@ -265,7 +265,7 @@ impl ControlLine {
         }
     }
 
-    /// Whether a reply may go now, and there is room for it; where timeouts is over, it can't go.
+    /// Whether a reply may go now, and there is room for it; where its time is over, it can't go.
     pub(crate) fn has_room(&self) -> Result<(), Awaits> {
         let held = self.held.get();
         if monotonic_millis() < held && !self.timeouts.is_spent() {

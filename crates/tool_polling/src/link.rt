@@ -26,7 +26,7 @@ const LAST_MILLIS: u64 = 30_000;
 /// The most octets of a download that wait in the system where a transfer that moves is spared: so a slow one has room for more while it moves.
 const SPARED_ROOM: i32 = 65_536;
 
-/// A data connection. What would wait fails where timeouts is over, and is interrupted else: who looks first meets neither. Where the session is ended, or no
+/// A data connection. What would wait fails where its time is over, and is interrupted else: who looks first meets neither. Where the session is ended, or no
 /// time is left of it, its control connection has ended, and what goes after that fails. The last octets of a download go after the end of the control
 /// connection while the peer takes some within 30 seconds.
 #[derive(Drop)]
@@ -39,7 +39,7 @@ pub struct LineLink {
     limit: i32,
     /// What the last look found of the control connection and of this one, until that is asked for.
     seen: Option<(Spoken, Other)>,
-    /// Whether timeouts was over where it was looked at last, and nothing was there: the next read or write says so.
+    /// Whether its time was over where it was looked at last, and nothing was there: the next read or write says so.
     is_late: bool,
     /// Whether the peer's end was told of, and whether it was read, behind all that it sent.
     is_ending: bool,

@@ -182,7 +182,7 @@ impl Timeouts {
         self.term().map(|term| term.left)
     }
 
-    /// Why timeouts is over now, if it is.
+    /// Why its time is over now, if it is.
     pub(crate) fn spent(&self) -> Option<TimeoutReason> {
         match self.term() {
             Some(term) if term.left == 0 => Some(term.over),

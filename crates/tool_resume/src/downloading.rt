@@ -1,13 +1,14 @@
 // A download, which goes on where it was cut: where its data connection broke, where its control connection ended, and where the server says that all
 // is sent and not all came. After each try the server is asked once more which file it has: octets of two files are never joined.
 mod ahead;
+mod looking;
 
 use crate::came::{ReceivedOctets, poured};
 use crate::noting::Noting;
 use crate::step::{Ended, NextStep};
 use crate::telling::ToldPart;
 use crate::tries::follows_download;
-use crate::trying::{ended_of, is_counted, moment_request, size_request};
+use crate::trying::{ended_of, is_counted};
 use crate::version::{
     Arrival, FileVersion, LastChange, Size, arrived, is_too_large, last_change, resumes,
 };
@@ -285,59 +286,6 @@ impl<'a, R: LocalFiles + Eprint> Downloading<'a, R> {
         DownloadTurn::GoesOn
     }
 
-    /// Asks which file the server has: for its size and its moment. Says whether anything more is answered over this control connection.
-    fn look<S: ClientSession>(&mut self, slot: &mut S) -> bool {
-        if !self.is_ahead() {
-            self.asked_at = self.rt.present();
-        }
-        self.look_at_size(slot) && self.look_at_moment(slot)
-    }
-
-    /// The same after a try; what the server did not tell before it is not asked for.
-    fn look_again<S: ClientSession>(&mut self, slot: &mut S) -> bool {
-        (!matches!(self.size, Size::Told(_)) || self.see(slot))
-            && (!matches!(self.stamp, KnownMoment::Told(_)) || self.look_at_moment(slot))
-    }
-
-    /// Asks for the size; says whether anything more is answered over this control connection.
-    fn look_at_size<S: ClientSession>(&mut self, slot: &mut S) -> bool {
-        match self.size {
-            Size::Uncounted | Size::Strange | Size::Past => true,
-            Size::Told(_) | Size::Untold => self.see(slot),
-        }
-    }
-
-    /// Takes in what the server tells of the size; says whether anything more is answered over this control connection.
-    fn see<S: ClientSession>(&mut self, slot: &mut S) -> bool {
-        match &self.size_answer(slot) {
-            Answer::Number(count) => self.size = Size::Told(*count),
-            Answer::Strange => self.size = Size::Strange,
-            Answer::Lost => return false,
-            _ => self.size = Size::Untold,
-        }
-        !matches!(self.size, Size::Strange)
-    }
-
-    /// Asks for the moment; says whether anything more is answered over this control connection.
-    fn look_at_moment<S: ClientSession>(&mut self, slot: &mut S) -> bool {
-        match self.stamp {
-            KnownMoment::Unasked | KnownMoment::Strange => return true,
-            KnownMoment::Untold | KnownMoment::Told(_) => {}
-        }
-        match &answer_to(slot, moment_request(self.alloc, self.path.as_str())) {
-            Answer::Stamp(moment) => self.stamp = KnownMoment::Told(*moment),
-            Answer::Strange => self.stamp = KnownMoment::Strange,
-            Answer::Lost => return false,
-            _ => self.stamp = KnownMoment::Untold,
-        }
-        !matches!(self.stamp, KnownMoment::Strange)
-    }
-
-    /// What the server answers to the question for the size.
-    fn size_answer<S: ClientSession>(&self, slot: &mut S) -> Answer<Global> {
-        answer_to(slot, size_request(self.alloc, self.path.as_str(), self.how))
-    }
-
     /// One try, behind what came so far.
     fn turn<S: ClientSession>(&mut self, slot: &mut S) -> DownloadTurn {
         let opened = slot.opened();
@@ -570,17 +518,6 @@ impl<'a, R: LocalFiles + Eprint> SessionTask<Result<Answer<Global>, SessionFault
     for Downloading<'a, R> {
     fn play<S: ClientSession>(&mut self, slot: &mut S) -> Result<Answer<Global>, SessionFault> {
         Ok(self.answer(slot))
-    }
-}
-
-/// What is answered to a question, if memory is not refused for it.
-fn answer_to<S: ClientSession>(
-    slot: &mut S,
-    request: Result<Request, AllocError>,
-) -> Answer<Global> {
-    match request {
-        Ok(request) => slot.answer(request),
-        Err(AllocError) => Answer::Memory,
     }
 }
 

@@ -83,6 +83,7 @@ pub fn front_from(count: u64) -> u64
 
 /// What follows where a try would go on behind so many octets, of which the last are these: it goes on behind the source's own alone, and else begins anew.
 pub fn behind_front(count: u64, front: FrontOwner) -> NextStep
+    // Witness: an equation; `edits/an_upload_goes_on_behind_another_file`.
     ensures { result ≡ behind_front count front }
 {
     match front {

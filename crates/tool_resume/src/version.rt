@@ -60,6 +60,7 @@ pub enum Arrival {
 /// A server does not tell what its clock shows. So it is assumed that its clock is not behind this one by more than the file's age: for a file that was
 /// changed an hour ago, by not more than an hour. A moment that lies ahead is recent. That a moment was set by hand, as by `cp -p`, nothing tells.
 pub fn last_change(moment: Option<u64>, asked: u64) -> LastChange
+    // Witness: an equation; `edits/a_moment_ahead_is_settled`.
     ensures { result ≡ last_change moment asked }
 {
     match moment {
@@ -99,6 +100,7 @@ fn settled_moment(changed: LastChange) -> Option<u64>
 /// Where a download goes on of which so many octets came of the file `before`, where the server has the file `now`: after them where it tells size and
 /// moment, these are those of before, and a change since it was asked before had another moment; else it begins anew.
 pub fn resumes(before: FileVersion, now: FileVersion, came: u64) -> u64
+    // Witness: an equation; `edits/versions_of_one_second_are_joined`.
     ensures { result ≡ resumes before now came }
 {
     if is_seen_again(before, now) && has_so_many(size_told(now.size), came) {

@@ -4,6 +4,7 @@ ghost use Rattle.tool_scheduler.specs.Waits.{EachAddressHasATurn, NobodyHasTwoTu
 
 /// Who waits and is ready is passed over by each of the others once at most, so by fewer turns than there are places; and the places stay the same.
 pub fn turns_are_fair()
+    // Witness: each is proved of an empty body: its own witness.
     ensures passed { NobodyIsPassedTwice }
     ensures stay { PlacesStay }
     ensures start { FairFromTheStart }
@@ -12,6 +13,7 @@ pub fn turns_are_fair()
 /// In each round one session of each address that is ready has a turn, and none has two; and whoever is ready has its turn before as many more rounds begin as
 /// there are places.
 pub fn rounds_are_fair()
+    // Witness: the same.
     ensures address { EachAddressHasATurn }
     ensures once { NobodyHasTwoTurns }
     ensures soon { NobodyWaitsForLong }

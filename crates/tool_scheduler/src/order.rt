@@ -41,6 +41,7 @@ impl<A: Allocator> TurnOrder<A> {
 
     /// The first place that is ready takes its turn, and comes after all others from then on.
     pub fn take(&mut self, ready: &[bool]) -> Option<usize>
+        // Witness of taken: `edits/the_second_that_is_ready_is_next.edit`, `who_takes_a_turn_keeps_its_place`, `the_first_that_is_not_ready_is_next`.
         ensures taken { IfSome result (λ place. Takes ready.now self.old place self.new) }
 
         // Where none is ready, nothing changes.

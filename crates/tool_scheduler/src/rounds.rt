@@ -46,6 +46,8 @@ pub fn serve_rounds<M: Slots>(
     slots: &M,
     tree: &mut M::Tree,
 ) -> Result<bool, AllocError>
+    // Witness: `edits/a_slot_that_is_next_has_no_turn.edit`, `one_slot_has_two_turns`, `the_order_is_not_asked`, `who_had_a_turn_is_still_ready`,
+    // `an_address_has_a_second_turn_first`.
     ensures { AreRounds (min session_limits.at_once 64) (M.Slot.history tree.old) (M.Slot.history tree.new) }
 {
     let count = session_limits.at_once.min(MOST_SLOTS);
@@ -432,7 +434,7 @@ impl<'a, M: Slots> Rounds<'a, M> {
         }
     }
 
-    /// Slots a client; one that could not be in_slot counts as a session that failed.
+    /// Slots a client; one that could not be in a slot counts as a session that failed.
     #[inline(never)]
     fn slot(&mut self, stream: TcpStream, peer: SocketAddr, tree: &M::Tree) {
         self.session_limits.sessions = self

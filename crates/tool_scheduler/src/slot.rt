@@ -49,6 +49,7 @@ pub trait Slot<T>: Drop {
 
     /// Goes on until it waits, is over, or has had its part; `told` is what the last poll told of what it waited for.
     fn turn(&mut self, turn: Turn, told: Awaits, tree: &mut T) -> TurnResult
+        // Witness: what an owner tells of itself: rounds tell by no other call, and `serve_rounds` says what they told.
         ensures { Adds (history tree.old) (history tree.new) (action_of turn ∷ []) };
 
     /// What it waits for.
@@ -87,6 +88,7 @@ pub trait Slots {
 
     /// A round begins, in which the sessions in these slots are ready, and whose clients count as these; who does not tell that does nothing.
     fn begin_round(&self, ready: &[bool], hosts: &[u128], tree: &mut Self::Tree)
+        // Witness: as of `turn`.
         ensures { Adds (Self.Slot.history tree.old) (Self.Slot.history tree.new) (Began ready.now hosts.now ∷ []) };
 
     /// A client for whom there is no slot was told so, and its connection.

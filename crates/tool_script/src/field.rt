@@ -13,6 +13,7 @@ use std::alloc::{AllocError, Allocator};
 
 /// The octets that a field says.
 pub fn octets_of<A: Allocator + Copy>(alloc: A, field: &[u8]) -> Result<Text<A>, LineFault>
+    // Witness: an equation, where memory is not refused: a field says one row of octets, or none.
     ensures { Reads (λ octets. octets) result (field_value field.now) }
 {
     if field == b"\\e".as_slice() {

@@ -16,6 +16,7 @@ use std::alloc::{AllocError, Allocator};
 /// What a line asks, given without its end.
 #[tactic(auto, unfolding(crate::specs::Line::order_value))]
 pub fn order_of<A: Allocator + Copy>(alloc: A, line: &[u8]) -> Result<Order<Text<A>>, LineFault>
+    // Witness: an equation, where memory is not refused: a line says one order, or none.
     ensures { Reads (λ order. order) result (order_value line.now) }
 {
     match fields_of(alloc, line) {
@@ -181,6 +182,7 @@ fn giving_op<A: Allocator + Copy>(
 /// The login that a line says, given without its end.
 #[tactic(auto, unfolding(crate::specs::Line::login_value))]
 pub fn login_of<A: Allocator + Copy>(alloc: A, line: &[u8]) -> Result<Login<A>, LineFault>
+    // Witness: as `order_of`.
     ensures { Reads (λ login. (login.user, login.pass)) result (login_value line.now) }
 {
     match fields_of(alloc, line) {

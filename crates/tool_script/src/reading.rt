@@ -49,6 +49,7 @@ pub fn read_script<A: Allocator + Copy, R: Read>(
     alloc: A,
     reader: &mut R,
 ) -> Result<Script<A>, NoScript>
+    // Witness: an equation, where no read failed and memory was not refused: a text says one script, or is refused at one line.
     ensures { ReadsScript (R.remaining reader.old) (R.remaining reader.new) result }
 {
     let text = match text_of(alloc, reader) {

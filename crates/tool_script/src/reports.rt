@@ -17,6 +17,7 @@ pub fn write_reports<A: Allocator + Copy, B: Allocator + Copy, W: Write>(
     answers: &[Answer<A>],
     writer: &mut W,
 ) -> io::Result<Status>
+    // Witness of wrote: equations.
     ensures wrote { OnOk result (Appends (W.contents writer.old) (W.contents writer.new) (flat_map report answers.now)) }
     ensures status { IfOk result (λ status. status ≡ worst_of answers.now) }
 {
@@ -33,6 +34,7 @@ pub fn write_report<A: Allocator + Copy, B: Allocator + Copy, W: Write>(
     answer: &Answer<A>,
     writer: &mut W,
 ) -> io::Result<Status>
+    // Witness of wrote: equations.
     ensures wrote { OnOk result (Appends (W.contents writer.old) (W.contents writer.new) (report answer.now)) }
     ensures status { IfOk result (λ status. status ≡ status_of answer.now) }
 {

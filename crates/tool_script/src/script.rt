@@ -31,6 +31,7 @@ pub enum ScriptFault {
 
 /// What a script says. Each line is ended by LF: a last one that is not is refused. A script without a line lacks its first.
 pub fn script_of<A: Allocator + Copy>(alloc: A, text: &[u8]) -> Result<Script<A>, ScriptFault>
+    // Witness: as `order_of`: a script says one login and one list of orders, or is refused at one line.
     ensures { ReadsAll (λ script. ((script.login.user, script.login.pass), script.orders.items)) result (script_value text.now) }
 {
     match pieces_of(alloc, text) {

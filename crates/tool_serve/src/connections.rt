@@ -1,4 +1,4 @@
-// The connections of a session, of which its session_log is told.
+// The connections of a session, of which its session log is told.
 ghost use Rattle.std.specs.Global.{Global};
 ghost use Rattle.std.specs.Prelude.{None};
 ghost use Rattle.ftp_ports.specs.Asking.{Closes};

@@ -1,4 +1,4 @@
-// One session in its slot: a server beside its connections, and the session_log of both.
+// One session in its slot: a server beside its connections, and the session log of both.
 ghost use Rattle.std.specs.Global.{Global};
 
 use crate::connections::{CountedLink, CountedPorts, SaidWriter};
@@ -113,7 +113,7 @@ where
     T: Tree<Global> + Explains,
     F: Lends<Global, T>,
 {
-    /// A session that begins, of a server that has a bare tree; `watching` is its session_log too.
+    /// A session that begins, of a server that has a bare tree; `watching` is its session log too.
     pub(crate) fn new(
         rt: &'a R,
         server: F,

@@ -1,4 +1,4 @@
-// The session_log of a session looks on while its server is driven.
+// The session log of a session looks on while its server is driven.
 ghost use Rattle.std.specs.Global.{Global};
 
 use crate::session_log::SessionLog;
@@ -11,10 +11,10 @@ use std::alloc::Global;
 use std::marker::PhantomData;
 use std::rc::Rc;
 
-/// A session_log that is told of each call of a server over a tree `T`.
+/// A session log that is told of each call of a server over a tree `T`.
 #[derive(Drop)]
 pub(crate) struct Watching<'a, R: Tells, T> {
-    /// By which the session_log tells: it lives as long.
+    /// By which the session log tells: it lives as long.
     _rt: &'a R,
     session_log: Rc<SessionLog<'a, R>, Global>,
     _over: PhantomData<T>,

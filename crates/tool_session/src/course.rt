@@ -118,6 +118,7 @@ impl RequestState {
 /// Whether a data connection did not end although the server says that all is done: what it brought is reported as broken off, since a wait for more
 /// found no end.
 fn is_unended(is_silent: bool, report: &Option<Answer<Global>>, line: &[u8]) -> bool
+    // Witness: an equation; `edits/a_data_connection_that_broke_counts_as_unended`.
     ensures { result ≡ is_unended is_silent report.now line.now }
 {
     match report {

@@ -96,6 +96,7 @@ fn start_of(op: &Option<Op<Text<Global>>>) -> u64 {
 
 /// Begins what is requested, which is taken out of there.
 pub fn begin<N: Near<Global>>(client: &mut N, request: &mut Request)
+    // Witness: `answer` of `LiveSession` of `tool_connect` needs it.
     ensures { Begins request.old (N.client client.old) (N.client client.new) }
 {
     match request {

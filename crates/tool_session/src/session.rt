@@ -33,6 +33,8 @@ pub trait ClientSession {
 
     /// Does what is requested, and gives its answer.
     fn answer(&mut self, request: Request) -> Answer<Global>
+        // Witness: edits of `tool_connect`: `another_answer_than_the_report_is_given`, `a_request_is_not_begun`; a session that is made up, as of
+        // `rows_tool`, says nothing.
         ensures { answers request result self.old self.new };
 
     /// The same, where something else goes over the data connection than the client gives and hears: what is at home in the cell, and is back there then.
@@ -41,6 +43,7 @@ pub trait ClientSession {
         request: Request,
         home: &Cell<Option<T>>,
     ) -> Answer<Global>
+        // Witness: as `answer`, whose witnesses stand for it; a session that is made up says nothing.
         ensures { carried request result self.old self.new };
 
     /// The answer to this, where it was asked ahead by this ticket with something else over its data connection, which is in the cell then; none where it is
@@ -56,6 +59,7 @@ pub trait ClientSession {
 
     /// What came of the download that was asked for last, where its control connection ended in its middle; else nothing.
     fn came(&self) -> &[u8]
+        // Witness: an edit of `tool_connect`: `nothing_is_kept_of_a_lost_download`; a session that is made up says nothing.
         ensures { keeps result.now self.now };
 
     /// How many data connections were opened so far.

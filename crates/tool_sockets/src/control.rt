@@ -16,7 +16,7 @@ const LAST_MILLIS: u64 = 1_000;
 /// What of a control connection ends a wait for octets.
 const OCTETS: i16 = c::POLLIN | c::POLLRDHUP;
 
-/// Reads a control connection. Where timeouts is over, it has ended.
+/// Reads a control connection. Where its time is over, it has ended.
 #[derive(Drop)]
 pub struct ControlReader<'a> {
     stream: &'a TcpStream,
@@ -59,7 +59,7 @@ impl<'a> ControlWriter<'a> {
     }
 }
 
-/// Waits until something of these events is there; not where timeouts is over, which ends it.
+/// Waits until something of these events is there; not where its time is over, which ends it.
 fn is_there(stream: &TcpStream, events: i16, timeouts: &ClientTimeouts) -> io::Result<bool> {
     let mut asked = [asking(stream, events)];
     match timeouts.wait(&mut asked) {
@@ -74,6 +74,7 @@ fn is_there(stream: &TcpStream, events: i16, timeouts: &ClientTimeouts) -> io::R
 
 /// Writes as many octets as there is room for now; fails as `WouldBlock` where there is none.
 pub fn send_now<S: AsRawFd>(stream: &S, octets: &[u8]) -> io::Result<usize>
+    // Witness: the writers of `tool_polling` and of this crate: `Write::write` asks for it.
     ensures within { IfOk result (λ count. count ≤ length octets.now) }
 {
     let flags = c::MSG_NOSIGNAL | c::MSG_DONTWAIT;

@@ -7,6 +7,7 @@ use std::net::{IpAddr, Ipv4Addr, Ipv6Addr, SocketAddr};
 
 /// The host of an address; an IPv4 address that is mapped into IPv6 is that IPv4 address.
 pub fn host_of(addr: SocketAddr) -> Host
+    // Witness: `edits/a_mapped_host_stays_ipv6.edit`.
     ensures { IsHostOf (socket_ip addr) result }
 {
     match addr.ip().to_canonical() {

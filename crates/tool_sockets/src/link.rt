@@ -10,7 +10,7 @@ use std::net::{Shutdown, TcpStream};
 /// The most reads of octets that came behind the end of a transfer.
 const LAST_READS: u32 = 4096;
 
-/// A data connection. A read or a write that would wait fails as `WouldBlock` where the control connection has octets or ended. Where timeouts is over,
+/// A data connection. A read or a write that would wait fails as `WouldBlock` where the control connection has octets or ended. Where its time is over,
 /// what would wait fails, and so does a connection whose peer takes nothing of what was written for as long.
 #[derive(Drop)]
 pub struct DataSocket<'a> {

@@ -92,7 +92,7 @@ impl<'a, R: Sockets> SocketPorts<'a, R> {
         Ok(port)
     }
 
-    /// Opens a connection; ends as failed where the control connection does, and where timeouts is over.
+    /// Opens a connection; ends as failed where the control connection does, and where its time is over.
     fn open(&self, addr: SocketAddr) -> io::Result<Option<TcpStream>> {
         let begun = self.net.connecting(addr)?;
         if !is_open_in_time(self.control, &begun, self.timeouts) {

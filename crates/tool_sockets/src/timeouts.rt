@@ -15,7 +15,7 @@ const PIECE_MILLIS: i32 = 1_000;
 pub(crate) enum Waited {
     /// What was asked for of a socket is there.
     Told,
-    /// Timeouts is over.
+    /// Its time is over.
     Over,
     Failed,
 }

@@ -18,6 +18,7 @@ pub fn load_accounts<R: Files + AllocGlobal>(
     files: &R,
     file: &str,
 ) -> Result<Accounts<Global>, AccountsFileFault>
+    // Witness: an equation of what is given.
     ensures allowed { IfOk result (λ accounts. accounts_refusal accounts ≡ None) }
 {
     let text = text_of(files, file)?;

@@ -10,6 +10,7 @@ use std::alloc::{AllocError, Allocator};
 
 /// `guest` with the password `secret`, and `anonymous` without one, both at the root (own choice).
 pub fn two_accounts<A: Allocator + Copy>(alloc: A) -> Result<Accounts<A>, AllocError>
+    // Witness: an equation; `anonymous_needs_a_password.edit`, `any_other_word_is_the_password.edit`, beside the gate.
     ensures { IfOk result (λ accounts. accounts ≡ two_accounts) }
 {
     let mut list = Vec::new(alloc);

@@ -21,7 +21,9 @@ pub struct Reach<A: Allocator + Copy> {
 
 /// How far the accounts reach that a text says. The first line that says no account is told. Whether the accounts can be a server's is not asked here.
 pub fn read_reach<A: Allocator + Copy>(alloc: A, text: &[u8]) -> Result<Reach<A>, TextFault>
+    // Witness of said: `the_last_rights_count_for_all.edit`, beside the gate.
     ensures said { IfOk result (λ reach. Reaches text.now reach.roots.items reach.rights) }
+    // Witness of fault: as of `read_accounts`.
     ensures fault { IfErr result (λ fault. IsBlamed text.now fault) }
 {
     match said_in(alloc, text) {

@@ -24,8 +24,13 @@ const MARK: &[u8] = b"\xef\xbb\xbf";
 /// The first line that says no account is told; then the first that no account can follow, since its user stands above, or its root
 /// is below another's or above it and the upper one of both may change something.
 pub fn read_accounts<A: Allocator + Copy>(alloc: A, text: &[u8]) -> Result<Accounts<A>, TextFault>
+    // Witness of said: `the_last_line_is_left_out.edit`, `the_cr_stays_in_its_line.edit`, `who_may_look_may_put.edit`,
+    // `the_last_letter_alone_counts.edit`, `who_may_rename_may_rename_onto.edit`, beside the gate.
     ensures said { IfOk result (λ accounts. SaysAll text.now accounts) }
+    // Witness of allowed: an equation of what is given.
     ensures allowed { IfOk result (λ accounts. accounts_refusal accounts ≡ None) }
+    // Witness of fault: `a_line_counts_from_none.edit`, `a_wrong_root_is_a_wrong_user.edit`, `the_line_behind_is_blamed.edit`,
+    // `a_broken_digest_is_a_password.edit`, beside the gate.
     ensures fault { IfErr result (λ fault. IsBlamed text.now fault) }
 {
     match said_in(alloc, text) {

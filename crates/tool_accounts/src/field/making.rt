@@ -27,6 +27,8 @@ where
     R: Read,
     W: Write,
     F: Write,
+    // Witness: its field is an equation; `edits/a_field_is_written_for_an_input_that_goes_on.edit`,
+    // `edits/the_first_line_of_several_is_the_password.edit`.
     ensures { Ends rounds salt.now (R.remaining reader.old) (R.remaining reader.new) (W.contents writer.old) (W.contents writer.new) result }
 {
     let Ok(input) = read_all(reader) else {

@@ -29,6 +29,7 @@ fn letter(bits: u8) -> u8
 
 /// The salt of 16 random octets: a letter for the lowest six bits of each.
 pub fn salt_of(octets: &[u8; SALT_LIMIT]) -> Salt
+    // Witness: equations; salt follows from letters.
     ensures letters { result.items ≡ salt_of octets.now }
     ensures len { length result.items ≡ 16 }
     ensures salt { IsTrue (list_all is_letter result.items) }

@@ -38,6 +38,7 @@ impl FileStatus {
 
 /// Whether the file that has a name, if one has it, is the one that is open.
 pub fn is_same_file(opened: FileId, named: Option<FileId>) -> bool
+    // Witness: an equation; `edits/a_file_of_another_device_is_the_same`, `edits/a_part_without_its_name_is_moved`.
     ensures { result ≡ is_same_file opened named }
 {
     match named {
@@ -48,6 +49,7 @@ pub fn is_same_file(opened: FileId, named: Option<FileId>) -> bool
 
 /// Whether it is a regular file that has one name at most.
 pub fn is_lone_file(look: FileStatus) -> bool
+    // Witness: an equation; `edits/a_part_of_two_names_is_written_to`.
     ensures { result ≡ is_lone_file look }
 {
     is_file(look.standing) && look.links < 2
@@ -55,6 +57,7 @@ pub fn is_lone_file(look: FileStatus) -> bool
 
 /// Whether a part that was opened again may be written to, where the file of this identity has its name.
 pub fn is_own_part(opened: FileStatus, named: Option<FileId>) -> bool
+    // Witness: an equation; `edits/a_link_is_written_through`.
     ensures { result ≡ is_own_part opened named }
 {
     is_lone_file(opened) && is_same_file(opened.id, named)

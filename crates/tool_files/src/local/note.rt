@@ -97,8 +97,11 @@ pub fn note_of(
     note: Note,
     place: &[u8],
 ) -> Result<Option<Vec<u8, Global>>, AllocError>
+    // Witness of text: an equation of the text, where there is one.
     ensures text { IfOk result (λ text. IfSome text (λ text. text.items ≡ note_text note place.now)) }
+    // Witness of read: `note_in`: what is written is read as the note that was given.
     ensures read { IfOk result (λ text. IfSome text (λ text. note_value text.items place.now ≡ Some note)) }
+    // Witness of none: with `read` it says of each note whether there is a text.
     ensures none { IfOk result (λ text. IfNone text (note_value (note_text note place.now) place.now ≢ Some note)) }
 {
     let text = text_of(alloc, note, place)?;

@@ -19,6 +19,7 @@ pub fn put_json_entries(
     entries: &[Entry<Global>],
     out: &mut Vec<u8, Global>,
 ) -> Result<(), AllocError>
+    // Witness: an equation, where memory is not refused.
     ensures { OnOk result (out.new.items ≡ out.old.items ++ flat_map entry_json entries.now) }
 {
     for entry in entries {
@@ -57,6 +58,7 @@ pub fn put_json_lines(
     lines: &[Text<Global>],
     out: &mut Vec<u8, Global>,
 ) -> Result<(), AllocError>
+    // Witness: an equation, where memory is not refused.
     ensures { OnOk result (out.new.items ≡ out.old.items ++ flat_map line_json lines.now) }
 {
     for text in lines {
@@ -149,6 +151,7 @@ pub fn put_json_names(
     names: &[Text<Global>],
     out: &mut Vec<u8, Global>,
 ) -> Result<(), AllocError>
+    // Witness: an equation, where memory is not refused.
     ensures { OnOk result (out.new.items ≡ out.old.items ++ flat_map (name_json path.now) names.now) }
 {
     for name in names {
@@ -183,6 +186,7 @@ pub fn put_json_action(
     path: &[u8],
     out: &mut Vec<u8, Global>,
 ) -> Result<(), AllocError>
+    // Witness: an equation, where memory is not refused.
     ensures { OnOk result (out.new.items ≡ out.old.items ++ action_json action.now path.now) }
 {
     out.extend_from_slice(b"{\"deed\":")?;

@@ -18,6 +18,7 @@ pub fn put_entries(
     entries: &[Entry<Global>],
     out: &mut Vec<u8, Global>,
 ) -> Result<(), AllocError>
+    // Witness: an equation, where memory is not refused.
     ensures { OnOk result (out.new.items ≡ out.old.items ++ flat_map entry_text entries.now) }
 {
     for entry in entries {
@@ -66,6 +67,7 @@ pub(crate) fn put_line(octets: &[u8], out: &mut Vec<u8, Global>) -> Result<(), A
 ///
 /// Refused memory, a part of them may stand there.
 pub fn put_lines(lines: &[Text<Global>], out: &mut Vec<u8, Global>) -> Result<(), AllocError>
+    // Witness: an equation, where memory is not refused.
     ensures { OnOk result (out.new.items ≡ out.old.items ++ flat_map line lines.now) }
 {
     for text in lines {
@@ -102,6 +104,7 @@ pub fn put_names(
     names: &[Text<Global>],
     out: &mut Vec<u8, Global>,
 ) -> Result<(), AllocError>
+    // Witness: an equation, where memory is not refused.
     ensures { OnOk result (out.new.items ≡ out.old.items ++ flat_map (name_text path.now) names.now) }
 {
     for name in names {

@@ -23,6 +23,7 @@ const BETWEEN: &[u8] = b"  ";
 ///
 /// Refused memory, a part of them may stand there.
 pub fn put_long(entries: &[Entry<Global>], out: &mut Vec<u8, Global>) -> Result<(), AllocError>
+    // Witness: an equation, where memory is not refused.
     ensures { OnOk result (out.new.items ≡ out.old.items ++ flat_map long_text entries.now) }
 {
     for entry in entries {

@@ -20,6 +20,7 @@ pub struct TextListing {
 
 /// Reads a listing of MLSD: a line that is no entry takes no other with it.
 pub fn read_entries(alloc: Global, text: &[u8]) -> Result<TextListing, AllocError>
+    // Witness: an equation, where memory is not refused.
     ensures entries { IfOk result (λ listing. map listed_of listing.entries.items ≡ entries_of (lines_of text.now)) }
     ensures odd { IfOk result (λ listing. listing.odd.items ≡ odd_of (lines_of text.now)) }
 {
@@ -72,6 +73,7 @@ pub(crate) fn entry_in(alloc: Global, line: &[u8]) -> Result<Option<Entry<Global
 
 /// Whether a listing of MLSD has no line but those of the directory itself, of its parent and of other types than file and directory.
 pub fn lists_nothing(alloc: Global, text: &[u8]) -> Result<bool, AllocError>
+    // Witness: an equation, where memory is not refused.
     ensures { IfOk result (λ is_nothing. is_nothing ≡ list_all is_aside (lines_of text.now)) }
 {
     let mut rest = text;
@@ -97,6 +99,7 @@ fn is_aside(alloc: Global, line: &[u8]) -> Result<bool, AllocError>
 
 /// The lines of a listing, as they came.
 pub fn read_lines(alloc: Global, text: &[u8]) -> Result<Vec<Text<Global>, Global>, AllocError>
+    // Witness: an equation, where memory is not refused.
     ensures { IfOk result (λ lines. lines.items ≡ lines_of text.now) }
 {
     let mut lines = Vec::new(alloc);

@@ -36,6 +36,7 @@ pub struct UnixLine<'a> {
 /// Reads a line, without its end: rights, links, owner, group, size, month, day, year or time of day, and behind one space the name. None where it is not of
 /// that form, as the line `total 12`.
 pub fn read_unix_line(line: &[u8]) -> Option<UnixLine<'_>>
+    // Witness: an equation; `edits/the_arrow_of_a_link_is_its_name`.
     ensures { option_map told result ≡ unix_value line.now }
 {
     let (rights, rest) = cut_column(line);

@@ -23,6 +23,7 @@ fn is_wild(octet: u8) -> bool
 
 /// Whether an entry is chosen by a pattern: its name is one of a single file, and of the pattern, and it is no directory, as far as its type says.
 pub fn is_chosen(pattern: &[u8], entry: &Entry<Global>) -> bool
+    // Witness: an equation; `edits/a_directory_is_chosen`, `edits/a_name_of_no_single_file_is_chosen`.
     ensures { result ≡ is_chosen pattern.now entry.now }
 {
     let name = entry.name.as_slice();
@@ -40,6 +41,7 @@ fn is_dir_kind(kind: &Option<EntryKind<Global>>) -> bool
 
 /// Whether a name is chosen by a pattern that a server gives alone, or behind the path of the directory that is listed.
 pub fn is_chosen_name(pattern: &[u8], path: &[u8], name: &[u8]) -> bool
+    // Witness: as of `is_chosen`.
     ensures { result ≡ is_chosen_name pattern.now path.now name.now }
 {
     is_listed(path, name) && matches(pattern, bare_name(path, name))

@@ -13,6 +13,7 @@ use std::fmt::{Display, Formatter};
 ///
 /// Refused memory, a part of it may stand there.
 pub fn put_shown(octets: &[u8], out: &mut Vec<u8, Global>) -> Result<(), AllocError>
+    // Witness: an equation, where memory is not refused.
     ensures { OnOk result (out.new.items ≡ out.old.items ++ shown octets.now) }
 {
     let mut kept = 0;

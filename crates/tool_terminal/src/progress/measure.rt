@@ -53,6 +53,7 @@ pub struct Measure {
 
 /// The greatest unit of which so many octets have one; a single octet is the unit of less.
 pub fn unit_for(count: u128) -> Unit
+    // Witness: an equation; `edits/a_mebibyte_begins_at_a_million`.
     ensures { result ≡ unit_for count }
 {
     if count < u128::from(Unit::Kibi.octets()) {

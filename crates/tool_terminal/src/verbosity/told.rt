@@ -12,6 +12,7 @@ pub enum Verbosity {
 
 /// Whether a text that begins with these octets, seven where there are so many, is told. Each error is a text of its own, and begins with `error: `.
 pub fn is_told(told: Verbosity, text: &[u8]) -> bool
+    // Witness: an equation; `edits/notes_are_told_with_quiet`.
     ensures { result ≡ is_told told text.now }
 {
     match told {
