@@ -70,7 +70,7 @@ name_json path name = if is_shown path name then name_line_json name else []
 
 -- the line of what is done of a path
 abbrev pub action_json : (action path : List ℕ) → List ℕ
-action_json action path = codes "{\"action\":" ++ string action ++ codes ",\"path\":" ++ string path ++ codes "}\n"
+action_json action path = codes "{\"deed\":" ++ string action ++ codes ",\"path\":" ++ string path ++ codes "}\n"
 
 -- a line that is no entry, as a terminal is to show it
 abbrev pub line_json : List ℕ → List ℕ

@@ -43,4 +43,4 @@ JsonWritten =
     × (perm_member (Some (codes "elr")) ≡ codes ",\"perm\":\"elr\"")
     × (name_json (codes "pub") (codes "pub/a") ≡ codes "{\"name\":\"pub/a\"}\n")
     × (name_json [] (codes "..") ≡ [])
-    × (action_json (codes "copy") (codes "d/a") ≡ codes "{\"action\":\"copy\",\"path\":\"d/a\"}\n")
+    × (action_json (codes "copy") (codes "d/a") ≡ codes "{\"deed\":\"copy\",\"path\":\"d/a\"}\n")
