@@ -19,7 +19,8 @@ use Rattle.ftp_server_model.specs.Machine.{IsReading, Reading}
 use Rattle.laws_world.specs.Agreement.{Order, Single}
 use Rattle.laws_world.specs.World.{Gone, World, next_listen, port_at}
 use Rattle.laws_agreement.specs.Over.{OverRuns}
-use Rattle.laws_drivers.specs.control.Alone.{begun_by, reported_by}
+use Rattle.laws_drivers.specs.control.Alone.{reported_by}
+use Rattle.laws_drivers.specs.events.Moments.{AreMoments, begun_at, begun_by, number_in}
 use Rattle.laws_drivers.specs.control.Between.{Between, Can, CanTurn, Client, Has, IsStanding, Near as TheClient, sent}
 use Rattle.laws_agreement.proofs.Chunks.{both_empty}
 use Rattle.laws_drivers.specs.control.Touches.{Touch, touch_in}
@@ -30,7 +31,6 @@ use Rattle.laws_drivers.proofs.events.Holding.{is_called}
 use Rattle.laws_drivers.proofs.events.NearForms.{dialled_standing, dialling_of, receives_standing, starts_standing}
 use Rattle.laws_drivers.proofs.events.Stands.{ClientFetches as ClientRests, ServerServes, wants_port}
 use Rattle.laws_transfers.specs.Ahead.{Ahead}
-use Rattle.laws_transfers.specs.Actions.{AreMoments, begun_at, number_in}
 use Rattle.laws_transfers.proofs.Beside.{Goes, Together, is_taking, open_takes}
 use Rattle.laws_transfers.proofs.Called.{BreaksNone}
 use Rattle.laws_transfers.proofs.ClientDials.{client_dials}

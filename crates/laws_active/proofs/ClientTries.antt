@@ -19,13 +19,13 @@ use Rattle.laws_world.specs.Agreement.{Order, Single}
 use Rattle.laws_world.specs.World.{Gone, Refused as WasRefused, World, marked_last}
 use Rattle.laws_agreement.specs.Over.{OverRuns}
 use Rattle.laws_agreement.proofs.Chunks.{both_empty}
-use Rattle.laws_drivers.specs.control.Alone.{begun_by, reported_by}
+use Rattle.laws_drivers.specs.control.Alone.{reported_by}
+use Rattle.laws_drivers.specs.events.Moments.{AreMoments, begun_at, begun_by, number_in}
 use Rattle.laws_drivers.specs.control.Between.{Between, CanTurn, Client}
 use Rattle.laws_drivers.proofs.control.Taken.{reports_is}
 use Rattle.laws_drivers.proofs.events.Holding.{is_called}
 use Rattle.laws_drivers.proofs.events.Stands.{ClientFetches as ClientRests, ServerServes, wants_port}
 use Rattle.laws_transfers.specs.Ahead.{Ahead}
-use Rattle.laws_transfers.specs.Actions.{AreMoments, begun_at, number_in}
 use Rattle.laws_transfers.proofs.Beside.{Together, is_taking, marks_with, open_takes}
 use Rattle.laws_transfers.proofs.Called.{BreaksNone}
 use Rattle.laws_transfers.proofs.ClientRefused.{client_refused, refused_sound, refused_view}

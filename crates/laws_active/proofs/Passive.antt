@@ -10,8 +10,10 @@ use Rattle.laws_world.specs.World.{next_listen, port_at}
 use Rattle.laws_drivers.specs.control.Between.{Client as ByClient, Server as ByServer, Turn, client_actions, server_actions}
 use Rattle.laws_drivers.specs.events.Actions as passive_ports
 use Rattle.laws_transfers.specs.Actions as passive
-use Rattle.laws_active.specs.Claims.{PassiveIsEither}
-use Rattle.laws_active.specs.Actions.{ArePorts, AsksAlong, IsAsking, IsServing, ServesAlong, listened_in}
+use Rattle.laws_transfers.specs.Claims as passive_claims
+use Rattle.laws_drivers.proofs.events.Within.{did_within}
+use Rattle.laws_active.specs.Claims.{PassiveIsEither, no_faults}
+use Rattle.laws_active.specs.Actions.{ArePorts, IsAsking, IsServing, listened_in}
 
 -- ---- ports
 
@@ -45,12 +47,6 @@ serving_too : (action : Action server_side) (at : Held Timed) → passive.IsServ
 serving_too (Other (Opened host (Connected endpoint left written ∷ []) at_first so_far rest)) at is = tt
 serving_too action at is = is
 
-serves_too : (actions : List (Action server_side)) (start now : Stand server_side) (led : Led actions start now) → passive.ServesAlong actions start now led
-    → ServesAlong actions start now led
-serves_too [] start now led along = tt
-serves_too (action ∷ before) start now led along =
-    (serves_too before start led.0 led.1 along.0, (serving_too action led.0.owner along.1.0, along.1.1))
-
 -- nor does a client that dials alone
 asking_too : (action : Action client_side) (at : Held Client) → passive.IsAsking action at → IsAsking action at
 asking_too (Other (Aside (Starting op))) at is = (is.0.0, is.1)
@@ -58,27 +54,11 @@ asking_too (Other (Listening port)) at is = tt
 asking_too (Other (Opened host (Came from left written ∷ []) at_first so_far rest)) at is = absurd is
 asking_too action at is = is
 
-asks_too : (actions : List (Action client_side)) (start now : Stand client_side) (led : Led actions start now) → passive.AsksAlong actions start now led
-    → AsksAlong actions start now led
-asks_too [] start now led along = tt
-asks_too (action ∷ before) start now led along =
-    (asks_too before start led.0 led.1 along.0, (asking_too action led.0.owner along.1.0, along.1.1))
-
 pub passive_is_either : PassiveIsEither
-passive_is_either b moments turns between server client did = record {
-  server_start = did.server_start;
-  client_start = did.client_start;
-  begins = did.begins;
-  untold = did.untold;
-  unwritten = did.unwritten;
-  server_unwritten = did.server_unwritten;
-  client_untold = did.client_untold;
-  happened = did.happened;
-  resets = did.resets;
-  server_led = did.server_led;
-  client_led = did.client_led;
-  serves = serves_too (server_actions turns) did.server_start server did.server_led did.takes;
-  asks = asks_too (client_actions turns) did.client_start client did.client_led did.gives;
-  ports = (ports_too turns did.client_start client did.client_led did.gives did.ports).1;
-  told = did.told;
-}
+passive_is_either = did_within passive_claims.no_faults no_faults (record {
+  serves = serving_too;
+  asks = asking_too;
+  ports = λ turns start now led along ports. (ports_too turns start now led along ports).1;
+  ordered = λ moments turns between happened start now led resets. resets;
+  short = λ actions start now led short. short;
+})

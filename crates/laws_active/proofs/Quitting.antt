@@ -1,5 +1,5 @@
 -- What both did over data connections that either dialled, before QUIT was written, is the direct run, and after it the map stays.
-use Rattle.std.proofs.Common.{◌≡◌, ℕ, true, false, true≢false, List, [], ◌∷◌, ◌++◌, length, option_to_list, refl, sym, ap, subst, ◌∙◌, append-nil}
+use Rattle.std.proofs.Common.{◌≡◌, ℕ, true, false, true≢false, List, [], ◌∷◌, ◌++◌, length, option_to_list, refl, sym, ap, ◌∙◌, append-nil}
 use Rattle.ftp_client_driver.specs.Side.{client_side}
 use Rattle.ftp_client_model.specs.View.{Flow, View as Near}
 use Rattle.ftp_client_model.specs.declared.client.Standing.TheVariants as Standings
@@ -7,32 +7,24 @@ use Rattle.ftp_client_model.specs.Calls.{data_closed, is_busy, report_of}
 use Rattle.ftp_client_model.specs.declared.client.Replied.{Replied}
 use Rattle.ftp_operation.specs.declared.op.Op.{Op}
 use Rattle.ftp_ports.specs.Actions.{Stand}
-use Rattle.ftp_operation.specs.Answer.{Said}
-use Rattle.ftp_server_driver.specs.alone.Side.{Timed, server_side}
-use Rattle.ftp_server_model.proofs.LinesDecided.{reading_exists}
-use Rattle.ftp_server_model.specs.Machine.{IsReading, Reading}
+use Rattle.ftp_server_driver.specs.alone.Side.{server_side}
 use Rattle.ftp_server_model.specs.View.{View as Far}
-use Rattle.ftp_tree.specs.Tree.{Table}
 use Rattle.laws_world.specs.Agreement.{Order}
-use Rattle.laws_world.specs.Claims.{AreAnswers, Beginning, IsFair, state_of}
+use Rattle.laws_world.specs.Claims.{state_of}
 use Rattle.laws_drivers.specs.control.Alone.{reports_in}
-use Rattle.laws_drivers.specs.control.Between.{Between, Turn, client_actions}
-use Rattle.laws_drivers.specs.control.Over.{answers_of}
-use Rattle.laws_drivers.specs.control.Quitting.{quitting}
-use Rattle.laws_drivers.proofs.control.Leaving.{quits_table}
-use Rattle.laws_drivers.proofs.control.Quitting.{Quits}
+use Rattle.laws_drivers.specs.control.Between.{Between, client_actions}
+use Rattle.laws_drivers.specs.events.Moments.{begun_at}
 use Rattle.laws_drivers.proofs.control.Taken.{free_none}
 use Rattle.laws_drivers.proofs.world.Running.{all_runs}
-use Rattle.laws_drivers.proofs.events.Along.{Went}
+use Rattle.laws_drivers.proofs.events.Answers.{midst_by}
 use Rattle.laws_drivers.proofs.events.Closing.{begins_quit}
+use Rattle.laws_drivers.proofs.events.Concluding.{QuitsNext, quit_are_the_direct_run}
 use Rattle.laws_drivers.proofs.events.Resting.{idle_at}
-use Rattle.laws_transfers.specs.Actions.{AreMoments, begun_at}
-use Rattle.laws_transfers.specs.Over.{orders_at}
-use Rattle.laws_transfers.proofs.Ending.{as_many}
-use Rattle.laws_transfers.proofs.Quitting.{finals_keep, rests_now}
+use Rattle.laws_transfers.specs.Actions.{IsCarried}
+use Rattle.laws_transfers.proofs.Quitting.{rests_now}
 use Rattle.laws_transfers.proofs.Reaching.{shown_itself}
 use Rattle.laws_transfers.proofs.Resting.{idles}
-use Rattle.laws_active.specs.Claims.{DidEither}
+use Rattle.laws_active.specs.Claims.{no_faults}
 use Rattle.laws_active.specs.Actions.{ClientTransfers, listened_in}
 use Rattle.laws_active.specs.Lead.{Even, Joined, Told}
 use Rattle.laws_active.specs.Quitting.{EitherThatQuitAreTheDirectRun}
@@ -40,7 +32,7 @@ use Rattle.laws_active.specs.Refusals.{Gain, Heard, Led}
 use Rattle.laws_active.proofs.Accepting.{awaiting}
 use Rattle.laws_active.proofs.Calls.{Opens, listening}
 use Rattle.laws_active.proofs.Concluding.{either_are_the_direct_run}
-use Rattle.laws_active.proofs.Ending.{answers_are, answers_go, carried_free, orders_are}
+use Rattle.laws_active.proofs.Ending.{drives_go, may_begin}
 use Rattle.laws_active.proofs.Gaining.{GainSo, gained_between, gained_client}
 use Rattle.laws_active.proofs.Leading.{Comes, Stays, Waits}
 use Rattle.laws_active.proofs.Reaching.{reaches}
@@ -77,17 +69,12 @@ free_even (Heard octets) more between told server c so free =
 -- ---- both
 
 -- where each operation has its report and the client is logged in, the server hears QUIT next
-quits_next : (read : Reading) → IsReading read → (b : Beginning) → IsFair b → (moments : ℕ → ℕ) → AreMoments moments
-    → (turns : List Turn) (between : Between) (server : Stand server_side) (client : Stand client_side)
-    → DidEither b moments turns between server client → is_busy client.owner.end.view ≡ false
-    → client.owner.end.view.standing ≡ Standings.Entered
-    → length (reports_in (client_actions turns)) ≡ length (begun_at moments (client_actions turns))
-    → Quits server.owner.end.server.view.session.table server (quitting between)
+quits_next : QuitsNext no_faults
 quits_next read reads b fair moments timed turns between server client did free entered told =
     let n : Near = client.owner.end.view in
     let v : Far = server.owner.end.server.view in
     let tried = did_try b moments turns between server client did in
-    let at = reaches read reads moments timed b fair turns between tried.happened tried.resets tried.server_start server tried.client_start client tried.begins
+    let at = reaches read reads moments timed b fair turns between tried.happened tried.ordered tried.server_start server tried.client_start client tried.begins
     tried.untold tried.unwritten tried.server_unwritten tried.client_untold tried.server_led tried.client_led tried.serves tried.asks tried.ports tried.told in
     let o = at.reached in
     let itself : at.shown ≡ client = shown_itself between client at.shown at.shows free in
@@ -111,40 +98,5 @@ quits_next read reads b fair moments timed turns between server client did free 
     (rests_now o.ahead v s.fits (idle_at o.last w.far _ s.far idle.far))
 
 pub either_that_quit_are_the_direct_run : EitherThatQuitAreTheDirectRun
-either_that_quit_are_the_direct_run b fair moments timed asked server over =
-    let read = reading_exists.0 in
-    let reads = reading_exists.1 in
-    let near = subst (λ d. Went ClientTransfers d over.client_start over.client) (sym over.client_is)
-    (answers_go asked over.client_start over.client over.put (ap (λ v. v.closing) over.begins.client_view)) in
-    let did : DidEither b moments over.turns over.between over.mid over.client = record {
-      server_start = over.server_start;
-      client_start = over.client_start;
-      begins = over.begins;
-      untold = over.untold;
-      unwritten = over.unwritten;
-      server_unwritten = over.server_unwritten;
-      client_untold = over.client_untold;
-      happened = over.happened;
-      resets = over.resets;
-      server_led = over.server_led;
-      client_led = near.0;
-      serves = over.serves;
-      asks = near.1;
-      ports = over.ports;
-      told = over.told;
-    } in
-    let orders : begun_at moments (client_actions over.turns) ≡ orders_at moments asked =
-    ap (begun_at moments) over.client_is ∙ orders_are moments asked over.client_start over.client over.put in
-    let answers : reports_in (client_actions over.turns) ≡ answers_of asked =
-    ap reports_in over.client_is ∙ answers_are asked over.client_start over.client over.put in
-    let told = ap length answers ∙ as_many moments asked ∙ ap length (sym orders) in
-    let free = carried_free b over.server_start asked over.client_start over.client over.begins over.put in
-    let direct = either_are_the_direct_run b fair moments timed over.turns over.between over.mid over.client did free told in
-    let quits = finals_keep read reads over.mid.owner.end.server.view.session.table over.finals over.mid over.off over.final_led over.leaves
-    (quitting over.between) over.last over.happened_last
-    (quits_next read reads b fair moments timed over.turns over.between over.mid over.client did free over.entered told) in
-    let table : server.owner.end.server.view.session.table ≡ over.mid.owner.end.server.view.session.table =
-    ap (λ (at : Timed). at.server.view.session.table) over.left.0.0 ∙ quits_table _ over.off over.last quits in
-    subst (λ (t : Table). AreAnswers (state_of b) (orders_at moments asked) (answers_of asked) t) (sym table)
-    (subst (λ (r : List Said). AreAnswers (state_of b) (orders_at moments asked) r over.mid.owner.end.server.view.session.table) answers
-    (subst (λ (o : List Order). AreAnswers (state_of b) o (reports_in (client_actions over.turns)) over.mid.owner.end.server.view.session.table) orders direct))
+either_that_quit_are_the_direct_run =
+    quit_are_the_direct_run no_faults (midst_by IsCarried ClientTransfers may_begin) drives_go either_are_the_direct_run quits_next

@@ -26,7 +26,8 @@ use Rattle.laws_drivers.proofs.events.Plain.{Whatever}
 use Rattle.laws_drivers.proofs.events.Stands.{ClientFetches as ClientRests, wants_port}
 use Rattle.laws_transfers.specs.Claims.{IsNear}
 use Rattle.laws_transfers.specs.Actions as passive
-use Rattle.laws_transfers.specs.Actions.{AreMoments, AreResets, AreToldAt, IsToldAt, begun_at, last_of, number_in}
+use Rattle.laws_transfers.specs.Actions.{AreResets}
+use Rattle.laws_drivers.specs.events.Moments.{AreMoments, AreToldAt, IsToldAt, begun_at, last_of, number_in}
 use Rattle.laws_transfers.proofs.Beside.{Together}
 use Rattle.laws_transfers.proofs.Broke.{IsBroke, IsShown, with_view}
 use Rattle.laws_transfers.proofs.Called.{BreaksNone}
@@ -366,8 +367,8 @@ module _ (read : Reading) (reads : IsReading read) (moments : ℕ → ℕ) (time
 -- events of a world lead to what both drives hold
 pub tries_are_of_worlds : TriesAreOfWorlds
 tries_are_of_worlds read reads b fair moments timed turns between server client did =
-    let at = reaches read reads moments timed b fair turns between did.happened did.resets did.server_start server did.client_start client did.begins did.untold
-    did.unwritten did.server_unwritten did.client_untold did.server_led did.client_led did.serves did.asks did.ports did.told in
+    let at = reaches read reads moments timed b fair turns between did.happened did.ordered did.server_start server did.client_start client did.begins
+    did.untold did.unwritten did.server_unwritten did.client_untold did.server_led did.client_led did.serves did.asks did.ports did.told in
     let o = at.reached in
     let s = o.together.beside in
     record {

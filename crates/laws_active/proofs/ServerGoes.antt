@@ -19,7 +19,8 @@ use Rattle.laws_drivers.proofs.events.Holding.{is_called}
 use Rattle.laws_drivers.proofs.events.Serves.{action_serves}
 use Rattle.laws_drivers.proofs.events.Stands.{ClientFetches as ClientRests, ServerServes}
 use Rattle.laws_transfers.specs.Ahead.{Ahead}
-use Rattle.laws_transfers.specs.Actions.{IsToldAt, ServerTransfers, begun_at, last_of, number_in}
+use Rattle.laws_transfers.specs.Actions.{ServerTransfers}
+use Rattle.laws_drivers.specs.events.Moments.{IsToldAt, begun_at, last_of, number_in}
 use Rattle.laws_transfers.proofs.Beside.{Goes, Together}
 use Rattle.laws_transfers.proofs.Known.{AreCarried, Known}
 use Rattle.laws_transfers.proofs.Lost.{with_lost}

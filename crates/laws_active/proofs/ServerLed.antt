@@ -40,7 +40,7 @@ use Rattle.laws_drivers.proofs.events.NearForms.{is_unaborted_same}
 use Rattle.laws_drivers.proofs.events.Stands.{ClientFetches as ClientRests, ServerServes}
 use Rattle.laws_transfers.specs.Ahead.{Ahead, Fits, Level, Listens, Opens, Parted, far_ahead}
 use Rattle.laws_transfers.specs.Actions as passive
-use Rattle.laws_transfers.specs.Actions.{IsToldAt, begun_at, last_of, number_in}
+use Rattle.laws_drivers.specs.events.Moments.{IsToldAt, begun_at, last_of, number_in}
 use Rattle.laws_transfers.proofs.Ahead.{left_rests, says_after}
 use Rattle.laws_transfers.proofs.Beside.{Goes, Together}
 use Rattle.laws_transfers.proofs.Known.{AreCarried, Known}

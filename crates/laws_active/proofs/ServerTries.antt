@@ -28,7 +28,7 @@ use Rattle.laws_drivers.proofs.events.Holding.{is_called}
 use Rattle.laws_drivers.proofs.events.Stands.{ClientFetches as ClientRests, ServerServes}
 use Rattle.laws_transfers.specs.Ahead.{Ahead}
 use Rattle.laws_transfers.specs.Actions as passive
-use Rattle.laws_transfers.specs.Actions.{IsToldAt, begun_at, last_of, number_in}
+use Rattle.laws_drivers.specs.events.Moments.{IsToldAt, begun_at, last_of, number_in}
 use Rattle.laws_transfers.proofs.Beside.{Together}
 use Rattle.laws_transfers.proofs.Known.{AreCarried}
 use Rattle.laws_transfers.proofs.Lost.{with_lost}

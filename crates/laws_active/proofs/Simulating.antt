@@ -22,7 +22,8 @@ use Rattle.laws_world.specs.Agreement.{Order}
 use Rattle.laws_world.specs.Claims.{Beginning, IsFair, state_of, world_of}
 use Rattle.laws_world.specs.World.{Mark, World}
 use Rattle.laws_agreement.specs.Over.{OverRuns}
-use Rattle.laws_drivers.specs.control.Alone.{ServerIsCalm, begun_by, reported_by}
+use Rattle.laws_drivers.specs.control.Alone.{ServerIsCalm, reported_by}
+use Rattle.laws_drivers.specs.events.Moments.{AreMoments, IsToldAt, begun_at, begun_by, last_of, number_in}
 use Rattle.laws_drivers.specs.control.Between.{Between, CanTurn, Client, Far as TheServer, Has_lost, IsStanding, Server, Turn, nothing_yet, with_hold}
 use Rattle.laws_drivers.specs.control.Touches.{touch_in}
 use Rattle.laws_drivers.specs.control.Claims.{Begins}
@@ -37,7 +38,6 @@ use Rattle.laws_drivers.proofs.events.NearForms.{no_close}
 use Rattle.laws_drivers.proofs.events.Plain.{Whatever}
 use Rattle.laws_drivers.proofs.events.Stands.{ClientFetches as ClientRests, ServerServes, wants_port}
 use Rattle.laws_transfers.specs.Ahead.{Ahead, Level, far_ahead}
-use Rattle.laws_transfers.specs.Actions.{AreMoments, IsToldAt, begun_at, last_of, number_in}
 use Rattle.laws_transfers.proofs.Beside.{Together}
 use Rattle.laws_transfers.proofs.Known.{AreCarried, Known, both_carried}
 use Rattle.laws_transfers.proofs.Called.{BreaksNone}

@@ -21,10 +21,11 @@ use Rattle.laws_drivers.proofs.events.NearForms.{dialling_of}
 use Rattle.laws_transfers.proofs.Called.{BreaksNone}
 use Rattle.laws_transfers.proofs.ClientRefused.{refused_is}
 use Rattle.laws_transfers.proofs.Trying.{more_unmarked}
-use Rattle.laws_active.specs.Claims.{DidEither}
+use Rattle.laws_drivers.proofs.events.Within.{did_within}
+use Rattle.laws_active.specs.Claims.{DidEither, no_faults}
 use Rattle.laws_active.specs.Actions as whole
 use Rattle.laws_active.specs.Lead.{Lead}
-use Rattle.laws_active.specs.Refusals.{AsksAlong, ClientTries, DidTry, Gain, Heard, IsAsking, IsServing, Led, ServesAlong, has_failed, is_heard, marked_by, marks_in}
+use Rattle.laws_active.specs.Refusals.{ClientTries, DidTry, Gain, Heard, IsAsking, IsServing, Led, dial_faults, has_failed, is_heard, marked_by, marks_in}
 use Rattle.laws_active.proofs.Keeping.{IsCarrying, IsKeeping}
 use Rattle.laws_active.proofs.Unsent.{StaysFresh, action_carrying, near_fresh}
 
@@ -64,40 +65,20 @@ serving_tries : (action : Action server_side) (at : Held Timed) → whole.IsServ
 serving_tries (Other (Refused (NotConnected endpoint ∷ []))) at is = tt
 serving_tries action at is = is
 
-serves_try : (actions : List (Action server_side)) (start now : Stand server_side) (led : HaveLed actions start now) → whole.ServesAlong actions start now led
-    → ServesAlong actions start now led
-serves_try [] start now led serves = tt
-serves_try (action ∷ before) start now led serves =
-    (serves_try before start led.0 led.1 serves.0, (serving_tries action led.0.owner serves.1.0, serves.1.1))
-
 asking_tries : (action : Action client_side) (at : Held Client) → whole.IsAsking action at → IsAsking action at
 asking_tries (Other (Refused (NotConnected endpoint ∷ []))) at is = tt
 asking_tries action at is = is
 
-asks_try : (actions : List (Action client_side)) (start now : Stand client_side) (led : HaveLed actions start now) → whole.AsksAlong actions start now led
-    → AsksAlong actions start now led
-asks_try [] start now led asks = tt
-asks_try (action ∷ before) start now led asks = (asks_try before start led.0 led.1 asks.0, (asking_tries action led.0.owner asks.1.0, asks.1.1))
-
+-- so are all of both
 pub did_try : (b : Beginning) (moments : ℕ → ℕ) (turns : List Turn) (between : Between) (server : Stand server_side) (client : Stand client_side)
     → DidEither b moments turns between server client → DidTry b moments turns between server client
-did_try b moments turns between server client did = record {
-  server_start = did.server_start;
-  client_start = did.client_start;
-  begins = did.begins;
-  untold = did.untold;
-  unwritten = did.unwritten;
-  server_unwritten = did.server_unwritten;
-  client_untold = did.client_untold;
-  happened = did.happened;
-  resets = did.resets;
-  server_led = did.server_led;
-  client_led = did.client_led;
-  serves = serves_try (server_actions turns) did.server_start server did.server_led did.serves;
-  asks = asks_try (client_actions turns) did.client_start client did.client_led did.asks;
-  ports = did.ports;
-  told = did.told;
-}
+did_try = did_within no_faults dial_faults (record {
+  serves = serving_tries;
+  asks = asking_tries;
+  ports = λ turns start now led asks ports. ports;
+  ordered = λ moments turns between happened start now led resets. resets;
+  short = λ actions start now led short. short;
+})
 
 -- no dial of the server failed then
 server_whole : (action : Action server_side) (before : List Turn) (at : Held Timed) → whole.IsServing action at → has_failed before ≡ false

@@ -10,12 +10,14 @@ use Rattle.ftp_client_model.specs.Failing.{Client}
 use Rattle.ftp_client_model.specs.View.{View as Near}
 use Rattle.ftp_operation.specs.Answer.{Said}
 use Rattle.laws_drivers.specs.control.Alone.{ClientIsCalm, ServerIsCalm, reports_in}
-use Rattle.laws_drivers.specs.control.Between.{Between, Client as ByClient, Happened, Server as ByServer, Turn, client_actions, server_actions}
-use Rattle.laws_drivers.specs.control.Claims.{Begins}
+use Rattle.laws_drivers.specs.control.Between.{Between, Client as ByClient, Server as ByServer, Turn, client_actions}
 use Rattle.laws_drivers.specs.events.Actions.{Along}
+use Rattle.laws_drivers.specs.events.Answers.{IsAnswerBy}
+use Rattle.laws_drivers.specs.events.Faults.{Did, Faults}
 use Rattle.laws_transfers.specs.Ahead.{Ahead, Fits, far_ahead}
 use Rattle.laws_transfers.specs.Claims.{IsNear}
-use Rattle.laws_transfers.specs.Actions.{AreMoments, AreResets, AreToldAt, begun_at}
+use Rattle.laws_transfers.specs.Actions.{IsCarried}
+use Rattle.laws_drivers.specs.events.Moments.{AreMoments, begun_at}
 use Rattle.laws_transfers.specs.Refusals as passive
 use Rattle.laws_world.specs.Agreement.{Agrees, Leads}
 use Rattle.laws_world.specs.Claims.{AreTimed, Beginning, IsFair, state_of, world_of}
@@ -25,7 +27,7 @@ use Rattle.ftp_server_driver.specs.alone.Side.{Timed, server_side}
 use Rattle.ftp_server_model.specs.Calls.{clock_step}
 use Rattle.ftp_server_model.specs.Machine.{IsReading, Reading}
 use Rattle.laws_active.specs.Actions as whole
-use Rattle.laws_active.specs.Actions.{ArePorts}
+use Rattle.laws_active.specs.Claims.{no_faults}
 use Rattle.laws_active.specs.Lead.{Lead, led_by}
 
 -- ---- the actions
@@ -91,25 +93,18 @@ is_heard (Heard octets) = true
 
 -- ---- both
 
--- one server's drive and drives of one client did these actions in this order, each when it could be done, and at these moments, and the ports of both are those
--- of a world; as they began no octet of a data connection was on its way or in hand
-pub record DidTry (b : Beginning) (moments : ℕ → ℕ) (turns : List Turn) (between : Between) (server : Stand server_side)
-    (client : Stand client_side) : Type 0 where
-  pub server_start : Stand server_side
-  pub client_start : Stand client_side
-  pub begins : Begins b server_start client_start
-  pub untold : server_start.owner.channel.untold ≡ []
-  pub unwritten : client_start.owner.channel.unwritten ≡ []
-  pub server_unwritten : server_start.owner.channel.unwritten ≡ []
-  pub client_untold : client_start.owner.channel.untold ≡ []
-  pub happened : Happened turns between
-  pub resets : AreResets turns between happened
-  pub server_led : HaveLed (server_actions turns) server_start server
-  pub client_led : HaveLed (client_actions turns) client_start client
-  pub serves : ServesAlong (server_actions turns) server_start server server_led
-  pub asks : AsksAlong (client_actions turns) client_start client client_led
-  pub ports : ArePorts turns
-  pub told : AreToldAt moments turns server_start server server_led
+-- dials of either may fail
+abbrev pub dial_faults : Faults
+dial_faults = record no_faults {
+  Serves = IsServing;
+  Asks = IsAsking;
+  IsAnswer = IsAnswerBy IsCarried ClientTries;
+  AreMarks = λ turns start now led client_start client client_led marks. marks ≡ marks_in turns;
+}
+
+-- one server's drive and drives of one client did these actions in this order, and the ports of both are those of a world
+abbrev pub DidTry : Beginning → (moments : ℕ → ℕ) → List Turn → Between → (server : Stand server_side) (client : Stand client_side) → Type 0
+DidTry b moments turns between server client = Did dial_faults b moments turns between server client
 
 -- A world holds what both ends hold: a close, a report, a port and an opening that are due are done there, at either end, and its client heard what a dial that
 -- failed comes after; the moment that the server was told last is any. The control connection stands, and the world has these marks.

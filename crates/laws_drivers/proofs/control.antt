@@ -6,7 +6,6 @@ pub mod ServerSteps
 pub mod ClientSteps
 pub mod Simulating
 pub mod Concluding
-pub mod Parting
 pub mod Ending
 pub mod Quitting
 pub mod Leaving

@@ -8,5 +8,10 @@ pub mod Plainly
 pub mod Fresh
 pub mod Serves
 pub mod Parting
+pub mod Agreeing
 pub mod Resting
 pub mod Closing
+pub mod Moments
+pub mod Answers
+pub mod Within
+pub mod Concluding

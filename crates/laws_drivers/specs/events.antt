@@ -1,2 +1,7 @@
 pub mod Actions
 pub mod Bare
+pub mod Moments
+pub mod Answers
+pub mod Faults
+pub mod Over
+pub mod Quitting

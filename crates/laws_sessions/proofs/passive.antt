@@ -5,7 +5,6 @@ pub mod Example
 pub mod Examples
 pub mod Gathering
 pub mod Happening
-pub mod Midst
 pub mod Peers
 pub mod Ports
 pub mod Sessions

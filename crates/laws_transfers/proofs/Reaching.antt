@@ -18,7 +18,8 @@ use Rattle.ftp_server_model.specs.Machine.{IsReading, Reading}
 use Rattle.laws_world.specs.Agreement.{Order}
 use Rattle.laws_world.specs.Claims.{Beginning, IsFair, state_of, world_of}
 use Rattle.laws_world.specs.World.{Mark, World}
-use Rattle.laws_drivers.specs.control.Alone.{begun_by, reported_by, reports_in}
+use Rattle.laws_drivers.specs.control.Alone.{reported_by, reports_in}
+use Rattle.laws_drivers.specs.events.Moments.{AreMoments, AreToldAt, IsToldAt, begun_at, begun_by, last_of, number_in}
 use Rattle.laws_drivers.specs.control.Between.{Between, CanTurn, Client, Far as TheServer, Happened, Has_lost, IsStanding, Near as TheClient, Server, Turn, client_actions, nothing_yet, server_actions, with_hold}
 use Rattle.laws_drivers.specs.control.Claims.{Begins}
 use Rattle.laws_drivers.specs.control.Touches.{touch_in}
@@ -33,7 +34,7 @@ use Rattle.laws_drivers.proofs.events.Serves.{action_serves}
 use Rattle.laws_drivers.proofs.events.Stands.{ServerServes, portless}
 use Rattle.laws_transfers.specs.Ahead.{Level, far_ahead, is_parted}
 use Rattle.laws_transfers.specs.Claims.{IsNear}
-use Rattle.laws_transfers.specs.Actions.{AreMoments, AreResets, AreToldAt, IsServing, IsToldAt, ServerTransfers, ServesAlong, begun_at, last_of, number_in}
+use Rattle.laws_transfers.specs.Actions.{AreResets, IsServing, ServerTransfers, ServesAlong}
 use Rattle.laws_transfers.specs.Refusals.{ClientTries, TriesAlong, TriesAreOfWorlds, marked_by, marks_in}
 use Rattle.laws_transfers.proofs.Beside.{Goes, Together}
 use Rattle.laws_transfers.proofs.Broke.{IsShown, broke_does, with_view}
@@ -424,8 +425,8 @@ module _ (read : Reading) (reads : IsReading read) (moments : ℕ → ℕ) (time
 -- events of a world lead to what both drives hold
 pub tries_are_of_worlds : TriesAreOfWorlds
 tries_are_of_worlds read reads b fair moments timed turns between server client did =
-    let at = reaches read reads moments timed b fair turns between did.happened did.resets did.server_start server did.client_start client did.begins did.untold
-    did.unwritten did.server_unwritten did.client_untold did.server_led did.client_led did.takes did.tries did.ports did.told in
+    let at = reaches read reads moments timed b fair turns between did.happened did.ordered did.server_start server did.client_start client did.begins
+    did.untold did.unwritten did.server_unwritten did.client_untold did.server_led did.client_led did.serves did.asks did.ports did.told in
     let o = at.reached in
     let s = o.together.beside in
     record {

@@ -41,7 +41,7 @@ use Rattle.laws_drivers.specs.world.Unaborted.{is_unaborted}
 use Rattle.laws_drivers.proofs.world.Known.{aside_still, beside, is_receive, one_way}
 use Rattle.laws_drivers.proofs.world.Running.{free_still, not_lost, under_still}
 use Rattle.laws_drivers.proofs.world.Served.{Runs}
-use Rattle.laws_transfers.specs.Actions.{begun_at, last_of, number_in}
+use Rattle.laws_drivers.specs.events.Moments.{begun_at, last_of, number_in}
 use Rattle.laws_transfers.proofs.Halting.{halt_known, halt_runs, halt_sound, halt_stands, halt_unclosing}
 use Rattle.laws_transfers.proofs.Known.{AreCarried, Known, aside_rests, calm_known, gives_none, is_calm, is_ready, last_carried, stage_known}
 

@@ -17,7 +17,8 @@ use Rattle.laws_world.specs.Agreement.{Order, Single}
 use Rattle.laws_world.specs.Claims.{Beginning, IsFair, state_of, world_of}
 use Rattle.laws_world.specs.World.{Link, Refused as WasRefused, World, marked_last}
 use Rattle.laws_agreement.specs.Over.{OverRuns}
-use Rattle.laws_drivers.specs.control.Alone.{ClientIsCalm, begun_by, reported_by}
+use Rattle.laws_drivers.specs.control.Alone.{ClientIsCalm, reported_by}
+use Rattle.laws_drivers.specs.events.Moments.{AreMoments, IsToldAt, begun_at, begun_by, last_of, number_in}
 use Rattle.laws_drivers.specs.control.Between.{Between, CanTurn, Client, Server}
 use Rattle.laws_drivers.proofs.control.Simulating.{reported_is}
 use Rattle.laws_drivers.proofs.control.Taken.{idle_of, taken, taken_wants}
@@ -34,7 +35,7 @@ use Rattle.laws_drivers.proofs.events.Plain.{IsPlainly, Whatever, starts_plain, 
 use Rattle.laws_drivers.proofs.events.Plainly.{action_plain, action_sound, took_plain}
 use Rattle.laws_drivers.proofs.events.Serves.{action_serves}
 use Rattle.laws_drivers.proofs.events.Stands.{ClientFetches, ServerServes, portless}
-use Rattle.laws_transfers.specs.Actions.{AreMoments, IsToldAt, ServerTransfers, begun_at, last_of, number_in}
+use Rattle.laws_transfers.specs.Actions.{ServerTransfers}
 use Rattle.laws_transfers.specs.Refusals.{ClientTries, TriesAlong, marked_by}
 use Rattle.laws_transfers.proofs.Beside.{Goes, GoesTo, Together}
 use Rattle.laws_transfers.proofs.Called.{BreaksNone, StaysFresh, called_unaborted, near_fresh, transferred_plain}

@@ -9,9 +9,10 @@ use Rattle.ftp_server_driver.specs.alone.Side.{server_side}
 use Rattle.laws_world.specs.Claims.{AreUnmarked, Beginning}
 use Rattle.laws_world.specs.World.{Mark}
 use Rattle.laws_drivers.specs.control.Between.{Between, Turn, client_actions}
-use Rattle.laws_transfers.specs.Claims.{DidTransfer, TransfersAreOfWorlds}
+use Rattle.laws_drivers.proofs.events.Within.{did_within}
+use Rattle.laws_transfers.specs.Claims.{DidTransfer, TransfersAreOfWorlds, no_faults}
 use Rattle.laws_transfers.specs.Actions.{AsksAlong, IsAsking}
-use Rattle.laws_transfers.specs.Refusals.{DidTry, IsTrying, TriesAlong, marked_by, marks_in}
+use Rattle.laws_transfers.specs.Refusals.{DidTry, IsTrying, dial_faults, marked_by, marks_in}
 use Rattle.laws_transfers.proofs.Reaching.{tries_are_of_worlds}
 
 -- ---- the actions
@@ -21,31 +22,16 @@ asking_tries : (action : Action client_side) (at : Held Client) → IsAsking act
 asking_tries (Other (Refused (NotConnected endpoint ∷ []))) at is = tt
 asking_tries action at is = is
 
--- so are all of them
-pub asks_try : (actions : List (Action client_side)) (start now : Stand client_side) (led : Led actions start now) → AsksAlong actions start now led
-    → TriesAlong actions start now led
-asks_try [] start now led asks = tt
-asks_try (action ∷ before) start now led asks = (asks_try before start led.0 led.1 asks.0, (asking_tries action led.0.owner asks.1.0, asks.1.1))
-
+-- so are all of both
 pub did_try : (b : Beginning) (moments : ℕ → ℕ) (turns : List Turn) (between : Between) (server : Stand server_side) (client : Stand client_side)
     → DidTransfer b moments turns between server client → DidTry b moments turns between server client
-did_try b moments turns between server client did = record {
-  server_start = did.server_start;
-  client_start = did.client_start;
-  begins = did.begins;
-  untold = did.untold;
-  unwritten = did.unwritten;
-  server_unwritten = did.server_unwritten;
-  client_untold = did.client_untold;
-  happened = did.happened;
-  resets = did.resets;
-  server_led = did.server_led;
-  client_led = did.client_led;
-  takes = did.takes;
-  tries = asks_try (client_actions turns) did.client_start client did.client_led did.gives;
-  ports = did.ports;
-  told = did.told;
-}
+did_try = did_within no_faults dial_faults (record {
+  serves = λ action at is. is;
+  asks = asking_tries;
+  ports = λ turns start now led asks ports. ports;
+  ordered = λ moments turns between happened start now led resets. resets;
+  short = λ actions start now led short. short;
+})
 
 -- ---- the marks
 
@@ -87,7 +73,7 @@ transfers_are_of_worlds read reads b fair moments timed turns between server cli
         far = o.both.far;
         reported = o.both.reported;
         control = o.both.control;
-        marks = subst AreUnmarked (sym o.both.marked) (asks_unmarked (client_actions turns) did.client_start client did.client_led did.gives);
+        marks = subst AreUnmarked (sym o.both.marked) (asks_unmarked (client_actions turns) did.client_start client did.client_led did.asks);
         cutoff = o.both.cutoff;
       };
       granted = o.granted;

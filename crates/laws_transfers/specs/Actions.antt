@@ -1,9 +1,9 @@
 -- The actions of one server's drive and of drives of one client while whole files are put and fetched, and listings, over data connections that the server
--- listens for, and the moments that the server is told as octets that were put end (RFC 959, sections 3.2 and 4.1.3).
-use Rattle.std.specs.Prelude.{◌≡◌, ⊤, ℕ, zero, suc, ◌<◌, ◌≤◌, false, true, List, [], ◌∷◌, ◌++◌, None}
+-- listens for (RFC 959, sections 3.2 and 4.1.3).
+use Rattle.std.specs.Prelude.{◌≡◌, ⊤, ℕ, ◌<◌, false, true, List, [], ◌∷◌, None}
 use Rattle.ftp_direct.specs.Direct.{offset_refusal}
 use Rattle.ftp_ports.specs.Asking.{Came, Connected, Ended as EndedBy, Reset, Shut}
-use Rattle.ftp_ports.specs.Actions.{Action, Done, Heard, Said as Says, Read, Other, Stand, Led}
+use Rattle.ftp_ports.specs.Actions.{Action, Heard, Said as Says, Read, Other, Stand, Led}
 use Rattle.ftp_ports.specs.Machine.{Held, Aside, Break, Closed, End, Failed, Gave, Got, Left, LetGo, Listening, Opened, Received, Waited, Wrote}
 use Rattle.ftp_ports.specs.declared.whole.Fate.TheVariants as Fates
 use Rattle.ftp_client_driver.specs.Side.{Reporting, Starting, client_side}
@@ -14,10 +14,9 @@ use Rattle.ftp_ends.specs.declared.link.Wants.TheVariants as Want
 use Rattle.ftp_operation.specs.declared.op.Op.{Op}
 use Rattle.ftp_operation.specs.declared.op.Op.TheVariants as Ops
 use Rattle.ftp_server_driver.specs.alone.Side.{Timed, server_side}
-use Rattle.ftp_tree.specs.Sound.{last_second}
 use Rattle.laws_world.specs.Agreement.{Order, Single, Tries}
-use Rattle.laws_drivers.specs.control.Alone.{ClientIsCalm, ServerIsCalm, begun_by}
-use Rattle.laws_drivers.specs.control.Between.{Between, Client as ByClient, Happened, Has_lost, Server as ByServer, Turn, client_actions, server_actions}
+use Rattle.laws_drivers.specs.control.Alone.{ClientIsCalm, ServerIsCalm}
+use Rattle.laws_drivers.specs.control.Between.{Between, Client as ByClient, Happened, Has_lost, Turn}
 use Rattle.laws_drivers.specs.world.Unaborted.{is_unaborted}
 use Rattle.laws_drivers.specs.events.Actions.{Along, IsPeer, is_dialling}
 
@@ -116,37 +115,3 @@ abbrev pub AreResets : (turns : List Turn) (between : Between) → Happened turn
 AreResets [] between happened = ⊤
 AreResets (ByClient (Other Break) ∷ before) between happened = AreResets before happened.0 happened.1 × (happened.0.far ≡ Has_lost)
 AreResets (turn ∷ before) between happened = AreResets before happened.0 happened.1
-
--- ---- moments
-
--- how many operations were begun
-abbrev pub number_in : List (Action client_side) → ℕ
-number_in [] = 0
-number_in (Other (Aside (Starting op)) ∷ before) = suc (number_in before)
-number_in (action ∷ before) = number_in before
-
--- what was begun, the n-th operation, from 0, at the n-th of these moments
-abbrev pub begun_at : (moments : ℕ → ℕ) → List (Action client_side) → List Order
-begun_at moments [] = []
-begun_at moments (action ∷ before) = begun_at moments before ++ begun_by (moments (number_in before)) action
-
--- that of the last of so many
-abbrev pub last_of : (moments : ℕ → ℕ) → ℕ → ℕ
-last_of moments zero = 0
-last_of moments (suc n) = moments n
-
--- they are moments of the clock
-abbrev pub AreMoments : (ℕ → ℕ) → Type 0
-AreMoments moments = (n : ℕ) → moments n ≤ last_second
-
--- the moment that the server is told right before a data connection's end
-abbrev pub IsToldAt : (action : Action server_side) (old new : Stand server_side) → Done action old new → ℕ → Type 0
-IsToldAt (Other End) old new did moment = did.0.0.0 ≡ moment
-IsToldAt action old new did moment = ⊤
-
--- it is that of the operation that was begun last
-abbrev pub AreToldAt : (moments : ℕ → ℕ) (turns : List Turn) (start now : Stand server_side) → Led (server_actions turns) start now → Type 0
-AreToldAt moments [] start now led = ⊤
-AreToldAt moments (ByServer action ∷ before) start now led =
-    AreToldAt moments before start led.0 led.1 × IsToldAt action led.0 now led.2 (last_of moments (number_in (client_actions before)))
-AreToldAt moments (ByClient action ∷ before) start now led = AreToldAt moments before start now led

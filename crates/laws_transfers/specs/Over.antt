@@ -1,79 +1,18 @@
--- Drives that are over, of which the client's put and fetched whole files: what the contracts of one server's drive and of a client's drives tell, each after
--- the operation that it answers, put together.
-use Rattle.std.specs.Prelude.{◌≡◌, ℕ, List, [], ◌∷◌, ◌++◌, length}
-use Rattle.ftp_ports.specs.Asking.{Asked}
-use Rattle.ftp_ports.specs.Actions.{Action, Ended, Led, Other, Stand}
-use Rattle.ftp_ports.specs.Machine.{Left}
-use Rattle.ftp_client_driver.specs.Side.{Begun, client_side}
+-- Drives that are over, of which the client's put and fetched whole files.
+use Rattle.std.specs.Prelude.{ℕ, List}
+use Rattle.ftp_ports.specs.Actions.{Stand}
 use Rattle.ftp_operation.specs.Answer.{Said}
 use Rattle.ftp_operation.specs.declared.op.Op.{Op}
-use Rattle.laws_drivers.specs.control.Alone.{ClientIsCalm}
-use Rattle.laws_drivers.specs.control.Between.{Between, Happened, Turn, client_actions, server_actions}
-use Rattle.laws_drivers.specs.control.Claims.{Begins}
-use Rattle.laws_drivers.specs.control.Over.{Answers, answers_of, actions_of_drive, actions_of_server}
-use Rattle.laws_drivers.specs.events.Actions.{AreMidst, ArePorts}
-use Rattle.laws_transfers.specs.Actions.{AreMoments, AreResets, AreToldAt, AsksAlong, IsTransferred, ServesAlong}
-use Rattle.laws_world.specs.Agreement.{Order, Single}
-use Rattle.laws_world.specs.Claims.{AreAnswers, Beginning, IsFair, state_of}
-use Rattle.ftp_server_driver.specs.alone.Driving.{Drove as ServerDrove}
 use Rattle.ftp_server_driver.specs.alone.Side.{server_side}
+use Rattle.laws_drivers.specs.events.Over as drives
+use Rattle.laws_drivers.specs.events.Over.{OverAreTheDirectRun}
+use Rattle.laws_transfers.specs.Claims.{no_faults}
+use Rattle.laws_world.specs.Claims.{Beginning}
 
--- ---- the client
-
--- a drive did so, and before it reported nothing was reported, and no other operation begun
-pub record AnswersByTransfer {op : Op (List ℕ)} {answer : Said} {old new : Stand client_side} (a : Answers op answer old new) : Type 0 where
-  pub raised : IsTransferred op
-  pub calm : ClientIsCalm old.owner a.begun.owner
-  pub gives : AsksAlong (actions_of_drive a.drove) a.begun new a.drove.did.sums.led
-  pub midst : AreMidst a.drove.did.actions
-
--- operations and their answers, the last one first
-abbrev pub AreTransferred : List (Op (List ℕ) × Said) → (start now : Stand client_side) → Type 0
-AreTransferred [] start now = now ≡ start
-AreTransferred (asked ∷ before) start now = (mid : Stand client_side) × AreTransferred before start mid ×
-    (a : Answers asked.0 asked.1 mid now) × AnswersByTransfer a
-
-abbrev pub actions_in : (asked : List (Op (List ℕ) × Said)) (start now : Stand client_side) → AreTransferred asked start now → List (Action client_side)
-actions_in [] start now put = []
-actions_in (asked ∷ before) start now put = actions_of_drive put.2.drove ++ (Other (Begun asked.0) ∷ actions_in before start put.0 put.1)
-
--- in order, the n-th, from 0, at the n-th of these moments
-abbrev pub orders_at : (moments : ℕ → ℕ) → List (Op (List ℕ) × Said) → List Order
-orders_at moments [] = []
-orders_at moments (asked ∷ before) = orders_at moments before ++ Single asked.0 (moments (length before)) ∷ []
-
--- ---- both
-
--- The contracts of the drives, and an order of their actions in which each can happen, and at these moments; as they began no octet of a data connection was
--- on its way or in hand. The server's drive did the same until it was told that the control connection ended; then it was over, and left the data connection
--- that it still had, if it had one.
-pub record AreOver (b : Beginning) (moments : ℕ → ℕ) (asked : List (Op (List ℕ) × Said)) (server : Stand server_side) : Type 0 where
-  pub server_start : Stand server_side
-  pub client_start : Stand client_side
-  pub client : Stand client_side
-  pub begins : Begins b server_start client_start
-  pub untold : server_start.owner.channel.untold ≡ []
-  pub unwritten : client_start.owner.channel.unwritten ≡ []
-  pub server_unwritten : server_start.owner.channel.unwritten ≡ []
-  pub client_untold : client_start.owner.channel.untold ≡ []
-  pub drove : ServerDrove server_start server
-  pub put : AreTransferred asked client_start client
-  pub turns : List Turn
-  pub between : Between
-  pub happened : Happened turns between
-  pub resets : AreResets turns between happened
-  pub closed : Asked
-  pub server_is : actions_of_server drove ≡ Other (Left closed) ∷ Ended ∷ server_actions turns
-  pub client_is : client_actions turns ≡ actions_in asked client_start client put
-  pub last : Stand server_side
-  pub server_led : Led (server_actions turns) server_start last
-  pub server_end : Led (Other (Left closed) ∷ Ended ∷ []) last server
-  pub takes : ServesAlong (server_actions turns) server_start last server_led
-  pub ports : ArePorts (server_actions turns)
-  pub told : AreToldAt moments turns server_start last server_led
+-- the server's drive since the client left, and each drive of the client gave the answer of the operation that was begun before it
+abbrev pub AreOver : (b : Beginning) (moments : ℕ → ℕ) (asked : List (Op (List ℕ) × Said)) (server : Stand server_side) → Type 0
+AreOver b moments asked server = drives.AreOver no_faults b moments asked server
 
 -- the answers that a client's drives gave, and the map that the server's drive left, are those of the operations run directly
 abbrev pub TransfersOverAreTheDirectRun : Type 0
-TransfersOverAreTheDirectRun =
-    (b : Beginning) → IsFair b → (moments : ℕ → ℕ) → AreMoments moments → (asked : List (Op (List ℕ) × Said)) (server : Stand server_side)
-    → AreOver b moments asked server → AreAnswers (state_of b) (orders_at moments asked) (answers_of asked) server.owner.end.server.view.session.table
+TransfersOverAreTheDirectRun = OverAreTheDirectRun no_faults

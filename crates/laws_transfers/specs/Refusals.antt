@@ -9,12 +9,14 @@ use Rattle.ftp_client_model.specs.Calls.{control_end, data_closed, report_of, re
 use Rattle.ftp_client_model.specs.Failing.{Client}
 use Rattle.ftp_operation.specs.Answer.{Said}
 use Rattle.laws_drivers.specs.control.Alone.{ClientIsCalm, reports_in}
-use Rattle.laws_drivers.specs.control.Between.{Between, Happened, Turn, client_actions, server_actions}
-use Rattle.laws_drivers.specs.control.Claims.{Begins}
-use Rattle.laws_drivers.specs.events.Actions.{Along, ArePorts}
+use Rattle.laws_drivers.specs.control.Between.{Between, Turn, client_actions}
+use Rattle.laws_drivers.specs.events.Actions.{Along}
+use Rattle.laws_drivers.specs.events.Answers.{IsAnswerBy}
+use Rattle.laws_drivers.specs.events.Faults.{Did, Faults}
+use Rattle.laws_drivers.specs.events.Moments.{AreMoments, begun_at}
 use Rattle.laws_transfers.specs.Ahead.{Ahead, Fits, far_ahead, is_parted}
-use Rattle.laws_transfers.specs.Claims.{IsNear}
-use Rattle.laws_transfers.specs.Actions.{AreGranted, AreMoments, AreResets, AreToldAt, IsAsking, ServesAlong, begun_at}
+use Rattle.laws_transfers.specs.Claims.{IsNear, no_faults}
+use Rattle.laws_transfers.specs.Actions.{AreGranted, IsAsking, IsTransferred}
 use Rattle.laws_world.specs.Agreement.{Agrees, Leads}
 use Rattle.laws_world.specs.Claims.{AreTimed, Beginning, IsFair, state_of, world_of}
 use Rattle.laws_world.specs.Events.{Event}
@@ -52,25 +54,17 @@ marks_in (action ∷ before) = marked_by action (marks_in before)
 
 -- ---- both
 
--- one server's drive and drives of one client did these actions in this order, each when it could be done, and at these moments; as they began no octet of a
--- data connection was on its way or in hand
-pub record DidTry (b : Beginning) (moments : ℕ → ℕ) (turns : List Turn) (between : Between) (server : Stand server_side)
-    (client : Stand client_side) : Type 0 where
-  pub server_start : Stand server_side
-  pub client_start : Stand client_side
-  pub begins : Begins b server_start client_start
-  pub untold : server_start.owner.channel.untold ≡ []
-  pub unwritten : client_start.owner.channel.unwritten ≡ []
-  pub server_unwritten : server_start.owner.channel.unwritten ≡ []
-  pub client_untold : client_start.owner.channel.untold ≡ []
-  pub happened : Happened turns between
-  pub resets : AreResets turns between happened
-  pub server_led : Led (server_actions turns) server_start server
-  pub client_led : Led (client_actions turns) client_start client
-  pub takes : ServesAlong (server_actions turns) server_start server server_led
-  pub tries : TriesAlong (client_actions turns) client_start client client_led
-  pub ports : ArePorts (server_actions turns)
-  pub told : AreToldAt moments turns server_start server server_led
+-- dials of the client may fail
+abbrev pub dial_faults : Faults
+dial_faults = record no_faults {
+  Asks = IsTrying;
+  IsAnswer = IsAnswerBy IsTransferred ClientTries;
+  AreMarks = λ turns start now led client_start client client_led marks. marks ≡ marks_in (client_actions turns);
+}
+
+-- one server's drive and drives of one client did these actions in this order
+abbrev pub DidTry : Beginning → (moments : ℕ → ℕ) → List Turn → Between → (server : Stand server_side) (client : Stand client_side) → Type 0
+DidTry b moments turns between server client = Did dial_faults b moments turns between server client
 
 -- A world holds what both ends hold, as where no dial fails, and has these marks.
 pub record HoldsMarked (marks : List (List Mark)) (server : Stand server_side) (client : Stand client_side) (told : List Said) (w : World) : Type 0 where

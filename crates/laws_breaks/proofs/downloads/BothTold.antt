@@ -32,7 +32,7 @@ use Rattle.laws_drivers.proofs.events.Holding.{both, is_called, is_had, is_sound
 use Rattle.laws_drivers.proofs.events.Plain.{IsPlainBy, IsPlainly, Whatever, hears_plain}
 use Rattle.laws_drivers.proofs.events.Stands.{ServerServes}
 use Rattle.laws_transfers.specs.Ahead.{Level}
-use Rattle.laws_transfers.specs.Actions.{AreMoments, begun_at}
+use Rattle.laws_drivers.specs.events.Moments.{AreMoments, begun_at}
 use Rattle.laws_transfers.proofs.Beside.{Takes, Together, is_taking}
 use Rattle.laws_transfers.proofs.Called.{StaysFresh}
 use Rattle.laws_transfers.proofs.ClientStays.{client_keeps}

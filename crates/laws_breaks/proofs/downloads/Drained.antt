@@ -8,7 +8,8 @@ use Rattle.ftp_ports.specs.Machine.{Aside, Break, Closed, End, Failed, Gave, Got
 use Rattle.ftp_ports.specs.declared.whole.Fate.{Fate}
 use Rattle.ftp_ports.specs.declared.whole.Fate.TheVariants as Fates
 use Rattle.ftp_server_driver.specs.alone.Side.{Timed, server_side}
-use Rattle.laws_transfers.specs.Actions.{IsServing, IsToldAt}
+use Rattle.laws_transfers.specs.Actions.{IsServing}
+use Rattle.laws_drivers.specs.events.Moments.{IsToldAt}
 use Rattle.laws_breaks.specs.downloads.Actions.{IsYielding}
 
 -- none is unwritten of what it was told that it broke

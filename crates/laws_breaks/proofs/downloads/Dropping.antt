@@ -17,11 +17,11 @@ use Rattle.ftp_server_model.specs.declared.session.ServerLink.TheVariants as Dat
 use Rattle.laws_world.specs.Claims.{Beginning, IsFair, state_of}
 use Rattle.laws_world.specs.World.{Broken, Mark, World, marked_last}
 use Rattle.laws_agreement.proofs.Chunks.{both_empty}
-use Rattle.laws_drivers.specs.control.Alone.{ClientIsCalm, begun_by, reported_by, reports_in}
+use Rattle.laws_drivers.specs.control.Alone.{ClientIsCalm, reported_by, reports_in}
+use Rattle.laws_drivers.specs.events.Moments.{AreMoments, begun_at, begun_by, number_in}
 use Rattle.laws_drivers.specs.control.Between.{Between, CanTurn, Client as ByClient, Has_lost}
 use Rattle.laws_drivers.proofs.world.Moves.{take_front}
 use Rattle.laws_drivers.proofs.events.NearForms.{taking_of}
-use Rattle.laws_transfers.specs.Actions.{AreMoments, begun_at, number_in}
 use Rattle.laws_transfers.proofs.ClientTaking.{taking_is}
 use Rattle.laws_transfers.proofs.Simulating.{asks, known, runs}
 use Rattle.laws_breaks.proofs.downloads.Steps.{Again, At, client_step, idle_again, same_again}

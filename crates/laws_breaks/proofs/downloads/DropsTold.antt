@@ -21,7 +21,7 @@ use Rattle.laws_drivers.proofs.events.Holding.{both, is_called}
 use Rattle.laws_drivers.proofs.events.Plain.{IsPlainBy, IsPlainly}
 use Rattle.laws_drivers.proofs.events.Stands.{ServerServes}
 use Rattle.laws_transfers.specs.Ahead.{Level}
-use Rattle.laws_transfers.specs.Actions.{AreMoments, begun_at}
+use Rattle.laws_drivers.specs.events.Moments.{AreMoments, begun_at}
 use Rattle.laws_transfers.proofs.Beside.{Together}
 use Rattle.laws_transfers.proofs.Known.{AreCarried}
 use Rattle.laws_transfers.proofs.Simulating.{known}

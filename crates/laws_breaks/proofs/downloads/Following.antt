@@ -22,11 +22,11 @@ use Rattle.laws_world.specs.Claims.{Beginning, IsFair}
 use Rattle.laws_world.specs.World.{Mark, World}
 use Rattle.laws_agreement.proofs.Chunks.{cuts}
 use Rattle.laws_drivers.proofs.world.Moves.{take_front}
-use Rattle.laws_drivers.specs.control.Alone.{begun_by, reported_by}
+use Rattle.laws_drivers.specs.control.Alone.{reported_by}
+use Rattle.laws_drivers.specs.events.Moments.{AreMoments, begun_at, begun_by, number_in}
 use Rattle.laws_drivers.specs.control.Between.{Between, CanTurn, Client as ByClient, Has_ended, Hold}
 use Rattle.laws_drivers.proofs.events.Holding.{both, is_sound as is_whole}
 use Rattle.laws_drivers.proofs.events.Plain.{IsPlainBy, hears_plain}
-use Rattle.laws_transfers.specs.Actions.{AreMoments, begun_at, number_in}
 use Rattle.laws_transfers.proofs.Called.{BreaksNone}
 use Rattle.laws_transfers.proofs.Known.{AreCarried}
 use Rattle.laws_breaks.specs.downloads.Actions.{ClientSuffers, Marks}

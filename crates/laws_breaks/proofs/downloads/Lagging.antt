@@ -22,13 +22,13 @@ use Rattle.ftp_server_model.specs.declared.session.ServerLink.TheVariants as Dat
 use Rattle.laws_world.specs.Claims.{Beginning, IsFair, state_of}
 use Rattle.laws_world.specs.World.{Broken, Mark, World, marked_last}
 use Rattle.laws_agreement.proofs.Chunks.{both_empty}
-use Rattle.laws_drivers.specs.control.Alone.{ClientIsCalm, begun_by, reported_by}
+use Rattle.laws_drivers.specs.control.Alone.{ClientIsCalm, reported_by}
+use Rattle.laws_drivers.specs.events.Moments.{AreMoments, begun_at, begun_by, number_in}
 use Rattle.laws_drivers.specs.control.Between.{Between, CanTurn, Client as ByClient, Has, Has_lost, Near as TheClient, with_hold}
 use Rattle.laws_drivers.proofs.world.Moves.{take_front}
 use Rattle.laws_drivers.proofs.events.Holding.{both, is_had, is_sound as is_whole}
 use Rattle.laws_drivers.proofs.events.NearForms.{taking_of}
 use Rattle.laws_drivers.proofs.events.Plain.{IsPlainBy, IsPlainJob, IsPlainly, Whatever, hears_plain}
-use Rattle.laws_transfers.specs.Actions.{AreMoments, begun_at, number_in}
 use Rattle.laws_transfers.proofs.Beside.{Takes, is_taking, open_takes}
 use Rattle.laws_transfers.proofs.Called.{BreaksNone, StaysFresh, near_fresh}
 use Rattle.laws_transfers.proofs.ClientTaking.{taking_is}

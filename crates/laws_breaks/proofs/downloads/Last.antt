@@ -9,9 +9,8 @@ use Rattle.ftp_client_model.specs.Plan.{count_of}
 use Rattle.ftp_client_model.specs.View.{Job, Receiving, Transfer, Transferring}
 use Rattle.ftp_operation.specs.declared.op.Op.{Op}
 use Rattle.ftp_server_driver.specs.alone.Side.{server_side}
-use Rattle.laws_drivers.specs.control.Alone.{begun_by}
+use Rattle.laws_drivers.specs.events.Moments.{begun_at, begun_by, number_in}
 use Rattle.laws_drivers.specs.control.Between.{Between, Client, Happened, Server, Turn, client_actions, server_actions}
-use Rattle.laws_transfers.specs.Actions.{begun_at, number_in}
 use Rattle.laws_world.specs.Agreement.{Order, Single}
 use Rattle.ftp_wire.specs.Decoder.{Decoder}
 use Rattle.laws_breaks.specs.downloads.Actions.{AreAfter, AreShort, AsksAll, IsShort}

@@ -29,7 +29,7 @@ use Rattle.laws_drivers.specs.control.Touches.{ToldBreak}
 use Rattle.laws_drivers.specs.events.Actions.{ArePorts, listened_in}
 use Rattle.laws_drivers.proofs.events.Holding.{both, is_had}
 use Rattle.laws_transfers.specs.Claims.{IsToldEnd}
-use Rattle.laws_transfers.specs.Actions.{AreMoments, IsToldAt, begun_at, last_of, number_in}
+use Rattle.laws_drivers.specs.events.Moments.{AreMoments, IsToldAt, begun_at, last_of, number_in}
 use Rattle.laws_transfers.proofs.Broke.{IsBroke, IsShown, broke_does, with_view}
 use Rattle.laws_transfers.proofs.Called.{BreaksNone}
 use Rattle.laws_transfers.proofs.EitherEnd.{AreApart, Common, common}

@@ -27,7 +27,7 @@ use Rattle.laws_drivers.proofs.events.FarForms.{none_later}
 use Rattle.laws_drivers.proofs.events.Holding.{both, is_had, is_sound as is_whole, unclosed}
 use Rattle.laws_drivers.proofs.events.Plain.{IsPlainBy, IsPlainJob}
 use Rattle.laws_transfers.specs.Ahead.{Level, far_ahead}
-use Rattle.laws_transfers.specs.Actions.{AreMoments, begun_at}
+use Rattle.laws_drivers.specs.events.Moments.{AreMoments, begun_at}
 use Rattle.laws_transfers.proofs.Aborting.{given_untaken}
 use Rattle.laws_transfers.proofs.Beside.{is_taking, open_takes}
 use Rattle.laws_transfers.proofs.Known.{AreCarried, is_near_held}

@@ -17,7 +17,8 @@ use Rattle.ftp_server_model.specs.Calls as far
 use Rattle.ftp_server_model.specs.Machine.{IsReading, Reading}
 use Rattle.laws_world.specs.Claims.{Beginning, IsFair}
 use Rattle.laws_world.specs.World.{Broken, Mark, World, marked_last}
-use Rattle.laws_drivers.specs.control.Alone.{ServerIsCalm, begun_by, reports_in}
+use Rattle.laws_drivers.specs.control.Alone.{ServerIsCalm, reports_in}
+use Rattle.laws_drivers.specs.events.Moments.{AreMoments, IsToldAt, begun_at, begun_by, last_of, number_in}
 use Rattle.laws_drivers.specs.control.Between.{Between, Can, CanTurn, Client, Far as TheServer, Has, Has_lost, Near as TheClient, with_hold}
 use Rattle.laws_drivers.specs.control.Touches.{ToldBreak}
 use Rattle.laws_drivers.specs.events.Actions.{ArePorts, listened_in}
@@ -26,7 +27,6 @@ use Rattle.laws_drivers.proofs.events.Fresh.{Fresh}
 use Rattle.laws_drivers.proofs.events.Holding.{both, is_called, is_had}
 use Rattle.laws_drivers.proofs.events.Plain.{IsPlainBy, IsPlainly}
 use Rattle.laws_drivers.proofs.events.Stands.{ClientFetches}
-use Rattle.laws_transfers.specs.Actions.{AreMoments, IsToldAt, begun_at, last_of, number_in}
 use Rattle.laws_transfers.specs.Refusals.{ClientTries, marked_by}
 use Rattle.laws_transfers.proofs.Called.{BreaksNone, StaysFresh}
 use Rattle.laws_transfers.proofs.ClientGiving.{gave_by}

@@ -15,7 +15,8 @@ use Rattle.ftp_server_model.specs.View.{Session, View as Far}
 use Rattle.laws_world.specs.Agreement.{Order}
 use Rattle.laws_world.specs.Claims.{Beginning, IsFair, world_of}
 use Rattle.laws_world.specs.World.{Mark}
-use Rattle.laws_drivers.specs.control.Alone.{ServerIsCalm, begun_by, reported_by, reports_in}
+use Rattle.laws_drivers.specs.control.Alone.{ServerIsCalm, reported_by, reports_in}
+use Rattle.laws_drivers.specs.events.Moments.{AreMoments, IsToldAt, begun_at, begun_by, last_of, number_in}
 use Rattle.laws_drivers.specs.control.Between.{Between, CanTurn, Client, Has}
 use Rattle.laws_drivers.proofs.control.Worlds.{LeadsOn, leads_then}
 use Rattle.laws_drivers.specs.events.Actions.{ArePorts, listened_in}
@@ -25,7 +26,7 @@ use Rattle.laws_drivers.proofs.events.Serves.{action_serves}
 use Rattle.laws_drivers.proofs.events.Stands.{ServerServes}
 use Rattle.laws_transfers.specs.Ahead.{Fits, far_ahead}
 use Rattle.laws_transfers.proofs.Ahead.{Holds}
-use Rattle.laws_transfers.specs.Actions.{AreMoments, IsToldAt, ServerTransfers, begun_at, last_of, number_in}
+use Rattle.laws_transfers.specs.Actions.{ServerTransfers}
 use Rattle.laws_transfers.specs.Refusals.{ClientTries, marked_by}
 use Rattle.laws_transfers.proofs.Beside.{Goes, GoesTo, Together}
 use Rattle.laws_transfers.proofs.Called.{BreaksNone, StaysFresh}

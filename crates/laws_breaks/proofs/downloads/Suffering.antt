@@ -16,7 +16,7 @@ use Rattle.laws_drivers.specs.control.Touches.{touch_in}
 use Rattle.laws_drivers.proofs.control.Taken.{reports_is}
 use Rattle.laws_drivers.specs.events.Actions.{ArePorts, listened_in}
 use Rattle.laws_drivers.proofs.events.Plain.{IsPlainBy}
-use Rattle.laws_transfers.specs.Actions.{AreMoments, AreToldAt, begun_at}
+use Rattle.laws_drivers.specs.events.Moments.{AreMoments, AreToldAt, begun_at}
 use Rattle.laws_transfers.proofs.Broke.{with_view}
 use Rattle.laws_transfers.proofs.Known.{AreCarried}
 use Rattle.laws_transfers.proofs.Lost.{IsSeen, near_done, seen_itself}
@@ -106,7 +106,7 @@ module _ (read : Reading) (reads : IsReading read) (moments : ℕ → ℕ) (time
 pub breaks_are_of_worlds : BreaksAreOfWorlds
 breaks_are_of_worlds read reads b fair moments timed turns between server client did =
     let stood = reaches read reads moments timed b fair turns between did.happened did.server_start server did.client_start client did.begins did.untold
-    did.unwritten did.server_unwritten did.client_untold did.server_led did.client_led did.takes did.suffers did.ports did.told did.short did.after in
+    did.unwritten did.server_unwritten did.client_untold did.server_led did.client_led did.serves did.asks did.ports did.told did.short did.ordered in
     by stood.seen stood.peeked
   where
     -- those of the actions
@@ -150,7 +150,7 @@ breaks_are_of_worlds read reads b fair moments timed turns between server client
 
     -- what was begun can be carried
     carried : AreCarried (begun_at moments (client_actions turns))
-    carried = in_carried moments (client_actions turns) did.client_start client did.client_led did.suffers
+    carried = in_carried moments (client_actions turns) did.client_start client did.client_led did.asks
 
     -- the server was told first
     first : (m : Between) → Precedes read reads moments timed b fair are_marks (client_actions turns) m (listened_in (server_actions turns)) server client

@@ -24,7 +24,7 @@ use Rattle.laws_world.specs.World.{Mark, World}
 use Rattle.laws_dialogues.specs.Fetches.{Ask}
 use Rattle.laws_dialogues.specs.Peeks.{halting}
 use Rattle.laws_agreement.specs.PeekStages.{AtHalt, halt_abort, halt_replied}
-use Rattle.laws_drivers.specs.control.Alone.{begun_by}
+use Rattle.laws_drivers.specs.events.Moments.{begun_at, begun_by, number_in}
 use Rattle.laws_drivers.specs.control.Between.{Between, Can, Near as TheClient}
 use Rattle.laws_drivers.specs.control.Touches.{Resets}
 use Rattle.laws_drivers.specs.world.Unaborted.{is_unaborted}
@@ -33,7 +33,7 @@ use Rattle.laws_drivers.proofs.events.Fresh.{Fresh}
 use Rattle.laws_drivers.proofs.events.Holding.{is_called}
 use Rattle.laws_drivers.proofs.events.Plain.{IsKept, IsPlain, IsPlainBy, IsPlainJob, starts_plain}
 use Rattle.laws_drivers.proofs.events.Plainly.{action_plain}
-use Rattle.laws_transfers.specs.Actions.{IsCarried, begun_at, number_in}
+use Rattle.laws_transfers.specs.Actions.{IsCarried}
 use Rattle.laws_transfers.proofs.Called.{BreaksNone, StaysFresh, transferred_plain}
 use Rattle.laws_transfers.proofs.Known.{AreCarried}
 use Rattle.ftp_wire.specs.Decoder.{decoder_of}

@@ -26,7 +26,7 @@ use Rattle.laws_drivers.proofs.control.Taken.{taken, taken_wants}
 use Rattle.laws_drivers.proofs.events.Fresh.{Fresh}
 use Rattle.laws_drivers.proofs.events.Holding.{both, is_called, unclosed}
 use Rattle.laws_drivers.proofs.events.NearForms.{busy_same, no_close}
-use Rattle.laws_transfers.specs.Actions.{AreMoments, begun_at}
+use Rattle.laws_drivers.specs.events.Moments.{AreMoments, begun_at}
 use Rattle.laws_transfers.proofs.Called.{StaysFresh}
 use Rattle.laws_transfers.proofs.Known.{AreCarried, Known, Lifting}
 use Rattle.laws_transfers.proofs.Simulating.{known, runs}

@@ -22,13 +22,13 @@ use Rattle.laws_world.specs.World.{Broken, ClosedByNear, Mark, World, marked_las
 use Rattle.laws_agreement.proofs.Chunks.{cuts}
 use Rattle.laws_drivers.proofs.world.Moves.{take_front}
 use Rattle.laws_drivers.proofs.world.Served.{rests}
-use Rattle.laws_drivers.specs.control.Alone.{begun_by, reported_by}
+use Rattle.laws_drivers.specs.control.Alone.{reported_by}
+use Rattle.laws_drivers.specs.events.Moments.{AreMoments, begun_at, begun_by, last_of, number_in}
 use Rattle.laws_drivers.specs.control.Between.{Between, CanTurn, Client as ByClient}
 use Rattle.laws_drivers.proofs.control.Taken.{taken_none}
 use Rattle.laws_drivers.specs.events.Actions.{ArePorts, listened_in}
 use Rattle.laws_drivers.proofs.events.Holding.{unclosed}
 use Rattle.laws_drivers.proofs.events.Plain.{IsPlainBy, hears_plain}
-use Rattle.laws_transfers.specs.Actions.{AreMoments, begun_at, last_of, number_in}
 use Rattle.laws_transfers.proofs.Beside.{rested}
 use Rattle.laws_transfers.proofs.Known.{AreCarried, is_near_held}
 use Rattle.laws_transfers.proofs.Simulating.{asks}

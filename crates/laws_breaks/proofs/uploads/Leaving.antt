@@ -20,7 +20,8 @@ use Rattle.ftp_server_model.specs.declared.session.ServerLink.{ServerLink}
 use Rattle.ftp_server_model.specs.declared.session.ServerLink.TheVariants as Data
 use Rattle.laws_world.specs.Claims.{Beginning, IsFair}
 use Rattle.laws_world.specs.World.{World}
-use Rattle.laws_drivers.specs.control.Alone.{begun_by, reported_by, reports_in}
+use Rattle.laws_drivers.specs.control.Alone.{reported_by, reports_in}
+use Rattle.laws_drivers.specs.events.Moments.{AreMoments, begun_at, begun_by, number_in}
 use Rattle.laws_drivers.specs.control.Between.{Between, CanTurn, Client as ByClient, Has, Has_ended, Has_lost, Hold, Is_called}
 use Rattle.laws_drivers.proofs.control.Taken.{taken, taken_wants}
 use Rattle.laws_drivers.specs.world.Ahead.{is_open}
@@ -29,7 +30,6 @@ use Rattle.laws_drivers.proofs.events.Holding.{both, is_called, is_false, is_had
 use Rattle.laws_drivers.proofs.events.NearForms.{no_close}
 use Rattle.laws_drivers.proofs.events.Plain.{IsPlainBy, IsPlainly}
 use Rattle.laws_transfers.specs.Ahead.{Ahead, Level, Listens, Opens, Parted}
-use Rattle.laws_transfers.specs.Actions.{AreMoments, begun_at, number_in}
 use Rattle.laws_transfers.proofs.Beside.{Together, is_taking}
 use Rattle.laws_transfers.proofs.ClientStays.{client_keeps}
 use Rattle.laws_transfers.proofs.Known.{AreCarried, Known, is_giving, is_near_held}

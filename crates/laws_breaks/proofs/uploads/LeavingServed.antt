@@ -12,7 +12,7 @@ use Rattle.laws_drivers.specs.control.Alone.{ServerIsCalm}
 use Rattle.laws_drivers.specs.control.Between.{Between, Can, Far as TheServer}
 use Rattle.laws_drivers.specs.control.Touches.{Accepts, Dials, Ends, IsDenied, IsMissed, Listens, None_of_it, Parts, Reads, Resets, Says, Takes, ToldBreak, ToldEnd, Touch, Writes, touch_in}
 use Rattle.laws_drivers.specs.events.Actions.{ArePorts, listened_in}
-use Rattle.laws_transfers.specs.Actions.{AreMoments, IsToldAt, begun_at, last_of, number_in}
+use Rattle.laws_drivers.specs.events.Moments.{AreMoments, IsToldAt, begun_at, last_of, number_in}
 use Rattle.laws_breaks.specs.downloads.Actions.{IsYielding}
 use Rattle.laws_breaks.proofs.downloads.Lagging.{OfMarks}
 use Rattle.laws_breaks.proofs.downloads.Drained.{BreaksNot, IsLone, dried, dried_step, dried_told}

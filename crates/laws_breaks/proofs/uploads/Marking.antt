@@ -7,11 +7,11 @@ use Rattle.ftp_ends.specs.declared.link.Wants.{Wants}
 use Rattle.ftp_ends.specs.declared.link.Wants.TheVariants as Want
 use Rattle.ftp_server_driver.specs.alone.Side.{Timed, server_side}
 use Rattle.ftp_server_model.specs.Calls as far
-use Rattle.laws_drivers.specs.control.Alone.{begun_by, reported_by, reports_in}
+use Rattle.laws_drivers.specs.control.Alone.{reported_by, reports_in}
+use Rattle.laws_drivers.specs.events.Moments.{begun_at, begun_by, number_in}
 use Rattle.laws_drivers.specs.control.Between.{Client as ByClient, Server as ByServer, Turn, client_actions, server_actions}
 use Rattle.laws_drivers.proofs.world.Known.{is_receive}
 use Rattle.laws_drivers.proofs.events.FarForms.{no_close}
-use Rattle.laws_transfers.specs.Actions.{begun_at, number_in}
 use Rattle.laws_breaks.specs.downloads.Actions.{IsYielding}
 use Rattle.laws_breaks.proofs.downloads.Unsent.{AskAll, both_all}
 use Rattle.laws_breaks.specs.uploads.Actions.{ClientGives, GivesAlong}

@@ -13,7 +13,7 @@ use Rattle.laws_drivers.specs.control.Between.{Between, server_actions}
 use Rattle.laws_drivers.proofs.control.Taken.{reports_is, taken}
 use Rattle.laws_drivers.proofs.control.Worlds.{LeadsOn}
 use Rattle.laws_drivers.specs.events.Actions.{listened_in}
-use Rattle.laws_transfers.specs.Actions.{begun_at}
+use Rattle.laws_drivers.specs.events.Moments.{begun_at}
 use Rattle.laws_drivers.proofs.events.Plain.{Whatever}
 use Rattle.laws_breaks.specs.downloads.Claims.{ReportAlike}
 use Rattle.laws_breaks.proofs.downloads.BothBroken.{broke, broke_step}
@@ -40,7 +40,7 @@ use Rattle.laws_breaks.proofs.uploads.Simulating.{Cut, asked, reaches}
 pub cuts_are_of_worlds : CutsAreOfWorlds
 cuts_are_of_worlds read reads b fair moments timed turns between server client did =
     let stood = reaches read reads moments timed b fair turns between did.happened did.server_start server did.client_start client did.begins did.untold
-    did.unwritten did.server_unwritten did.client_untold did.server_led did.client_led did.takes did.gives did.ports did.told did.cut_at in
+    did.unwritten did.server_unwritten did.client_untold did.server_led did.client_led did.serves did.asks did.ports did.told did.ordered in
     by stood.view stood.cut
   where
     actions : List (Action client_side)
@@ -55,7 +55,7 @@ cuts_are_of_worlds read reads b fair moments timed turns between server client d
 
     -- what was begun asks for all
     puts : AskAll (begun_at moments actions)
-    puts = asked read reads moments timed b fair turns did.server_start server did.server_led did.client_start client did.client_led did.gives
+    puts = asked read reads moments timed b fair turns did.server_start server did.server_led did.client_start client did.client_led did.asks
 
     of_world : (were : Stand server_side) (was held : Stand client_side) (m : Between)
         → IsBeside server were client was

@@ -34,7 +34,7 @@ use Rattle.laws_agreement.specs.Cut.{FlowsRow}
 use Rattle.laws_agreement.specs.Rising.{replied_by, sending}
 use Rattle.laws_drivers.specs.control.Between.{Between}
 use Rattle.laws_drivers.proofs.events.Holding.{both, is_sound as is_whole}
-use Rattle.laws_transfers.specs.Actions.{AreMoments, begun_at}
+use Rattle.laws_drivers.specs.events.Moments.{AreMoments, begun_at}
 use Rattle.laws_transfers.proofs.Known.{is_near_held}
 use Rattle.laws_breaks.proofs.downloads.Lagging.{OfMarks}
 use Rattle.laws_breaks.proofs.downloads.Unsent.{AskAll}

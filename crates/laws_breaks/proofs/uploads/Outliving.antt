@@ -35,7 +35,7 @@ use Rattle.laws_drivers.proofs.events.Holding.{both, is_sound as is_whole, unclo
 use Rattle.laws_drivers.proofs.events.NearForms.{busy_same}
 use Rattle.laws_drivers.proofs.events.Plain.{IsPlainBy}
 use Rattle.laws_transfers.specs.Ahead.{Ahead, Fits, Level, Listens, Opens, Parted, far_ahead}
-use Rattle.laws_transfers.specs.Actions.{AreMoments, begun_at, last_of, number_in}
+use Rattle.laws_drivers.specs.events.Moments.{AreMoments, begun_at, last_of, number_in}
 use Rattle.laws_transfers.proofs.Beside.{is_taking, open_takes}
 use Rattle.laws_transfers.proofs.FarForms.{upload_takes}
 use Rattle.laws_transfers.proofs.Known.{AreCarried, Known, is_near_held}

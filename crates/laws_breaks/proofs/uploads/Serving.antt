@@ -35,7 +35,7 @@ use Rattle.laws_drivers.proofs.events.Holding.{both, is_called, unclosed}
 use Rattle.laws_drivers.proofs.events.Plain.{IsPlainBy, IsPlainly}
 use Rattle.laws_drivers.proofs.events.Stands.{ServerServes}
 use Rattle.laws_transfers.specs.Ahead.{Ahead, Fits, Level, Listens, Opens, Parted, far_ahead}
-use Rattle.laws_transfers.specs.Actions.{AreMoments, begun_at, last_of, number_in}
+use Rattle.laws_drivers.specs.events.Moments.{AreMoments, begun_at, last_of, number_in}
 use Rattle.laws_transfers.proofs.Ahead.{left_rests}
 use Rattle.laws_transfers.proofs.Beside.{GoesTo, Takes, Together, is_taking, rested}
 use Rattle.laws_transfers.proofs.Called.{StaysFresh}

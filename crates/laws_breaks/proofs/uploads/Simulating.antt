@@ -24,7 +24,7 @@ use Rattle.laws_drivers.specs.events.Actions.{ArePorts, listened_in}
 use Rattle.laws_drivers.proofs.world.Known.{is_receive}
 use Rattle.laws_drivers.proofs.events.Holding.{both, is_called, is_had}
 use Rattle.laws_drivers.proofs.events.Plain.{IsPlainBy}
-use Rattle.laws_transfers.specs.Actions.{AreMoments, AreToldAt, IsToldAt, begun_at, last_of, number_in}
+use Rattle.laws_drivers.specs.events.Moments.{AreMoments, AreToldAt, IsToldAt, begun_at, last_of, number_in}
 use Rattle.laws_transfers.proofs.Known.{is_near_held}
 use Rattle.laws_transfers.proofs.Lost.{IsSeen, far_done, near_done, seen_itself}
 use Rattle.laws_transfers.proofs.Reaching.{earlier, starts_so}

@@ -23,7 +23,7 @@ use Rattle.laws_drivers.specs.control.Alone.{ServerIsCalm}
 use Rattle.laws_drivers.specs.control.Between.{Between, CanTurn, Far as TheServer, Has, Has_lost, Server as ByServer, with_hold}
 use Rattle.laws_drivers.specs.events.Actions.{ArePorts, listened_in}
 use Rattle.laws_drivers.proofs.events.Holding.{is_had}
-use Rattle.laws_transfers.specs.Actions.{AreMoments, begun_at}
+use Rattle.laws_drivers.specs.events.Moments.{AreMoments, begun_at}
 use Rattle.laws_transfers.proofs.Beside.{is_taking}
 use Rattle.laws_transfers.proofs.Known.{AreCarried}
 use Rattle.laws_transfers.proofs.Lost.{with_lost}

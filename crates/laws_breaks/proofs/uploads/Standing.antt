@@ -21,12 +21,12 @@ use Rattle.laws_world.specs.Agreement.{Order}
 use Rattle.laws_world.specs.Claims.{Beginning, IsFair}
 use Rattle.laws_drivers.proofs.world.Moves.{drop_front, take_front}
 use Rattle.laws_drivers.specs.world.Ahead.{is_open}
-use Rattle.laws_drivers.specs.control.Alone.{begun_by, reported_by, reports_in}
+use Rattle.laws_drivers.specs.control.Alone.{reported_by, reports_in}
+use Rattle.laws_drivers.specs.events.Moments.{AreMoments, begun_at, begun_by, number_in}
 use Rattle.laws_drivers.specs.control.Between.{Between}
 use Rattle.laws_drivers.proofs.events.FarForms.{none_later}
 use Rattle.laws_drivers.proofs.events.Holding.{both}
 use Rattle.laws_transfers.specs.Ahead.{Fits, far_ahead}
-use Rattle.laws_transfers.specs.Actions.{AreMoments, begun_at, number_in}
 use Rattle.laws_transfers.proofs.Ahead.{Holds}
 use Rattle.laws_transfers.proofs.Beside.{is_taking}
 use Rattle.laws_transfers.proofs.Simulating.{Reached}

@@ -33,7 +33,7 @@ use Rattle.laws_drivers.specs.events.Actions.{ArePorts, listened_in}
 use Rattle.laws_drivers.proofs.events.FarForms.{no_close, none_later}
 use Rattle.laws_drivers.proofs.events.Plain.{IsPlainly}
 use Rattle.laws_drivers.proofs.events.Stands.{ServerServes}
-use Rattle.laws_transfers.specs.Actions.{AreMoments, begun_at, last_of, number_in}
+use Rattle.laws_drivers.specs.events.Moments.{AreMoments, begun_at, last_of, number_in}
 use Rattle.laws_transfers.proofs.Known.{is_near_held}
 use Rattle.laws_breaks.proofs.downloads.BothTold.{resplit}
 use Rattle.laws_breaks.proofs.downloads.ClientBroken.{broken_channel}

@@ -28,14 +28,14 @@ use Rattle.laws_world.specs.World.{Broken, Mark, World, marked_last}
 use Rattle.laws_dialogues.specs.Fetches.{busy}
 use Rattle.laws_agreement.specs.Rising.{replied_by, sending}
 use Rattle.laws_drivers.proofs.world.Served.{rests}
-use Rattle.laws_drivers.specs.control.Alone.{ClientIsCalm, begun_by}
+use Rattle.laws_drivers.specs.control.Alone.{ClientIsCalm}
+use Rattle.laws_drivers.specs.events.Moments.{AreMoments, begun_at, begun_by, number_in}
 use Rattle.laws_drivers.specs.control.Between.{Between, Can, CanTurn, Client as ByClient, Near as TheClient}
 use Rattle.laws_drivers.specs.control.Touches.{ToldBreak}
 use Rattle.laws_drivers.proofs.control.Taken.{taken}
 use Rattle.laws_drivers.specs.events.Actions.{ArePorts, listened_in}
 use Rattle.laws_drivers.proofs.events.Holding.{both}
 use Rattle.laws_drivers.proofs.events.Plain.{IsPlain, IsPlainBy, IsPlainJob, Whatever, hears_plain}
-use Rattle.laws_transfers.specs.Actions.{AreMoments, begun_at, number_in}
 use Rattle.laws_transfers.proofs.Known.{AreCarried}
 use Rattle.laws_breaks.specs.downloads.Claims.{ReportAlike}
 use Rattle.laws_breaks.specs.downloads.Actions.{IsSuffering, Marks}

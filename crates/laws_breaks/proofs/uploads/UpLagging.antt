@@ -26,12 +26,12 @@ use Rattle.laws_world.specs.Events.{ControlToClient, pushed}
 use Rattle.laws_world.specs.World.{ClosedByNear, Mark, Opened as IsOpened, World}
 use Rattle.laws_agreement.proofs.Chunks.{both_empty}
 use Rattle.laws_agreement.specs.Rising.{sending}
-use Rattle.laws_drivers.specs.control.Alone.{ClientIsCalm, begun_by, reported_by}
+use Rattle.laws_drivers.specs.control.Alone.{ClientIsCalm, reported_by}
+use Rattle.laws_drivers.specs.events.Moments.{AreMoments, begun_at, begun_by, number_in}
 use Rattle.laws_drivers.specs.control.Between.{Between, CanTurn, Client as ByClient, Has_lost}
 use Rattle.laws_drivers.proofs.world.Moves.{take_front}
 use Rattle.laws_drivers.proofs.events.Holding.{both, is_had, unclosed}
 use Rattle.laws_drivers.proofs.events.Plain.{IsPlainBy, IsPlainly, Whatever, hears_plain}
-use Rattle.laws_transfers.specs.Actions.{AreMoments, begun_at, number_in}
 use Rattle.laws_transfers.proofs.Beside.{Takes, is_taking, open_takes}
 use Rattle.laws_transfers.proofs.Called.{BreaksNone, StaysFresh, near_fresh}
 use Rattle.laws_transfers.proofs.Known.{AreCarried, Known}

@@ -1,45 +1,50 @@
 -- What is claimed of two drives of which a download's data connection breaks, for the client, the server, or both.
-use Rattle.std.specs.Prelude.{◌≡◌, ◌⊎◌, ℕ, List, [], ◌++◌, length, None, Some, option_to_list}
-use Rattle.ftp_ports.specs.Actions.{Led, Stand}
+use Rattle.std.specs.Prelude.{◌≡◌, ◌⊎◌, ℕ, List, ◌++◌, None}
+use Rattle.ftp_ports.specs.Actions.{Stand}
 use Rattle.ftp_client_driver.specs.Side.{client_side}
 use Rattle.ftp_client_model.specs.Calls.{control_end, data_closed, data_fault, hears, report_of, reports}
+use Rattle.ftp_client_model.specs.Plan.{count_of}
 use Rattle.ftp_client_model.specs.View.{View}
-use Rattle.laws_breaks.specs.downloads.Actions.{AreAfter, AreMarks, AreShort, SuffersAlong, YieldsAlong}
+use Rattle.ftp_operation.specs.Answer.{Said}
+use Rattle.ftp_operation.specs.declared.op.Op.{Op}
+use Rattle.laws_breaks.specs.downloads.Actions.{AreAfter, AreMarks, AreShort, ClientSuffers, IsPeeking, IsToldShort, IsYielding}
 use Rattle.laws_drivers.specs.control.Alone.{reports_in}
-use Rattle.laws_drivers.specs.control.Between.{Between, Happened, Turn, client_actions, server_actions}
-use Rattle.laws_drivers.specs.control.Claims.{Begins}
-use Rattle.laws_drivers.specs.events.Actions.{ArePorts}
+use Rattle.laws_drivers.specs.control.Between.{Between, Turn, client_actions, server_actions}
+use Rattle.laws_drivers.specs.events.Actions.{Along, ArePorts}
+use Rattle.laws_drivers.specs.events.Answers.{Answers, AnswersBy, actions_of_drive}
+use Rattle.laws_drivers.specs.events.Faults.{Agree, Did, Faults, PartingAgree}
+use Rattle.laws_drivers.specs.events.Moments.{AreMoments, begun_at}
+use Rattle.laws_transfers.specs.Actions.{IsTransferred}
 use Rattle.laws_transfers.specs.Claims.{IsToldEnd}
-use Rattle.laws_transfers.specs.Actions.{AreMoments, AreToldAt, begun_at}
 use Rattle.laws_transfers.specs.Refusals.{HoldsMarked}
-use Rattle.laws_world.specs.Agreement.{Agrees, Leads}
-use Rattle.laws_world.specs.Claims.{AreTimed, Beginning, IsFair, state_of, world_of}
+use Rattle.laws_world.specs.Agreement.{Leads}
+use Rattle.laws_world.specs.Claims.{AreTimed, Beginning, IsFair, world_of}
 use Rattle.laws_world.specs.Events.{Event}
 use Rattle.laws_world.specs.World.{Mark, World}
 use Rattle.ftp_server_driver.specs.alone.Side.{server_side}
 use Rattle.ftp_server_model.specs.Calls.{break_step, clock_step}
 use Rattle.ftp_server_model.specs.Machine.{IsReading, Reading}
 
--- one server's drive and drives of one client did these actions in this order, each when it could be done, and at these moments; as they began no octet of a
--- data connection was on its way or in hand
-pub record DidSuffer (b : Beginning) (moments : ℕ → ℕ) (turns : List Turn) (between : Between) (server : Stand server_side)
-    (client : Stand client_side) : Type 0 where
-  pub server_start : Stand server_side
-  pub client_start : Stand client_side
-  pub begins : Begins b server_start client_start
-  pub untold : server_start.owner.channel.untold ≡ []
-  pub unwritten : client_start.owner.channel.unwritten ≡ []
-  pub server_unwritten : server_start.owner.channel.unwritten ≡ []
-  pub client_untold : client_start.owner.channel.untold ≡ []
-  pub happened : Happened turns between
-  pub server_led : Led (server_actions turns) server_start server
-  pub client_led : Led (client_actions turns) client_start client
-  pub takes : YieldsAlong (server_actions turns) server_start server server_led
-  pub suffers : SuffersAlong (client_actions turns) client_start client client_led
-  pub short : AreShort (client_actions turns) client_start client client_led
-  pub after : AreAfter turns between happened server_start server server_led
-  pub ports : ArePorts (server_actions turns)
-  pub told : AreToldAt moments turns server_start server server_led
+-- an operation was answered by such actions, and a Peek's client was told of a break only where less came than was asked for, or after ABOR
+pub record AnswersSuffering {op : Op (List ℕ)} {answer : Said} {old new : Stand client_side} (a : Answers op answer old new) : Type 0 where
+  pub by : AnswersBy IsTransferred ClientSuffers a
+  pub short : (count_of op ≡ None) ⊎ Along (λ action at then. IsToldShort action at) (actions_of_drive a.drove) a.begun new a.drove.did.sums.led
+
+-- downloads may break, for either end
+abbrev pub download_faults : Faults
+download_faults = record {
+  Serves = IsYielding;
+  Asks = IsPeeking;
+  ArePorts = λ turns. ArePorts (server_actions turns);
+  AreOrdered = λ moments turns between happened start now led. AreAfter turns between happened start now led;
+  AreShort = AreShort;
+  IsAnswer = λ op answer old new a. AnswersSuffering a;
+  AreMarks = λ turns start now led client_start client client_led marks. AreMarks (client_actions turns) client_start client client_led marks;
+}
+
+-- one server's drive and drives of one client did these actions in this order
+abbrev pub DidSuffer : Beginning → (moments : ℕ → ℕ) → List Turn → Between → (server : Stand server_side) (client : Stand client_side) → Type 0
+DidSuffer b moments turns between server client = Did download_faults b moments turns between server client
 
 -- two clients have the same report, now and where the control connection ends then
 abbrev pub ReportAlike : (one other : View) → Type 0
@@ -98,20 +103,8 @@ BreaksAreOfWorlds =
 
 -- so reports and map agree with what was begun, a report that was not taken yet among them: an operation is cut only where the client was told of a break
 abbrev pub BreaksAgree : Type 0
-BreaksAgree =
-    (b : Beginning) → IsFair b → (moments : ℕ → ℕ) → AreMoments moments
-    → (turns : List Turn) (between : Between) (server : Stand server_side) (client : Stand client_side)
-    → (did : DidSuffer b moments turns between server client) → (marks : List (List Mark)) × AreMarks
-    (client_actions turns) did.client_start client did.client_led marks
-    × Agrees (state_of b) (begun_at moments (client_actions turns)) marks None
-    (reports_in (client_actions turns) ++ option_to_list (report_of client.owner.end.view)) server.owner.end.server.view.session.table
+BreaksAgree = Agree download_faults
 
 -- so they do where both ends are told then, whatever was on its way, that the control connection ended: an operation that has no report is lost
 abbrev pub BreaksPartingAgree : Type 0
-BreaksPartingAgree =
-    (b : Beginning) → IsFair b → (moments : ℕ → ℕ) → AreMoments moments
-    → (turns : List Turn) (between : Between) (server : Stand server_side) (client : Stand client_side)
-    → (did : DidSuffer b moments turns between server client) → (marks : List (List Mark)) × AreMarks
-    (client_actions turns) did.client_start client did.client_led marks
-    × Agrees (state_of b) (begun_at moments (client_actions turns)) marks (Some (length marks))
-    (reports_in (client_actions turns) ++ option_to_list (report_of (control_end client.owner.end.view))) server.owner.end.server.view.session.table
+BreaksPartingAgree = PartingAgree download_faults

@@ -12,7 +12,7 @@ use Rattle.ftp_ends.specs.declared.link.Wants.TheVariants as Want
 use Rattle.laws_drivers.specs.events.Actions.{Along}
 use Rattle.laws_drivers.specs.control.Alone.{ClientIsCalm, ServerIsCalm}
 use Rattle.laws_drivers.specs.control.Between.{Client as ByClient, Server as ByServer, Turn, client_actions, server_actions}
-use Rattle.laws_transfers.specs.Actions.{last_of, number_in}
+use Rattle.laws_drivers.specs.events.Moments.{last_of, number_in}
 use Rattle.laws_breaks.specs.downloads.Actions.{IsSuffering, IsYielding, Marks}
 use Rattle.laws_breaks.specs.uploads.Coming.{HasCome}
 use Rattle.laws_world.specs.World.{Broken, Mark, marked_last}

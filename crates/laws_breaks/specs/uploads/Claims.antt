@@ -1,43 +1,39 @@
 -- What is claimed of two drives of which data connections break, those of uploads too.
-use Rattle.std.specs.Prelude.{◌≡◌, ◌⊎◌, ℕ, List, [], ◌++◌, length, None, Some, option_to_list}
-use Rattle.ftp_ports.specs.Actions.{Led, Stand}
+use Rattle.std.specs.Prelude.{◌≡◌, ◌⊎◌, ⊤, ℕ, List}
+use Rattle.ftp_ports.specs.Actions.{Stand}
 use Rattle.ftp_client_driver.specs.Side.{client_side}
-use Rattle.ftp_client_model.specs.Calls.{control_end, data_closed, data_fault, hears, report_of, reports}
+use Rattle.ftp_client_model.specs.Calls.{data_closed, data_fault, hears, reports}
 use Rattle.ftp_client_model.specs.View.{View}
 use Rattle.laws_breaks.specs.downloads.Claims.{AreSame, IsClientFirst, IsServerFirst, ReportAlike}
-use Rattle.laws_breaks.specs.uploads.Actions.{AreCutAt, AreMarks, GivesAlong, LosesAlong}
+use Rattle.laws_breaks.specs.uploads.Actions.{AreCutAt, AreMarks, IsGiving, IsLosing}
 use Rattle.laws_drivers.specs.control.Alone.{reports_in}
-use Rattle.laws_drivers.specs.control.Between.{Between, Happened, Turn, client_actions, server_actions}
-use Rattle.laws_drivers.specs.control.Claims.{Begins}
-use Rattle.laws_drivers.specs.events.Actions.{ArePorts}
-use Rattle.laws_transfers.specs.Actions.{AreMoments, AreToldAt, begun_at}
+use Rattle.laws_drivers.specs.control.Between.{Between, Turn, client_actions, server_actions}
+use Rattle.laws_drivers.specs.events.Actions.{AreMidst, ArePorts}
+use Rattle.laws_drivers.specs.events.Faults.{Agree, Did, Faults, PartingAgree}
+use Rattle.laws_drivers.specs.events.Moments.{AreMoments, begun_at}
 use Rattle.laws_transfers.specs.Refusals.{HoldsMarked}
-use Rattle.laws_world.specs.Agreement.{Agrees, Leads}
-use Rattle.laws_world.specs.Claims.{AreTimed, Beginning, IsFair, state_of, world_of}
+use Rattle.laws_world.specs.Agreement.{Leads}
+use Rattle.laws_world.specs.Claims.{AreTimed, Beginning, IsFair, world_of}
 use Rattle.laws_world.specs.Events.{Event}
 use Rattle.laws_world.specs.World.{Mark, World}
 use Rattle.ftp_server_driver.specs.alone.Side.{server_side}
 use Rattle.ftp_server_model.specs.Machine.{IsReading, Reading}
 
--- one server's drive and drives of one client did these actions in this order, each when it could be done, and at these moments; as they began no octet of a
--- data connection was on its way or in hand
-pub record DidCut (b : Beginning) (moments : ℕ → ℕ) (turns : List Turn) (between : Between) (server : Stand server_side)
-    (client : Stand client_side) : Type 0 where
-  pub server_start : Stand server_side
-  pub client_start : Stand client_side
-  pub begins : Begins b server_start client_start
-  pub untold : server_start.owner.channel.untold ≡ []
-  pub unwritten : client_start.owner.channel.unwritten ≡ []
-  pub server_unwritten : server_start.owner.channel.unwritten ≡ []
-  pub client_untold : client_start.owner.channel.untold ≡ []
-  pub happened : Happened turns between
-  pub server_led : Led (server_actions turns) server_start server
-  pub client_led : Led (client_actions turns) client_start client
-  pub takes : LosesAlong (server_actions turns) server_start server server_led
-  pub gives : GivesAlong (client_actions turns) client_start client client_led
-  pub ports : ArePorts (server_actions turns)
-  pub told : AreToldAt moments turns server_start server server_led
-  pub cut_at : AreCutAt moments turns server_start server server_led
+-- data connections may break, those of uploads too, for either end
+abbrev pub upload_faults : Faults
+upload_faults = record {
+  Serves = IsLosing;
+  Asks = IsGiving;
+  ArePorts = λ turns. ArePorts (server_actions turns);
+  AreOrdered = λ moments turns between happened start now led. AreCutAt moments turns start now led;
+  AreShort = λ actions start now led. ⊤;
+  IsAnswer = λ op answer old new a. AreMidst a.drove.did.actions;
+  AreMarks = AreMarks;
+}
+
+-- one server's drive and drives of one client did these actions in this order
+abbrev pub DidCut : Beginning → (moments : ℕ → ℕ) → List Turn → Between → (server : Stand server_side) (client : Stand client_side) → Type 0
+DidCut b moments turns between server client = Did upload_faults b moments turns between server client
 
 -- the server was told of the break of an upload, and its client was not: both are told in the world, whose client heard none of the octets that this one heard
 -- since
@@ -83,20 +79,8 @@ CutsAreOfWorlds =
 -- so reports and map agree with what was begun, a report that was not taken yet among them: an operation is cut only where its client was told of a break, or,
 -- of an upload, its server
 abbrev pub CutsAgree : Type 0
-CutsAgree =
-    (b : Beginning) → IsFair b → (moments : ℕ → ℕ) → AreMoments moments
-    → (turns : List Turn) (between : Between) (server : Stand server_side) (client : Stand client_side)
-    → (did : DidCut b moments turns between server client)
-    → (marks : List (List Mark)) × AreMarks turns did.server_start server did.server_led did.client_start client did.client_led marks
-    × Agrees (state_of b) (begun_at moments (client_actions turns)) marks None
-    (reports_in (client_actions turns) ++ option_to_list (report_of client.owner.end.view)) server.owner.end.server.view.session.table
+CutsAgree = Agree upload_faults
 
 -- so they do where both ends are told then, whatever was on its way, that the control connection ended: an operation that has no report is lost
 abbrev pub CutsPartingAgree : Type 0
-CutsPartingAgree =
-    (b : Beginning) → IsFair b → (moments : ℕ → ℕ) → AreMoments moments
-    → (turns : List Turn) (between : Between) (server : Stand server_side) (client : Stand client_side)
-    → (did : DidCut b moments turns between server client)
-    → (marks : List (List Mark)) × AreMarks turns did.server_start server did.server_led did.client_start client did.client_led marks
-    × Agrees (state_of b) (begun_at moments (client_actions turns)) marks (Some (length marks))
-    (reports_in (client_actions turns) ++ option_to_list (report_of (control_end client.owner.end.view))) server.owner.end.server.view.session.table
+CutsPartingAgree = PartingAgree upload_faults

@@ -14,7 +14,8 @@ use Rattle.laws_drivers.specs.control.Alone.{ClientAttends, ClientIsCalm, IsAski
 use Rattle.laws_drivers.specs.control.Between.{client_actions}
 use Rattle.laws_drivers.specs.control.Broken.{DrivesBrokenAgree, said_last}
 use Rattle.laws_drivers.specs.control.Claims.{Did}
-use Rattle.laws_drivers.specs.control.Over.{answers_of, actions_in, orders_of}
+use Rattle.laws_drivers.specs.control.Over.{actions_in, orders_of}
+use Rattle.laws_drivers.specs.events.Answers.{answers_of}
 use Rattle.laws_drivers.proofs.control.Breaking.{clients_are_cut, servers_are_cut}
 use Rattle.laws_drivers.proofs.control.Concluding.{parting_agrees_by}
 use Rattle.laws_drivers.proofs.control.Ending.{Goes, answers_are, answers_go, goes_then, midst_begins, midst_reports, orders_are, starts_so}

@@ -1,26 +1,26 @@
 -- The actions of drives that are over, put together.
-use Rattle.std.proofs.Common.{◌≡◌, ℕ, false, true≢false, List, [], ◌∷◌, ◌++◌, length, Some, None, is_some, refl, sym, ap, subst, ◌∙◌, append-nil, length-append, arith}
+use Rattle.std.proofs.Common.{◌≡◌, ℕ, List, [], ◌∷◌, ◌++◌, length, None, refl, sym, ap, subst, ◌∙◌}
 use Rattle.ftp_ports.specs.Asking.{Shut}
 use Rattle.ftp_ports.specs.Actions.{Action, Ended, Heard, Led, Other, Read, Said as Says, Stand}
 use Rattle.ftp_ports.specs.Machine.{Aside, Left}
 use Rattle.ftp_ports.specs.Side.{Side}
 use Rattle.ftp_client_driver.specs.Side.{Begun, Reporting, client_side}
-use Rattle.ftp_client_model.specs.Calls.{is_busy, report_of, report_of_job, reports}
-use Rattle.ftp_client_model.specs.View.{Job, Told, View}
 use Rattle.ftp_operation.specs.Answer.{Said}
 use Rattle.ftp_operation.specs.declared.op.Op.{Op}
 use Rattle.ftp_server_driver.specs.alone.Side.{server_side}
 use Rattle.ftp_server_model.specs.Machine.{ReadingExists}
-use Rattle.ftp_tree.specs.Tree.{Table}
-use Rattle.laws_world.specs.Agreement.{Order, Single}
-use Rattle.laws_world.specs.Claims.{AgreesAlways, AreAnswers, Beginning, state_of}
+use Rattle.laws_world.specs.Claims.{AgreesAlways, state_of}
 use Rattle.laws_drivers.specs.control.Alone.{ClientAttends, ClientIsCalm, IsAsking, IsServing, ServerAttends, ServerIsCalm, Throughout, begun_in, reports_in}
 use Rattle.laws_drivers.specs.control.Between.{Between, Can, Client, Far, Happened, Server, Turn, client_actions, server_actions}
-use Rattle.laws_drivers.specs.control.Claims.{Begins, Did}
-use Rattle.laws_drivers.specs.control.Over.{AreAnswered, AreMidst, DrivesOverAreTheDirectRun, ServedToItsEnd}
-use Rattle.laws_drivers.specs.control.Over.{answers_of, actions_in, actions_of_drive, actions_of_server, orders_of}
+use Rattle.laws_drivers.specs.control.Claims.{Did}
+use Rattle.laws_drivers.specs.control.Over.{AreAnswered, AreMidst, DrivesOverAreTheDirectRun, IsAnswer, IsMidst, ServedToItsEnd, actions_in, orders_of}
 use Rattle.laws_drivers.specs.control.Touches.{touch_in}
+use Rattle.laws_drivers.specs.events.Actions as all
+use Rattle.laws_drivers.specs.events.Answers.{actions_of_drive, actions_of_server, answers_of}
 use Rattle.laws_drivers.proofs.control.Concluding.{drives_are_the_direct_run_by, ends_keep_the_map}
+use Rattle.laws_drivers.proofs.events.Answers as drives
+use Rattle.laws_drivers.proofs.events.Answers.{InMidst, answered_free, as_many, direct_same}
+use Rattle.laws_drivers.proofs.events.Moments as moments
 
 -- ---- actions after actions
 
@@ -45,80 +45,52 @@ module _ {side : Side} (Is : Action side → Type 0) (Keeps : (old new : side.En
 -- the actions of a client's drives
 pub answers_go : (asked : List (Op (List ℕ) × Said)) (start now : Stand client_side) (answered : AreAnswered asked start now)
     → Goes IsAsking ClientIsCalm ClientAttends (actions_in asked start now answered) start now
-answers_go [] start now answered = answered
+answers_go [] start now answered = (answered.1, subst (λ (s : Stand client_side). ClientAttends s.owner) (sym answered.1) answered.0)
 answers_go (asked ∷ before) start now answered =
-    let a = answered.2 in
-    let alone = answered.3 in
-    let first = answers_go before start answered.0 answered.1 in
+    let by = answered.1 in
+    let a = by.2 in
+    let alone = by.3 in
+    let first = answers_go before start by.0 (answered.0, by.1) in
     let drive : Goes IsAsking ClientIsCalm ClientAttends (actions_of_drive a.drove) a.begun now = (a.drove.did.sums.led, alone.asks) in
     let attends = starts_so IsAsking ClientIsCalm ClientAttends (actions_of_drive a.drove) a.begun now drive in
-    let begun : Goes IsAsking ClientIsCalm ClientAttends (Other (Begun asked.0) ∷ actions_in before start answered.0 answered.1) start a.begun =
-    ((answered.0, first.0, a.begins), (first.1, tt, alone.calm, attends)) in
+    let begun : Goes IsAsking ClientIsCalm ClientAttends (Other (Begun asked.0) ∷ actions_in before start by.0 (answered.0, by.1)) start a.begun =
+    ((by.0, first.0, a.begins), (first.1, tt, alone.calm, attends)) in
     goes_then IsAsking ClientIsCalm ClientAttends (actions_of_drive a.drove) _ start a.begun now drive begun
 
 -- ---- what they began and reported
 
--- actions in the midst of a drive begin none
+-- actions in the midst of a drive over control alone are such where data connections may be wanted, too
+midst_one : (action : Action client_side) → IsMidst action → all.IsMidst action
+midst_one (Heard octets) is = tt
+midst_one (Says octets) is = tt
+midst_one (Read octets) is = tt
+midst_one (Other (Aside (Reporting None))) is = tt
+midst_one action is = absurd is
+
+midst_all : (actions : List (Action client_side)) → AreMidst actions → all.AreMidst actions
+midst_all [] midst = tt
+midst_all (action ∷ before) midst = (midst_all before midst.0, midst_one action midst.1)
+
+in_midst : InMidst IsAnswer
+in_midst op answer old new a alone = midst_all a.drove.did.actions alone.midst
+
+-- they begin none
 pub midst_begins : (moment : ℕ) (actions before : List (Action client_side)) → AreMidst actions → begun_in moment (actions ++ before) ≡ begun_in moment before
-midst_begins moment [] before midst = refl
-midst_begins moment (Heard octets ∷ actions) before midst = append-nil _ ∙ midst_begins moment actions before midst.0
-midst_begins moment (Says octets ∷ actions) before midst = append-nil _ ∙ midst_begins moment actions before midst.0
-midst_begins moment (Read octets ∷ actions) before midst = append-nil _ ∙ midst_begins moment actions before midst.0
-midst_begins moment (Other (Aside (Reporting None)) ∷ actions) before midst = append-nil _ ∙ midst_begins moment actions before midst.0
-midst_begins moment (action ∷ actions) before midst = absurd midst.1
+midst_begins moment actions before midst = moments.midst_begins (λ n. moment) actions before (midst_all actions midst)
 
 -- and report none
 pub midst_reports : (actions before : List (Action client_side)) → AreMidst actions → reports_in (actions ++ before) ≡ reports_in before
-midst_reports [] before midst = refl
-midst_reports (Heard octets ∷ actions) before midst = append-nil _ ∙ midst_reports actions before midst.0
-midst_reports (Says octets ∷ actions) before midst = append-nil _ ∙ midst_reports actions before midst.0
-midst_reports (Read octets ∷ actions) before midst = append-nil _ ∙ midst_reports actions before midst.0
-midst_reports (Other (Aside (Reporting None)) ∷ actions) before midst = append-nil _ ∙ midst_reports actions before midst.0
-midst_reports (action ∷ actions) before midst = absurd midst.1
+midst_reports actions before midst = moments.midst_reports actions before (midst_all actions midst)
 
 -- so the drives begin the operations
 pub orders_are : (moment : ℕ) (asked : List (Op (List ℕ) × Said)) (start now : Stand client_side) (answered : AreAnswered asked start now)
     → begun_in moment (actions_in asked start now answered) ≡ orders_of moment asked
-orders_are moment [] start now answered = refl
-orders_are moment (asked ∷ before) start now answered =
-    let rest = Other (Begun asked.0) ∷ actions_in before start answered.0 answered.1 in
-    append-nil _ ∙ append-nil _ ∙ append-nil _ ∙ midst_begins moment answered.2.drove.did.actions rest answered.3.midst
-    ∙ ap (λ l. l ++ Single asked.0 moment ∷ []) (orders_are moment before start answered.0 answered.1)
+orders_are moment asked start now answered = drives.orders_are IsAnswer in_midst (λ n. moment) asked start now answered.1
 
 -- and report their answers
 pub answers_are : (asked : List (Op (List ℕ) × Said)) (start now : Stand client_side) (answered : AreAnswered asked start now)
     → reports_in (actions_in asked start now answered) ≡ answers_of asked
-answers_are [] start now answered = refl
-answers_are (asked ∷ before) start now answered =
-    let rest = Other (Begun asked.0) ∷ actions_in before start answered.0 answered.1 in
-    append-nil _ ∙ append-nil _ ∙ ap (λ l. l ++ asked.1 ∷ []) (midst_reports answered.2.drove.did.actions rest answered.3.midst ∙ append-nil _)
-    ∙ ap (λ l. l ++ asked.1 ∷ []) (answers_are before start answered.0 answered.1)
-
--- as many as operations
-pub as_many : (moment : ℕ) (asked : List (Op (List ℕ) × Said)) → length (answers_of asked) ≡ length (orders_of moment asked)
-as_many moment [] = refl
-as_many moment (asked ∷ before) =
-    let one = length-append (answers_of before) (asked.1 ∷ []) in
-    let other = length-append (orders_of moment before) (Single asked.0 moment ∷ []) in
-    let few = as_many moment before in omega (arith, one, other, few)
-
--- a client that has reported is not busy
-pub reported_free : (v : View) (answer : Said) → Some answer ≡ report_of v → is_busy (reports v) ≡ false
-reported_free v answer e = by v.job e
-  where
-    by : (job : Job) → Some answer ≡ report_of_job job → is_busy (reports (record v { job = job })) ≡ false
-    by (Told said) e = refl
-    by job e = absurd (true≢false (ap is_some e))
-
--- a client whose drives are over is not busy
-pub answered_free : (b : Beginning) (server : Stand server_side) (asked : List (Op (List ℕ) × Said)) (start now : Stand client_side) → Begins b server start
-    → AreAnswered asked start now → is_busy now.owner.end.view ≡ false
-answered_free b server [] start now begins answered = ap (λ (s : Stand client_side). is_busy s.owner.end.view) answered.0 ∙ ap is_busy begins.client_view
-answered_free b server (asked ∷ before) start now begins answered =
-    let led = answered.2.drove.did.sums.led in
-    let report = led.1.1.2 in
-    ap is_busy led.2.0.0.0 ∙ ap (λ c. is_busy c.view) led.1.2.0.0 ∙ ap is_busy report.0.0.1.0
-    ∙ reported_free led.1.1.0.owner.end.view asked.1 report.0.0.0
+answers_are asked start now answered = drives.answers_are IsAnswer in_midst asked start now answered.1
 
 -- ---- without the server's last action
 
@@ -213,10 +185,8 @@ drives_over_are_the_direct_run_by always reading b fair moment timed asked serve
     ap (begun_in moment) client_is ∙ orders_are moment asked over.client_start over.client over.answered in
     let answers : reports_in (client_actions s.turns_before) ≡ answers_of asked =
     ap reports_in client_is ∙ answers_are asked over.client_start over.client over.answered in
-    let told = ap length answers ∙ as_many moment asked ∙ ap length (sym orders) in
+    let told = ap length answers ∙ as_many (λ n. moment) asked ∙ ap length (sym orders) in
     let direct = drives_are_the_direct_run_by always reading b fair moment timed s.turns_before over.between s.served over.client did
-    (answered_free b over.server_start asked over.client_start over.client over.begins over.answered) told in
-    subst (λ (t : Table). AreAnswers (state_of b) (orders_of moment asked) (answers_of asked) t) (sym s.table)
-    (subst (λ (r : List Said). AreAnswers (state_of b) (orders_of moment asked) r s.served.owner.end.server.view.session.table) answers
-    (subst (λ (o : List Order). AreAnswers (state_of b) o (reports_in
-    (client_actions s.turns_before)) s.served.owner.end.server.view.session.table) orders direct))
+    (answered_free IsAnswer b over.server_start asked over.client_start over.client over.begins over.answered.1) told in
+    direct_same (state_of b) (begun_in moment (client_actions s.turns_before)) (orders_of moment asked) (reports_in (client_actions s.turns_before))
+    (answers_of asked) s.served.owner.end.server.view.session.table server.owner.end.server.view.session.table orders answers (sym s.table) direct

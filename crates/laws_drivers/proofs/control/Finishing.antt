@@ -105,10 +105,13 @@ near_answers start op said client_start first v n attends calm begins some wants
       happened = (nothing_yet, (nothing_yet, (nothing_yet, p.happened, refl), refl), refl);
       far_goes = p.far_goes;
       answered = (
-        client_start,
-        (refl, attends),
-        record { begun = begun; begins = begins; drove = drove },
-        record { calm = calm; asks = three.1; midst = p.are },
+        attends,
+        (
+          client_start,
+          refl,
+          record { begun = begun; begins = begins; drove = drove },
+          record { calm = calm; asks = three.1; midst = p.are },
+        ),
       );
       client_is = ap (λ l. Other Closed ∷ shut ∷ report ∷ l) p.client_is;
     }

@@ -8,7 +8,6 @@ use Rattle.ftp_client_model.specs.declared.client.Standing.TheVariants as Standi
 use Rattle.ftp_ports.specs.Actions.{Stand}
 use Rattle.ftp_direct.specs.Direct.{State}
 use Rattle.ftp_ends.specs.Ear.{quiet}
-use Rattle.ftp_operation.specs.Answer.{Said}
 use Rattle.ftp_server_driver.specs.alone.Side.{Timed, server_side}
 use Rattle.ftp_server_model.specs.Machine.{Reading, ReadingExists}
 use Rattle.ftp_server_model.specs.View.{View as Far}
@@ -23,15 +22,18 @@ use Rattle.laws_agreement.proofs.Still.{rest_world, seen}
 use Rattle.laws_dialogues.specs.Login.{Answers, AsksPass, AsksUser, AtFree, Greets, Place, WantsPass, standing_of}
 use Rattle.laws_dialogues.specs.Stage.{Answering, Asking, Way, rest}
 use Rattle.laws_world.specs.Agreement.{AreSingle, Order, Single, Tries}
-use Rattle.laws_world.specs.Claims.{AgreesAlways, AreAnswers, Beginning, IsFair, state_of, world_of}
+use Rattle.laws_world.specs.Claims.{AgreesAlways, Beginning, IsFair, state_of, world_of}
 use Rattle.laws_world.specs.World.{ClosedByNear, Gone, Link, World}
 use Rattle.laws_drivers.specs.control.Alone.{ClientAttends, ClientIsCalm, IsAsking, IsServing, ServerAttends, ServerIsCalm, begun_in, reports_in}
 use Rattle.laws_drivers.specs.control.Between.{Between, Turn, client_actions, server_actions}
 use Rattle.laws_drivers.specs.control.Claims.{Did}
-use Rattle.laws_drivers.specs.control.Over.{answers_of, orders_of}
+use Rattle.laws_drivers.specs.control.Over.{IsAnswer, orders_of}
+use Rattle.laws_drivers.specs.events.Answers.{answers_of}
 use Rattle.laws_drivers.specs.control.Quitting.{DrivesThatQuitAreTheDirectRun, quit_octets, quitting}
-use Rattle.laws_drivers.proofs.control.Concluding.{drives_are_the_direct_run_by, in_single}
-use Rattle.laws_drivers.proofs.control.Ending.{Goes, answered_free, answers_are, answers_go, as_many, orders_are}
+use Rattle.laws_drivers.proofs.control.Concluding.{drives_are_the_direct_run_by}
+use Rattle.laws_drivers.proofs.control.Ending.{Goes, answers_are, answers_go, orders_are}
+use Rattle.laws_drivers.proofs.events.Answers.{answered_free, as_many, direct_same}
+use Rattle.laws_drivers.proofs.events.Moments.{in_single}
 use Rattle.laws_drivers.proofs.control.Moments.{still_is}
 use Rattle.laws_drivers.proofs.control.Quitting.{Quits, at_quit, not_busy}
 use Rattle.laws_drivers.proofs.control.Simulating.{drives_are_of_worlds, ends_so}
@@ -177,7 +179,7 @@ quits_next reading b fair moment timed turns between server client did free ente
     let runs = over_lead reading.0 reading.1 (state_of b) [] o.events begun (world_of b) w o.timed (inl (inl (begins_follow reading.0 b fair))) o.leads in
     let none = ap (λ r. reports_in (client_actions turns) ++ option_to_list r) (free_none v free) ∙ append-nil (reports_in (client_actions turns)) in
     let all : length w.reports ≡ length begun = ap length alike.reported ∙ ap length none ∙ told in
-    let f = free_by reading.0 (state_of b) begun w (in_single moment (client_actions turns)) alike.link alike.cutoff all runs in
+    let f = free_by reading.0 (state_of b) begun w (in_single (λ n. moment) (client_actions turns)) alike.link alike.cutoff all runs in
     let standing : w.near.standing ≡ Standings.Entered = ap (λ (n : Near). n.standing) (alike.near ∙ reports_is v) ∙ entered in
     let idle = free_idle (state_of b) begun w f standing in
     begins_quit server between (ends_so IsServing ServerIsCalm ServerAttends (server_actions turns) did.server_start server did.server_led did.serves)
@@ -209,14 +211,12 @@ drives_that_quit_are_the_direct_run_by always reading b fair moment timed asked 
     ap (begun_in moment) over.client_is ∙ orders_are moment asked over.client_start over.client over.answered in
     let answers : reports_in (client_actions over.turns) ≡ answers_of asked =
     ap reports_in over.client_is ∙ answers_are asked over.client_start over.client over.answered in
-    let told = ap length answers ∙ as_many moment asked ∙ ap length (sym orders) in
-    let free = answered_free b over.server_start asked over.client_start over.client over.begins over.answered in
+    let told = ap length answers ∙ as_many (λ n. moment) asked ∙ ap length (sym orders) in
+    let free = answered_free IsAnswer b over.server_start asked over.client_start over.client over.begins over.answered.1 in
     let direct = drives_are_the_direct_run_by always reading b fair moment timed over.turns over.between q.mid over.client did free told in
     let quits = q.quits q.mid.owner.end.server.view.session.table
     (quits_next reading b fair moment timed over.turns over.between q.mid over.client did free over.entered told) in
     let table : server.owner.end.server.view.session.table ≡ q.mid.owner.end.server.view.session.table =
     ap (λ (at : Timed). at.server.view.session.table) drove.sums.led.2.0.0 ∙ quits_table _ off over.last quits in
-    subst (λ (t : Table). AreAnswers (state_of b) (orders_of moment asked) (answers_of asked) t) (sym table)
-    (subst (λ (r : List Said). AreAnswers (state_of b) (orders_of moment asked) r q.mid.owner.end.server.view.session.table) answers
-    (subst (λ (o : List Order). AreAnswers (state_of b) o (reports_in
-    (client_actions over.turns)) q.mid.owner.end.server.view.session.table) orders direct))
+    direct_same (state_of b) (begun_in moment (client_actions over.turns)) (orders_of moment asked) (reports_in (client_actions over.turns)) (answers_of asked)
+    q.mid.owner.end.server.view.session.table server.owner.end.server.view.session.table orders answers (sym table) direct

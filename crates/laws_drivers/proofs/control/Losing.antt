@@ -13,7 +13,8 @@ use Rattle.laws_world.specs.Claims.{AgreesAlways, state_of}
 use Rattle.laws_drivers.specs.control.Alone.{ClientAttends, ClientIsCalm, IsAsking, IsServing, ServerAttends, ServerIsCalm, begun_in, reports_in}
 use Rattle.laws_drivers.specs.control.Between.{Between, Can, Client, Happened, Near, Server, Turn, client_actions, server_actions}
 use Rattle.laws_drivers.specs.control.Claims.{Did}
-use Rattle.laws_drivers.specs.control.Over.{AreMidst, AskedToItsEnd, DrivesLostAgree, answers_of, actions_in, actions_of_server, orders_of}
+use Rattle.laws_drivers.specs.control.Over.{AreMidst, AskedToItsEnd, DrivesLostAgree, actions_in, orders_of}
+use Rattle.laws_drivers.specs.events.Answers.{actions_of_server, answers_of}
 use Rattle.laws_drivers.specs.control.Touches.{touch_in}
 use Rattle.laws_drivers.proofs.control.Concluding.{parting_agrees_by}
 use Rattle.laws_drivers.proofs.control.Ending.{Goes, answers_are, answers_go, goes_then, midst_begins, midst_reports, orders_are, served_before, starts_so}

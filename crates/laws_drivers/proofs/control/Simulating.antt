@@ -15,7 +15,8 @@ use Rattle.laws_world.specs.Agreement.{Order}
 use Rattle.laws_world.specs.Claims.{Beginning, world_of}
 use Rattle.laws_world.specs.World.{World}
 use Rattle.laws_drivers.specs.control.Alike.{IsAlike}
-use Rattle.laws_drivers.specs.control.Alone.{AsksAlone, ClientAttends, ClientIsCalm, IsAsking, IsServing, ServerAttends, ServerIsCalm, ServesAlone, Throughout, begun_by, begun_in, reported_by, reports_in}
+use Rattle.laws_drivers.specs.control.Alone.{AsksAlone, ClientAttends, ClientIsCalm, IsAsking, IsServing, ServerAttends, ServerIsCalm, ServesAlone, Throughout, begun_in, reported_by, reports_in}
+use Rattle.laws_drivers.specs.events.Moments.{begun_by}
 use Rattle.laws_drivers.specs.control.Between.{Between, CanTurn, Client, Happened, Server, Turn, client_actions, nothing_yet, server_actions}
 use Rattle.laws_drivers.specs.control.Claims.{Begins, DrivesAreOfWorlds}
 use Rattle.laws_drivers.proofs.control.ClientSteps.{client_begins, client_closed, client_heard, client_read, client_reports, client_said, client_shuts}

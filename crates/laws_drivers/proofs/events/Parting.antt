@@ -1,5 +1,5 @@
 -- A world whose control connection ends for both ends at once, whatever its link is.
-use Rattle.std.proofs.Common.{◌≡◌, Bool, true, false, ◌++◌, None, option_to_list, not, refl, sym, ap, ap₂, subst, ◌∙◌}
+use Rattle.std.proofs.Common.{◌≡◌, Bool, true, false, [], ◌++◌, length, Some, None, option_to_list, not, refl, sym, ap, ap₂, subst, ◌∙◌}
 use Rattle.std.specs.Prelude.{if◌then◌else◌}
 use Rattle.ftp_client_model.specs.Calls as near
 use Rattle.ftp_client_model.specs.View.{View as Near, fails_by}
@@ -15,8 +15,7 @@ use Rattle.ftp_server_model.specs.declared.session.Life.TheVariants as Lives
 use Rattle.laws_world.specs.Events.{EndControl, ends_control, is_parted, lends_none}
 use Rattle.laws_world.specs.Serving.{after_event, far_served, far_served_by, left_by_far, left_by_near, link_closed_by_far, link_closed_by_near, near_served, near_served_by, served}
 use Rattle.laws_world.specs.World.{ClosedByFar, ClosedByNear, Gone, Link, Opened, Parted, World}
-use Rattle.laws_drivers.proofs.control.Parting.{HasParted}
-use Rattle.laws_drivers.proofs.control.Worlds.{collected_is, one_leads}
+use Rattle.laws_drivers.proofs.control.Worlds.{LeadsOn, collected_is, one_leads}
 
 -- both ends were told, and since another world nothing came but closes
 record IsParted (old w : World) : Type 0 where
@@ -144,6 +143,15 @@ cut_waits v = refl
 cut_table : (v : Far) → (far.control_end v).session.table ≡ v.session.table
 unfolding far.control_end
 cut_table v = refl
+
+-- what is left, once it ended
+pub record HasParted (read : Reading) (w : World) : Type 0 where
+  pub new : World
+  pub leads : LeadsOn read [] w new
+  pub reports : new.reports ≡ w.reports ++ option_to_list (near.report_of (near.control_end w.near))
+  pub table : new.far.session.table ≡ w.far.session.table
+  pub marks : new.marks ≡ w.marks
+  pub cutoff : new.cutoff ≡ Some (length w.marks)
 
 -- the control connection of a world ends
 pub parts : (read : Reading) (w : World) → is_parted w.control ≡ false → HasParted read w

@@ -9,7 +9,8 @@ use Rattle.ftp_client_model.specs.Calls as near
 use Rattle.ftp_client_model.specs.Failing.{Client}
 use Rattle.ftp_ends.specs.declared.link.Wants.TheVariants as Want
 use Rattle.ftp_operation.specs.Answer.{Said}
-use Rattle.laws_world.specs.Agreement.{Order, Single}
+use Rattle.laws_drivers.specs.events.Moments.{begun_at}
+use Rattle.laws_world.specs.Agreement.{Order}
 use Rattle.ftp_server_driver.specs.alone.Side.{Timed, server_side}
 use Rattle.ftp_server_model.specs.Calls as far
 use Rattle.ftp_server_model.specs.declared.session.Life.TheVariants as Lives
@@ -68,19 +69,13 @@ AsksAlone actions start now led = Throughout IsAsking ClientIsCalm ClientAttends
 
 -- ---- what the client began and reported
 
--- in an action
-abbrev pub begun_by : (moment : ℕ) → Action client_side → List Order
-begun_by moment (Other (Aside (Starting op))) = Single op moment ∷ []
-begun_by moment other = []
+-- in actions, the last one first, each operation at this moment: none of them looks at it
+abbrev pub begun_in : (moment : ℕ) → List (Action client_side) → List Order
+begun_in moment actions = begun_at (λ n. moment) actions
 
 abbrev pub reported_by : Action client_side → List Said
 reported_by (Other (Aside (Reporting (Some said)))) = said ∷ []
 reported_by other = []
-
--- in actions, the last one first, each operation at this moment: none of them looks at it
-abbrev pub begun_in : (moment : ℕ) → List (Action client_side) → List Order
-begun_in moment [] = []
-begun_in moment (action ∷ before) = begun_in moment before ++ begun_by moment action
 
 abbrev pub reports_in : List (Action client_side) → List Said
 reports_in [] = []

@@ -13,7 +13,8 @@ use Rattle.ftp_operation.specs.declared.op.Op.{Op}
 use Rattle.laws_drivers.specs.control.Alone.{AsksAlone, ClientIsCalm, ServesAlone}
 use Rattle.laws_drivers.specs.control.Between.{Between, Happened, Turn, client_actions, server_actions}
 use Rattle.laws_drivers.specs.control.Claims.{Begins}
-use Rattle.laws_drivers.specs.control.Over.{AreAnswered, AreMidst, answers_of, actions_in, orders_of}
+use Rattle.laws_drivers.specs.control.Over.{AreAnswered, AreMidst, actions_in, orders_of}
+use Rattle.laws_drivers.specs.events.Answers.{answers_of}
 use Rattle.laws_world.specs.Agreement.{Agrees}
 use Rattle.laws_world.specs.Claims.{AreUnmarked, Beginning, IsFair, state_of}
 use Rattle.laws_world.specs.World.{Mark}

@@ -1,17 +1,18 @@
 -- Drives that are over, over control alone: what the contracts of one server's drive and of a client's drives tell, each after the operation
 -- that it answers, put together.
-use Rattle.std.specs.Prelude.{◌≡◌, ⊤, ℕ, ◌≤◌, List, [], ◌∷◌, ◌++◌, length, Option, Some, None}
+use Rattle.std.specs.Prelude.{◌≡◌, ⊤, ℕ, ◌≤◌, List, [], ◌∷◌, ◌++◌, length, Some, None}
 use Rattle.ftp_ports.specs.Asking.{Shut}
-use Rattle.ftp_ports.specs.Actions.{Action, Done, Ended, Heard, Led, Other, Read, Said as Says, Stand}
-use Rattle.ftp_ports.specs.Machine.{Aside, Closed, Left}
-use Rattle.ftp_client_driver.specs.Driving.{Drove as ClientDrove}
-use Rattle.ftp_client_driver.specs.Side.{Begun, Report, Reporting, client_side}
+use Rattle.ftp_ports.specs.Actions.{Action, Ended, Heard, Led, Other, Read, Said as Says, Stand}
+use Rattle.ftp_ports.specs.Machine.{Aside, Left}
+use Rattle.ftp_client_driver.specs.Side.{Begun, Reporting, client_side}
 use Rattle.ftp_operation.specs.Answer.{Said}
 use Rattle.ftp_operation.specs.declared.op.Op.{Op}
 use Rattle.laws_drivers.specs.control.Alone.{AsksAlone, ClientAttends, ClientIsCalm, ServesAlone}
 use Rattle.laws_drivers.specs.control.Between.{Between, Happened, Turn, client_actions, server_actions}
 use Rattle.laws_drivers.specs.control.Claims.{Begins}
-use Rattle.laws_world.specs.Agreement.{Agrees, Order, Single}
+use Rattle.laws_drivers.specs.events.Answers as all
+use Rattle.laws_drivers.specs.events.Answers.{Answers, actions_of_drive, actions_of_server, answers_of, orders_at}
+use Rattle.laws_world.specs.Agreement.{Agrees, Order}
 use Rattle.laws_world.specs.Claims.{AreAnswers, AreUnmarked, Beginning, IsFair, state_of}
 use Rattle.laws_world.specs.World.{Mark}
 use Rattle.ftp_server_driver.specs.alone.Driving.{Drove as ServerDrove}
@@ -19,16 +20,6 @@ use Rattle.ftp_server_driver.specs.alone.Side.{server_side}
 use Rattle.ftp_tree.specs.Sound.{last_second}
 
 -- ---- the client
-
--- an operation was begun, and a drive gave its answer
-pub record Answers (op : Op (List ℕ)) (answer : Said) (old new : Stand client_side) : Type 0 where
-  pub begun : Stand client_side
-  pub begins : Done (Other (Begun op)) old begun
-  pub drove : ClientDrove begun new (Some answer)
-
--- all actions of a drive, the last one first: after the rest it reports, and its port is shut
-abbrev pub actions_of_drive : {start now : Stand client_side} {said : Option Said} → ClientDrove start now said → List (Action client_side)
-actions_of_drive {said = said} drove = (Other Closed ∷ Other (Left drove.asked) ∷ Other (Report said) ∷ []) ++ drove.did.actions
 
 -- none is begun in it, and none reported
 abbrev pub IsMidst : Action client_side → Type 0
@@ -48,25 +39,19 @@ pub record AnswersAlone {op : Op (List ℕ)} {answer : Said} {old new : Stand cl
   pub asks : AsksAlone (actions_of_drive a.drove) a.begun new a.drove.did.sums.led
   pub midst : AreMidst a.drove.did.actions
 
--- operations and their answers, the last one first
+-- operations and their answers, the last one first, of a client that attends first
+abbrev pub IsAnswer : (op : Op (List ℕ)) (answer : Said) (old new : Stand client_side) → Answers op answer old new → Type 0
+IsAnswer op answer old new a = AnswersAlone a
+
 abbrev pub AreAnswered : List (Op (List ℕ) × Said) → (start now : Stand client_side) → Type 0
-AreAnswered [] start now = (now ≡ start) × ClientAttends now.owner
-AreAnswered (asked ∷ before) start now =
-    (mid : Stand client_side) × AreAnswered before start mid × (a : Answers asked.0 asked.1 mid now) × AnswersAlone a
+AreAnswered asked start now = ClientAttends start.owner × all.AreAnswered IsAnswer asked start now
 
 abbrev pub actions_in : (asked : List (Op (List ℕ) × Said)) (start now : Stand client_side) → AreAnswered asked start now → List (Action client_side)
-actions_in [] start now answered = []
-actions_in (asked ∷ before) start now answered =
-    actions_of_drive answered.2.drove ++ (Other (Begun asked.0) ∷ actions_in before start answered.0 answered.1)
+actions_in asked start now answered = all.actions_in IsAnswer asked start now answered.1
 
--- in order
+-- in order, each at this moment
 abbrev pub orders_of : (moment : ℕ) → List (Op (List ℕ) × Said) → List Order
-orders_of moment [] = []
-orders_of moment (asked ∷ before) = orders_of moment before ++ Single asked.0 moment ∷ []
-
-abbrev pub answers_of : List (Op (List ℕ) × Said) → List Said
-answers_of [] = []
-answers_of (asked ∷ before) = answers_of before ++ asked.1 ∷ []
+orders_of moment asked = orders_at (λ n. moment) asked
 
 -- ---- the server
 
@@ -74,9 +59,6 @@ answers_of (asked ∷ before) = answers_of before ++ asked.1 ∷ []
 abbrev pub ServedToItsEnd : (actions : List (Action server_side)) (start now : Stand server_side) → Led actions start now → Type 0
 ServedToItsEnd (Other (Left Shut) ∷ Ended ∷ before) start now led = ServesAlone before start led.1.0 led.1.1
 ServedToItsEnd actions start now led = ⊥
-
-abbrev pub actions_of_server : {start now : Stand server_side} → ServerDrove start now → List (Action server_side)
-actions_of_server drove = Other (Left drove.asked) ∷ drove.did.actions
 
 -- ---- both
 

@@ -8,7 +8,8 @@ use Rattle.ftp_operation.specs.declared.op.Op.{Op}
 use Rattle.laws_drivers.specs.control.Alone.{IsServing, ServerIsCalm, ServesAlone}
 use Rattle.laws_drivers.specs.control.Between.{Between, Can, Far, Happened, Near, Turn, client_actions, sent, server_actions}
 use Rattle.laws_drivers.specs.control.Claims.{Begins}
-use Rattle.laws_drivers.specs.control.Over.{AreAnswered, answers_of, actions_in, orders_of}
+use Rattle.laws_drivers.specs.control.Over.{AreAnswered, actions_in, orders_of}
+use Rattle.laws_drivers.specs.events.Answers.{answers_of}
 use Rattle.laws_drivers.specs.control.Touches.{touch_in}
 use Rattle.laws_world.specs.Claims.{AreAnswers, Beginning, IsFair, state_of}
 use Rattle.ftp_server_driver.specs.alone.Driving.{Drove as ServerDrove}

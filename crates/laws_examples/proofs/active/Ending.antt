@@ -21,11 +21,11 @@ use Rattle.ftp_server_model.specs.View.{View as Far}
 use Rattle.laws_world.specs.Claims.{Beginning}
 use Rattle.laws_drivers.specs.control.Between.{Between, CanTurn, Client, Hold, server_actions}
 use Rattle.laws_drivers.specs.control.Claims.{Begins}
-use Rattle.laws_drivers.specs.control.Over.{Answers}
+use Rattle.laws_drivers.specs.events.Answers.{Answers, AnswersBy, AreAnswered, IsAnswerBy}
 use Rattle.laws_drivers.proofs.control.Playing.{Attends}
 use Rattle.laws_transfers.specs.Actions.{IsCarried}
 use Rattle.laws_active.specs.Actions.{ClientTransfers}
-use Rattle.laws_active.specs.Over.{AnswersByEither, AreAnswered, AreOver}
+use Rattle.laws_active.specs.Over.{AreOver}
 use Rattle.laws_examples.proofs.transfers.Ending.{IsAnsweredBy, lies_over}
 use Rattle.laws_examples.proofs.transfers.Moves.{near_closes, says_answer}
 use Rattle.laws_examples.proofs.transfers.Playing.{far_in, near_in, none_yet}
@@ -86,12 +86,12 @@ module _ (b : Beginning) (first : Far) (op : Op (List ℕ)) (said : Said) (clien
   near_answers = record { begun = near_in none_yet begun []; begins = does; drove = near_drove }
 
   -- by such actions
-  pub near_does : AnswersByEither near_answers
+  pub near_does : AnswersBy IsCarried ClientTransfers near_answers
   unfolding near_answers near_drove near_led near_done
-  near_does = record { raised = is; calm = refl; gives = (((p.takes, (tt, refl)), may), (tt, refl)); midst = p.are }
+  near_does = record { raised = is; calm = refl; asks = (((p.takes, (tt, refl)), may), (tt, refl)); midst = p.are }
 
   -- and that is all that was asked
-  unfoldable pub all_asked : AreAnswered ((op, said) ∷ []) (near_in none_yet client_first []) near_done
+  unfoldable pub all_asked : AreAnswered (IsAnswerBy IsCarried ClientTransfers) ((op, said) ∷ []) (near_in none_yet client_first []) near_done
   all_asked = (near_in none_yet client_first [], refl, near_answers, near_does)
 
   -- the server as it was told that the client left
@@ -159,11 +159,10 @@ module _ (b : Beginning) (first : Far) (op : Op (List ℕ)) (said : Said) (clien
           server_unwritten = refl;
           client_untold = refl;
           drove = drove;
-          put = all_asked;
+          answered = all_asked;
           turns = Client (Other Closed) ∷ Client (Other (Left asked)) ∷ Client (Other (Report (Some said))) ∷ p.turns;
           between = lies_over hold [] [];
           happened = (lies_over hold [] [], (there, (there, p.happened, refl), can), refl);
-          resets = p.resets;
           closed = Shut;
           server_is = refl;
           client_is = ap (λ l. Other Closed ∷ Other (Left asked) ∷ Other (Report (Some said)) ∷ l) p.client_is;
@@ -173,5 +172,6 @@ module _ (b : Beginning) (first : Far) (op : Op (List ℕ)) (said : Said) (clien
           serves = p.gives;
           ports = p.ports;
           told = p.told;
+          ordered = p.resets;
         },
       )

@@ -17,7 +17,8 @@ use Rattle.ftp_server_model.specs.declared.heard.HeardLine.TheVariants.{Asks}
 use Rattle.laws_drivers.specs.control.Between.{Between, CanTurn, Client, Happened, Has_lost, Hold, Server, Turn, client_actions, server_actions}
 use Rattle.laws_drivers.proofs.control.Playing.{Attends, ear_after, far_ending, far_hears, is_silent}
 use Rattle.laws_drivers.specs.events.Actions.{AreMidst, IsMidst}
-use Rattle.laws_transfers.specs.Actions.{AreResets, AreToldAt, last_of, number_in}
+use Rattle.laws_transfers.specs.Actions.{AreResets}
+use Rattle.laws_drivers.specs.events.Moments.{AreToldAt, last_of, number_in}
 use Rattle.laws_active.specs.Actions.{ArePorts, AsksAlong, ClientTransfers, ServerTransfers, ServesAlong, listened_in}
 use Rattle.laws_examples.proofs.transfers.Playing.{IsUnbroken, IsUntimed, can_take, drop_all, far_in, first_is, hearing, lies, near_in, near_resets, other_is, reading, saying, seen_so, take_all, takes_only}
 

@@ -5,7 +5,7 @@ use Rattle.ftp_operation.specs.declared.op.Op.{Op}
 use Rattle.laws_breaks.proofs.downloads.Ending.{over_drives_agree}
 use Rattle.laws_examples.specs.transfers.Example.{file_alone}
 use Rattle.laws_examples.proofs.transfers.Fair.{file_alone_is_there}
-use Rattle.laws_transfers.specs.Actions.{AreMoments}
+use Rattle.laws_drivers.specs.events.Moments.{AreMoments}
 use Rattle.laws_world.specs.Claims.{Beginning, IsFair}
 use Rattle.laws_examples.specs.downloads.Example.{ClientFirstAgrees, HasAgreed, Moment, Passes, ServerFirstAgrees}
 use Rattle.laws_examples.proofs.downloads.ClientFirst.{client_first_is_over}

@@ -20,15 +20,15 @@ use Rattle.ftp_server_driver.specs.alone.Driving.{Drove as ServerDrove}
 use Rattle.ftp_server_driver.specs.alone.Side.{server_machine, server_side}
 use Rattle.ftp_server_model.specs.Calls as far
 use Rattle.ftp_server_model.specs.View.{View as Far}
-use Rattle.laws_breaks.specs.downloads.Claims.{DidSuffer}
+use Rattle.laws_breaks.specs.downloads.Claims.{AnswersSuffering, DidSuffer, download_faults}
 use Rattle.laws_breaks.specs.downloads.Actions.{ClientSuffers}
-use Rattle.laws_breaks.specs.downloads.Over.{AnswersSuffering, AreOver, AreSuffered}
+use Rattle.laws_breaks.specs.downloads.Over.{AreOver}
 use Rattle.laws_breaks.proofs.downloads.Last.{AsksEach, none_after, none_short}
 use Rattle.laws_drivers.specs.events.Actions.{AreMidst, IsMidst}
 use Rattle.laws_drivers.proofs.events.Along.{Went}
 use Rattle.laws_drivers.specs.control.Between.{Between, CanTurn, Client, Turn, client_actions, server_actions}
 use Rattle.laws_drivers.specs.control.Claims.{Begins}
-use Rattle.laws_drivers.specs.control.Over.{Answers}
+use Rattle.laws_drivers.specs.events.Answers.{Answers, AreAnswered}
 use Rattle.laws_drivers.proofs.control.Playing.{Attends}
 use Rattle.laws_transfers.specs.Actions.{IsTransferred}
 use Rattle.laws_world.specs.Claims.{Beginning}
@@ -72,12 +72,12 @@ did_so b moments op first client_first begun between server client begins does i
       happened = p.happened;
       server_led = p.far_led;
       client_led = went.0;
-      takes = p.gives;
-      suffers = went.1;
-      short = none_short (client_actions p.turns) (near_in none_yet client_first []) client went.0 each;
-      after = none_after p.turns between p.happened (far_in none_yet first []) server p.far_led each;
+      serves = p.gives;
+      asks = went.1;
       ports = p.ports;
       told = p.told;
+      ordered = none_after p.turns between p.happened (far_in none_yet first []) server p.far_led each;
+      short = none_short (client_actions p.turns) (near_in none_yet client_first []) client went.0 each;
     }
 
 -- ---- both are over
@@ -131,10 +131,13 @@ module _ {before : List Turn} (b : Beginning) (first : Far) (op : Op (List ℕ))
   -- by such actions
   near_does : AnswersSuffering near_answers
   unfolding near_answers near_drove near_led near_done
-  near_does = record { raised = is; calm = refl; suffers = (((p.takes, (tt, refl)), may), (tt, refl)); short = inl all; midst = p.are }
+  near_does = record {
+    by = record { raised = is; calm = refl; asks = (((p.takes, (tt, refl)), may), (tt, refl)); midst = p.are };
+    short = inl all;
+  }
 
   -- and that is all that was asked
-  unfoldable all_asked : AreSuffered ((op, said) ∷ []) (near_in none_yet client_first []) near_done
+  unfoldable all_asked : AreAnswered download_faults.IsAnswer ((op, said) ∷ []) (near_in none_yet client_first []) near_done
   all_asked = (near_in none_yet client_first [], refl, near_answers, near_does)
 
   -- the server as it was told that the client left
@@ -204,7 +207,7 @@ module _ {before : List Turn} (b : Beginning) (first : Far) (op : Op (List ℕ))
           server_unwritten = refl;
           client_untold = refl;
           drove = drove;
-          put = all_asked;
+          answered = all_asked;
           turns = last_turns ++ p.turns;
           between = last;
           happened = (last, (there, (there, p.happened, refl), can), refl);
@@ -214,10 +217,10 @@ module _ {before : List Turn} (b : Beginning) (first : Far) (op : Op (List ℕ))
           last = far_in none_yet v [];
           server_led = p.far_led;
           server_end = far_end owed at over;
-          takes = p.gives;
+          serves = p.gives;
           ports = p.ports;
           told = p.told;
-          after = none_after p.turns there p.happened (far_in none_yet first []) (far_in none_yet v []) p.far_led each;
+          ordered = none_after p.turns there p.happened (far_in none_yet first []) (far_in none_yet v []) p.far_led each;
         },
         last_turns ++ p.resets.0,
         ap (λ l. last_turns ++ l) p.resets.1,

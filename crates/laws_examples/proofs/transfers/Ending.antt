@@ -29,7 +29,7 @@ use Rattle.ftp_server_model.specs.View.{View as Far}
 use Rattle.laws_world.specs.Claims.{Beginning}
 use Rattle.laws_drivers.specs.control.Between.{Between, Can, CanTurn, Client, Far as TheServer, Hold, server_actions}
 use Rattle.laws_drivers.specs.control.Claims.{Begins}
-use Rattle.laws_drivers.specs.control.Over.{Answers}
+use Rattle.laws_drivers.specs.events.Answers.{Answers, AnswersBy, AreAnswered, IsAnswerBy}
 use Rattle.laws_drivers.specs.control.Quitting.{HappenedAlone, quit_octets, quitting}
 use Rattle.laws_drivers.specs.control.Touches.{touch_in}
 use Rattle.laws_drivers.proofs.control.Playing.{Attends, ear_after, far_ending, far_hears, far_reading, far_saying, is_silent, no_events}
@@ -38,8 +38,9 @@ use Rattle.laws_examples.proofs.transfers.Calling.{far_bye, far_done, quiet}
 use Rattle.laws_examples.proofs.transfers.Moves.{near_closes, says_answer}
 use Rattle.laws_examples.proofs.transfers.Playing.{Played, far_in, lies, near_in, none_yet}
 use Rattle.laws_transfers.specs.Actions.{ClientTransfers, IsTransferred}
-use Rattle.laws_transfers.specs.Over.{AnswersByTransfer, AreOver, AreTransferred}
-use Rattle.laws_transfers.specs.Quitting.{HaveQuit, LeavesAlong}
+use Rattle.laws_transfers.specs.Over.{AreOver}
+use Rattle.laws_drivers.specs.events.Quitting.{LeavesAlong}
+use Rattle.laws_transfers.specs.Quitting.{HaveQuit}
 
 -- both ended the data connection, or both lost it, and so much of the control connection is to be read
 abbrev pub lies_over : Hold → (up down : List ℕ) → Between
@@ -195,12 +196,12 @@ module _ (b : Beginning) (first : Far) (op : Op (List ℕ)) (said : Said) (clien
   near_answers = record { begun = near_in none_yet begun []; begins = does; drove = near_drove }
 
   -- by such actions
-  pub near_does : AnswersByTransfer near_answers
+  pub near_does : AnswersBy IsTransferred ClientTransfers near_answers
   unfolding near_answers near_drove near_led near_done
-  near_does = record { raised = is; calm = refl; gives = (((p.takes, (tt, refl)), may), (tt, refl)); midst = p.are }
+  near_does = record { raised = is; calm = refl; asks = (((p.takes, (tt, refl)), may), (tt, refl)); midst = p.are }
 
   -- and that is all that was asked
-  unfoldable pub all_asked : AreTransferred ((op, said) ∷ []) (near_in none_yet client_first []) near_done
+  unfoldable pub all_asked : AreAnswered (IsAnswerBy IsTransferred ClientTransfers) ((op, said) ∷ []) (near_in none_yet client_first []) near_done
   all_asked = (near_in none_yet client_first [], refl, near_answers, near_does)
 
   -- the server as it was told that the client left
@@ -268,20 +269,20 @@ module _ (b : Beginning) (first : Far) (op : Op (List ℕ)) (said : Said) (clien
           server_unwritten = refl;
           client_untold = refl;
           drove = drove;
-          put = all_asked;
+          answered = all_asked;
           turns = Client (Other Closed) ∷ Client (Other (Left asked)) ∷ Client (Other (Report (Some said))) ∷ p.turns;
           between = lies_over hold [] [];
           happened = (lies_over hold [] [], (there, (there, p.happened, refl), can), refl);
-          resets = p.resets;
           closed = Shut;
           server_is = refl;
           client_is = ap (λ l. Other Closed ∷ Other (Left asked) ∷ Other (Report (Some said)) ∷ l) p.client_is;
           last = far_in none_yet v [];
           server_led = p.far_led;
           server_end = far_end owed at over;
-          takes = p.gives;
+          serves = p.gives;
           ports = p.ports;
           told = p.told;
+          ordered = p.resets;
         },
       )
 
@@ -302,12 +303,11 @@ module _ (b : Beginning) (first : Far) (op : Op (List ℕ)) (said : Said) (clien
       server_unwritten = refl;
       client_untold = refl;
       drove = quit_drove (far_in none_yet first []) (q.finals ++ server_actions p.turns) w refl refl q.all over;
-      put = all_asked;
+      answered = all_asked;
       entered = entered;
       turns = Client (Other Closed) ∷ Client (Other (Left asked)) ∷ Client (Other (Report (Some said))) ∷ p.turns;
       between = lies_over hold [] [];
       happened = (lies_over hold [] [], (there, (there, p.happened, refl), can), refl);
-      resets = p.resets;
       closed = Shut;
       finals = q.finals;
       server_is = refl;
@@ -317,6 +317,7 @@ module _ (b : Beginning) (first : Far) (op : Op (List ℕ)) (said : Said) (clien
       serves = p.gives;
       ports = p.ports;
       told = p.told;
+      ordered = p.resets;
       off = far_in none_yet w [];
       final_led = q.led;
       leaves = q.leaves;

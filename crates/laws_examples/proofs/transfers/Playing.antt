@@ -24,7 +24,8 @@ use Rattle.ftp_tree.specs.Change.{never_strayed}
 use Rattle.laws_drivers.specs.control.Between.{Between, CanTurn, Client, Happened, Has_lost, Hold, Server, Turn, client_actions, server_actions}
 use Rattle.laws_drivers.proofs.control.Playing.{Attends, ear_after, far_at, far_ending, far_hears, far_reading, far_saying, is_silent}
 use Rattle.laws_drivers.specs.events.Actions.{Along, AreMidst, ArePorts, IsMidst, listened_in}
-use Rattle.laws_transfers.specs.Actions.{AreResets, AreToldAt, ClientTransfers, IsToldAt, ServerTransfers, last_of, number_in}
+use Rattle.laws_transfers.specs.Actions.{AreResets, ClientTransfers, ServerTransfers}
+use Rattle.laws_drivers.specs.events.Moments.{AreToldAt, IsToldAt, last_of, number_in}
 
 -- ---- stands beside a data connection
 

@@ -3,7 +3,7 @@ use Rattle.std.proofs.Common.{ℕ}
 use Rattle.laws_breaks.proofs.uploads.Ending.{cut_drives_agree}
 use Rattle.laws_examples.specs.transfers.Example.{file_alone}
 use Rattle.laws_examples.proofs.transfers.Fair.{file_alone_is_there}
-use Rattle.laws_transfers.specs.Actions.{AreMoments}
+use Rattle.laws_drivers.specs.events.Moments.{AreMoments}
 use Rattle.laws_world.specs.Claims.{Beginning, IsFair}
 use Rattle.laws_examples.specs.uploads.Example.{ClientFirstAgrees, HasAgreed, Moment, Passes, ServerAloneAgrees, ServerFirstAgrees, cut_asked}
 use Rattle.laws_examples.proofs.uploads.Keeping.{server_first_is_over}

@@ -19,7 +19,8 @@ use Rattle.laws_drivers.proofs.events.Along.{Went}
 use Rattle.laws_drivers.specs.control.Alone.{ServerIsCalm}
 use Rattle.laws_drivers.specs.control.Between.{Between, Client, Server, Turn, client_actions, server_actions}
 use Rattle.laws_drivers.proofs.control.Calm.{first_is_calm}
-use Rattle.laws_transfers.specs.Actions.{IsAsking, IsServing, last_of, number_in}
+use Rattle.laws_transfers.specs.Actions.{IsAsking, IsServing}
+use Rattle.laws_drivers.specs.events.Moments.{last_of, number_in}
 use Rattle.laws_examples.proofs.transfers.Playing.{IsUnbroken, Kind, PlayedBy, midst_numbers}
 
 -- ---- the kind

@@ -20,13 +20,13 @@ use Rattle.ftp_server_driver.specs.alone.Side.{server_machine, server_side}
 use Rattle.ftp_server_model.specs.Calls as far
 use Rattle.ftp_server_model.specs.Machine.{later}
 use Rattle.ftp_server_model.specs.View.{View as Far}
-use Rattle.laws_breaks.specs.uploads.Claims.{DidCut}
+use Rattle.laws_breaks.specs.uploads.Claims.{DidCut, upload_faults}
 use Rattle.laws_breaks.specs.uploads.Actions.{ClientGives}
-use Rattle.laws_breaks.specs.uploads.Over.{AreAnswered, AreOver}
+use Rattle.laws_breaks.specs.uploads.Over.{AreOver}
 use Rattle.laws_drivers.proofs.events.Along.{Went}
 use Rattle.laws_drivers.specs.control.Between.{Between, CanTurn, Client, Turn, client_actions, server_actions}
 use Rattle.laws_drivers.specs.control.Claims.{Begins}
-use Rattle.laws_drivers.specs.control.Over.{Answers}
+use Rattle.laws_drivers.specs.events.Answers.{Answers, AreAnswered}
 use Rattle.laws_drivers.proofs.control.Playing.{Attends}
 use Rattle.laws_transfers.specs.Actions.{IsTransferred}
 use Rattle.laws_world.specs.Claims.{Beginning}
@@ -67,11 +67,12 @@ did_so {before} {at} b moments op first client_first begun between server client
       happened = p.happened;
       server_led = p.far_led;
       client_led = went.0;
-      takes = loses_along at (moments 0) (server_actions p.turns) (far_in none_yet first []) server p.far_led p.gives;
-      gives = went.1;
+      serves = loses_along at (moments 0) (server_actions p.turns) (far_in none_yet first []) server p.far_led p.gives;
+      asks = went.1;
       ports = p.ports;
       told = p.told;
-      cut_at = cut_along at (moments 0) steps moments refl p.turns p.resets.1 (far_in none_yet first []) server p.far_led p.gives;
+      ordered = cut_along at (moments 0) steps moments refl p.turns p.resets.1 (far_in none_yet first []) server p.far_led p.gives;
+      short = tt;
     }
 
 -- ---- both are over
@@ -125,7 +126,7 @@ module _ {before : List Turn} {at : Far} (b : Beginning) (first : Far) (op : Op 
   near_answers = record { begun = near_in none_yet begun []; begins = does; drove = near_drove }
 
   -- and that is all that was asked
-  unfoldable all_asked : AreAnswered ((op, said) ∷ []) (near_in none_yet client_first []) near_done
+  unfoldable all_asked : AreAnswered upload_faults.IsAnswer ((op, said) ∷ []) (near_in none_yet client_first []) near_done
   unfolding near_answers near_drove
   all_asked = (near_in none_yet client_first [], refl, near_answers, p.are)
 
@@ -188,7 +189,7 @@ module _ {before : List Turn} {at : Far} (b : Beginning) (first : Far) (op : Op 
 
   -- the client left: both are over, after those turns
   pub both_over : v.owed ≡ [] → Attends v → far.wants (far.control_end v) ≡ Want.CloseAll
-      → (server : Stand server_side) × (over : AreOver b moments ((op, said) ∷ []) server) × (more : List Turn) × (over.turns ≡ more ++ before)
+      → (server : Stand server_side) × (are : AreOver b moments ((op, said) ∷ []) server) × (more : List Turn) × (are.over.turns ≡ more ++ before)
   unfolding all_asked near_answers near_drove far_end far_led near_done
   both_over owed attends over =
       let actions : List (Action server_side) = Ended ∷ server_actions p.turns in
@@ -206,31 +207,33 @@ module _ {before : List Turn} {at : Far} (b : Beginning) (first : Far) (op : Op 
       let last_turns : List Turn = Client (Other Closed) ∷ Client (Other (Left asked)) ∷ Client (Other (Report (Some said))) ∷ [] in (
         far_off,
         record {
-          server_start = far_in none_yet first [];
-          client_start = near_in none_yet client_first [];
-          client = near_done;
-          begins = begins;
-          untold = refl;
-          unwritten = refl;
-          server_unwritten = refl;
-          client_untold = refl;
-          drove = drove;
-          put = all_asked;
-          turns = last_turns ++ p.turns;
-          between = last;
-          happened = (last, (there, (there, p.happened, refl), can), refl);
-          closed = Shut;
-          server_is = refl;
-          client_is = ap (λ l. Other Closed ∷ Other (Left asked) ∷ Other (Report (Some said)) ∷ l) p.client_is;
-          last = far_in none_yet v [];
-          server_led = p.far_led;
-          server_end = far_end owed attends over;
+          over = record {
+            server_start = far_in none_yet first [];
+            client_start = near_in none_yet client_first [];
+            client = near_done;
+            begins = begins;
+            untold = refl;
+            unwritten = refl;
+            server_unwritten = refl;
+            client_untold = refl;
+            drove = drove;
+            answered = all_asked;
+            turns = last_turns ++ p.turns;
+            between = last;
+            happened = (last, (there, (there, p.happened, refl), can), refl);
+            closed = Shut;
+            server_is = refl;
+            client_is = ap (λ l. Other Closed ∷ Other (Left asked) ∷ Other (Report (Some said)) ∷ l) p.client_is;
+            last = far_in none_yet v [];
+            server_led = p.far_led;
+            server_end = far_end owed attends over;
+            serves = loses_along at (moments 0) (server_actions p.turns) (far_in none_yet first []) (far_in none_yet v []) p.far_led p.gives;
+            ports = p.ports;
+            told = p.told;
+            ordered = cut_along at (moments 0) steps moments refl p.turns p.resets.1 (far_in none_yet first []) (far_in none_yet v []) p.far_led p.gives;
+          };
           client_led = near_all.0;
-          takes = loses_along at (moments 0) (server_actions p.turns) (far_in none_yet first []) (far_in none_yet v []) p.far_led p.gives;
           gives = near_all.1;
-          ports = p.ports;
-          told = p.told;
-          cut_at = cut_along at (moments 0) steps moments refl p.turns p.resets.1 (far_in none_yet first []) (far_in none_yet v []) p.far_led p.gives;
         },
         last_turns ++ p.resets.0.0,
         ap (λ l. last_turns ++ l) p.resets.0.1,

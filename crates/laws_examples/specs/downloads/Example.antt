@@ -13,18 +13,14 @@ use Rattle.ftp_server_driver.specs.alone.Side.{server_side}
 use Rattle.ftp_server_model.specs.Calls.{to_give}
 use Rattle.ftp_settings.specs.Representation.{defaults}
 use Rattle.ftp_tree.specs.Tree.{Table}
-use Rattle.laws_breaks.specs.downloads.Claims.{DidSuffer}
-use Rattle.laws_breaks.specs.downloads.Actions.{AreMarks}
+use Rattle.laws_breaks.specs.downloads.Claims.{DidSuffer, download_faults}
 use Rattle.laws_breaks.specs.downloads.Over.{AreOver}
 use Rattle.laws_drivers.specs.control.Between.{Between, Has, Has_lost, Turn, client_actions}
 use Rattle.laws_drivers.specs.control.Example.{example}
-use Rattle.laws_drivers.specs.control.Over.{answers_of}
 use Rattle.laws_examples.specs.transfers.Example.{HasFile, example_how, example_name, file_alone}
-use Rattle.laws_transfers.specs.Actions.{AreMoments}
-use Rattle.laws_transfers.specs.Over.{orders_at}
-use Rattle.laws_world.specs.Agreement.{Agrees}
-use Rattle.laws_world.specs.Claims.{Beginning, state_of}
-use Rattle.laws_world.specs.World.{Mark}
+use Rattle.laws_drivers.specs.events.Moments.{AreMoments}
+use Rattle.laws_drivers.specs.events.Over.{AgreeAsOver}
+use Rattle.laws_world.specs.Claims.{Beginning}
 
 -- a Get of the file
 abbrev pub get : Op (List ℕ)
@@ -60,9 +56,7 @@ pub record Passes (b : Beginning) (moments : ℕ → ℕ) (asked : List (Op (Lis
 -- its answers and the map that is left agree with what was asked, with marks of its actions
 abbrev pub HasAgreed : {b : Beginning} {moments : ℕ → ℕ} {asked : List (Op (List ℕ) × Said)} {At : Moment} → Passes b moments asked At → Type 0
 HasAgreed {b} {moments} {asked} {At} p =
-    (led : Led (client_actions p.over.turns) p.over.client_start p.over.client)
-    × (marks : List (List Mark)) × AreMarks (client_actions p.over.turns) p.over.client_start p.over.client led marks
-    × Agrees (state_of b) (orders_at moments asked) marks None (answers_of asked) p.server.owner.end.server.view.session.table
+    (led : Led (client_actions p.over.turns) p.over.client_start p.over.client) × AgreeAsOver download_faults p.over led
 
 -- ---- the server is told first
 

@@ -10,18 +10,14 @@ use Rattle.ftp_operation.specs.declared.op.Op.{Op}
 use Rattle.ftp_operation.specs.declared.op.Op.TheVariants as Ops
 use Rattle.ftp_server_driver.specs.alone.Side.{server_side}
 use Rattle.ftp_tree.specs.Tree.{Table}
-use Rattle.laws_breaks.specs.uploads.Claims.{DidCut}
-use Rattle.laws_breaks.specs.uploads.Actions.{AreMarks}
+use Rattle.laws_breaks.specs.uploads.Claims.{DidCut, upload_faults}
 use Rattle.laws_breaks.specs.uploads.Over.{AreOver}
 use Rattle.laws_drivers.specs.control.Between.{Between, Has, Has_ended, Has_lost, Turn}
 use Rattle.laws_drivers.specs.control.Example.{example}
-use Rattle.laws_drivers.specs.control.Over.{answers_of}
 use Rattle.laws_examples.specs.transfers.Example.{HasFile, HasRoom, example_how, example_name, file_alone}
-use Rattle.laws_transfers.specs.Actions.{AreMoments}
-use Rattle.laws_transfers.specs.Over.{orders_at}
-use Rattle.laws_world.specs.Agreement.{Agrees}
-use Rattle.laws_world.specs.Claims.{Beginning, state_of}
-use Rattle.laws_world.specs.World.{Mark}
+use Rattle.laws_drivers.specs.events.Moments.{AreMoments}
+use Rattle.laws_drivers.specs.events.Over.{AgreeAsOver}
+use Rattle.laws_world.specs.Claims.{Beginning}
 
 -- the octets that are put, of which one comes
 abbrev pub first_octet : List ℕ
@@ -53,7 +49,7 @@ pub record Passes (b : Beginning) (moments : ℕ → ℕ) (At : Moment) : Type 0
   pub over : AreOver b moments cut_asked server
   pub turns : List Turn
   pub later : List Turn
-  pub begins_so : over.turns ≡ later ++ turns
+  pub begins_so : over.over.turns ≡ later ++ turns
   pub between : Between
   pub server_then : Stand server_side
   pub client_then : Stand client_side
@@ -66,10 +62,7 @@ IsThere At = (table : Table) (stamp : ℕ) (moments : ℕ → ℕ) → HasFile t
 
 -- its answer and the map that is left agree with what was asked, with marks of its actions
 abbrev pub HasAgreed : {b : Beginning} {moments : ℕ → ℕ} {At : Moment} → Passes b moments At → Type 0
-HasAgreed {b} {moments} p =
-    (marks : List (List Mark))
-    × AreMarks p.over.turns p.over.server_start p.over.last p.over.server_led p.over.client_start p.over.client p.over.client_led marks
-    × Agrees (state_of b) (orders_at moments cut_asked) marks None (answers_of cut_asked) p.server.owner.end.server.view.session.table
+HasAgreed {b} {moments} p = AgreeAsOver upload_faults p.over.over p.over.client_led
 
 -- and of the file alone there is one that agrees
 abbrev pub OneAgrees : Moment → Type 0

@@ -44,13 +44,14 @@ concluding b fair moments timed turns asked start now begins server_bare client_
       server_unwritten = server_bare.0;
       client_untold = client_bare.1;
       happened = happened.0;
-      resets = happened.1;
       server_led = g.serves.led;
       client_led = g.asks.0;
       serves = does.serves;
       asks = does.asks;
       ports = (ports_told turns now.listens counted).1;
       told = g.serves.told;
+      ordered = happened.1;
+      short = tt;
     } in
     either_are_the_direct_run b fair moments timed turns now.between (quiet now.server) (quiet now.client) did g.free told
 

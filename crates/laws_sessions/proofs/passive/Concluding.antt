@@ -15,9 +15,11 @@ use Rattle.laws_drivers.specs.events.Actions.{Along}
 use Rattle.laws_drivers.specs.control.Alone.{ClientAttends, ClientIsCalm, IsAsking, IsServing, ServerAttends, ServerIsCalm, Throughout, begun_in, reports_in}
 use Rattle.laws_drivers.specs.control.Between.{Client, Server, Turn, client_actions, nothing_yet, server_actions}
 use Rattle.laws_drivers.specs.control.Claims.{Begins, Did}
-use Rattle.laws_drivers.specs.control.Over.{answers_of, orders_of}
+use Rattle.laws_drivers.specs.control.Over.{orders_of}
+use Rattle.laws_drivers.specs.events.Answers.{answers_of}
 use Rattle.laws_drivers.specs.control.Touches.{touch_in}
-use Rattle.laws_drivers.proofs.control.Ending.{Goes, as_many, goes_then, midst_begins, midst_reports, starts_so}
+use Rattle.laws_drivers.proofs.control.Ending.{Goes, goes_then, midst_begins, midst_reports, starts_so}
+use Rattle.laws_drivers.proofs.events.Answers.{as_many}
 use Rattle.laws_drivers.proofs.control.Theorems.{drives_are_the_direct_run}
 use Rattle.laws_world.specs.Agreement.{Order, Single}
 use Rattle.laws_world.specs.Claims.{AreAnswers, Beginning, IsFair, state_of}
@@ -173,7 +175,7 @@ concludes b fair moment timed turns asked start now begins went g =
       serves = g.serves.1;
       asks = g.asks.1;
     } in
-    let told = ap length g.answers ∙ as_many moment asked ∙ ap length (sym g.orders) in
+    let told = ap length g.answers ∙ as_many (λ n. moment) asked ∙ ap length (sym g.orders) in
     let table = now.server.end.server.view.session.table in
     let direct = drives_are_the_direct_run b fair moment timed turns now.between (quiet now.server) (quiet now.client) did g.free told in
     subst (λ (r : List Said). AreAnswers (state_of b) (orders_of moment asked) r table) g.answers

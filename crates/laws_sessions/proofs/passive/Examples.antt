@@ -18,7 +18,8 @@ use Rattle.laws_examples.proofs.transfers.Moves.{near_closes, says_answer}
 use Rattle.laws_examples.proofs.transfers.PeekPlayed.{peek_is_answered}
 use Rattle.laws_examples.proofs.transfers.Playing.{Played, far_in, near_in, none_yet}
 use Rattle.laws_examples.proofs.transfers.PutPlayed.{put_is_answered}
-use Rattle.laws_transfers.specs.Actions.{AreToldAt, ClientTransfers, IsToldAt, ServerTransfers, last_of, number_in}
+use Rattle.laws_transfers.specs.Actions.{ClientTransfers, ServerTransfers}
+use Rattle.laws_drivers.specs.events.Moments.{AreToldAt, IsToldAt, last_of, number_in}
 use Rattle.laws_world.specs.Claims.{Beginning}
 use Rattle.ftp_server_driver.specs.alone.Side.{Timed, server_side}
 use Rattle.ftp_pair_memory.specs.streams.Order.{AllCame, Counted, Hosts}
@@ -27,7 +28,7 @@ use Rattle.ftp_pair_memory.proofs.steps.Gathering.{clients_then, servers_then}
 use Rattle.laws_sessions.specs.passive.Kinds.{AnsweredSo, AreAllToldAt, Does, IsSession, Kind}
 use Rattle.laws_sessions.specs.passive.Transfers.{AreTransferred, FetchIsAsked, IsServingAny, PeekIsAsked, PutIsAsked, transfers}
 use Rattle.laws_sessions.proofs.passive.Breaking.{HappenedByResets, Resets, resets_of}
-use Rattle.laws_sessions.proofs.passive.Midst.{midst_numbers}
+use Rattle.laws_drivers.proofs.events.Moments.{midst_numbers}
 use Rattle.laws_sessions.proofs.passive.Peers.{left_comes, peers_came, serve_any}
 use Rattle.laws_sessions.proofs.passive.Ports.{left_no_port, none_counts, ports_counted}
 

@@ -6,7 +6,7 @@ use Rattle.ftp_client_model.specs.Calls.{is_busy}
 use Rattle.ftp_operation.specs.Answer.{Said}
 use Rattle.ftp_operation.specs.declared.op.Op.{Op}
 use Rattle.laws_drivers.specs.control.Between.{Between, Client, Server, Turn, client_actions, server_actions}
-use Rattle.laws_drivers.proofs.control.Ending.{reported_free}
+use Rattle.laws_drivers.proofs.events.Answers.{reported_free}
 use Rattle.ftp_pair_memory.specs.streams.Order.{AllCame, Counted, Went}
 use Rattle.ftp_pair_memory.specs.steps.Taking.{Answered, Ends, by_client}
 use Rattle.ftp_pair_memory.proofs.steps.Gathering.{came_then, clients_then, counted_then, its_own, no_others, servers_then, went_then}

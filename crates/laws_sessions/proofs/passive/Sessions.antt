@@ -15,11 +15,10 @@ use Rattle.laws_drivers.proofs.events.Along.{Went as Goes}
 use Rattle.laws_drivers.specs.control.Alone.{ClientIsCalm, ServerIsCalm, reports_in}
 use Rattle.laws_drivers.specs.control.Between.{Client, Server, Turn, client_actions, nothing_yet, server_actions}
 use Rattle.laws_drivers.specs.control.Claims.{Begins}
-use Rattle.laws_drivers.specs.control.Over.{answers_of}
+use Rattle.laws_drivers.specs.events.Answers.{answers_of, orders_at}
 use Rattle.laws_drivers.specs.control.Touches.{touch_in}
-use Rattle.laws_transfers.specs.Actions.{AreMoments, AreToldAt, IsToldAt, begun_at, last_of, number_in}
-use Rattle.laws_transfers.specs.Over.{orders_at}
-use Rattle.laws_transfers.proofs.Ending.{as_many}
+use Rattle.laws_drivers.specs.events.Moments.{AreMoments, AreToldAt, IsToldAt, begun_at, last_of, number_in}
+use Rattle.laws_drivers.proofs.events.Answers.{as_many}
 use Rattle.laws_world.specs.Agreement.{Order, Single}
 use Rattle.laws_world.specs.Claims.{AreAnswers, Beginning, IsFair, state_of}
 use Rattle.ftp_server_driver.specs.alone.Side.{Timed, server_side}
@@ -33,7 +32,7 @@ use Rattle.laws_sessions.specs.passive.Sessions.{AreAsked, actions_of, turns_of}
 use Rattle.laws_sessions.proofs.passive.Breaking.{HappenedByResets, Resets, ServerIsUnbroken, resets_happen, session_resets}
 use Rattle.laws_sessions.proofs.passive.Counting.{far_calms, near_calms}
 use Rattle.laws_sessions.proofs.passive.Gathering.{far_fewer, near_fewer, answered_closed, answered_free, clients, clients_with, session_came, session_counted, turns_with}
-use Rattle.laws_sessions.proofs.passive.Midst.{midst_begins, midst_numbers, midst_reports}
+use Rattle.laws_drivers.proofs.events.Moments.{midst_begins, midst_numbers, midst_reports}
 
 -- ---- the actions of either
 

@@ -43,13 +43,14 @@ transferring b fair moments timed turns asked start now begins server_bare clien
       server_unwritten = server_bare.0;
       client_untold = client_bare.1;
       happened = happened.0;
-      resets = happened.1;
       server_led = g.serves.led;
       client_led = g.asks.0;
-      takes = (peers_serve start.hosts turns (quiet start.server) (quiet now.server) g.serves.led g.serves.serves came meets).0;
-      gives = g.asks.1;
+      serves = (peers_serve start.hosts turns (quiet start.server) (quiet now.server) g.serves.led g.serves.serves came meets).0;
+      asks = g.asks.1;
       ports = (ports_told ClientIsCalm turns (quiet start.client) (quiet now.client) g.asks.0 g.asks.1 now.listens counted).1;
       told = g.serves.told;
+      ordered = happened.1;
+      short = tt;
     } in
     transfers_are_the_direct_run b fair moments timed turns now.between (quiet now.server) (quiet now.client) did g.free told
 

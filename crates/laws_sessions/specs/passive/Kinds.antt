@@ -12,9 +12,8 @@ use Rattle.laws_drivers.specs.events.Actions.{Along, AreMidst}
 use Rattle.laws_drivers.specs.control.Alone.{ClientIsCalm, ServerIsCalm}
 use Rattle.laws_drivers.specs.control.Between.{Between, Client, Has, Has_lost, Turn, client_actions, nothing_yet, server_actions}
 use Rattle.laws_drivers.specs.control.Claims.{Begins}
-use Rattle.laws_drivers.specs.control.Over.{answers_of}
-use Rattle.laws_transfers.specs.Actions.{AreMoments, IsToldAt}
-use Rattle.laws_transfers.specs.Over.{orders_at}
+use Rattle.laws_drivers.specs.events.Answers.{answers_of, orders_at}
+use Rattle.laws_drivers.specs.events.Moments.{AreMoments, IsToldAt}
 use Rattle.laws_world.specs.Claims.{AreAnswers, Beginning, IsFair, state_of}
 use Rattle.ftp_server_driver.specs.alone.Side.{Timed, server_side}
 use Rattle.ftp_pair_memory.specs.streams.Order.{Went}

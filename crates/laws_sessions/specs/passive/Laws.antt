@@ -8,7 +8,8 @@ use Rattle.laws_drivers.specs.control.Alone.{ClientAttends, ClientIsCalm, IsAski
 use Rattle.laws_drivers.specs.control.Between.{Between, Client, Happened, Server, Turn, client_actions, nothing_yet, server_actions}
 use Rattle.laws_drivers.specs.control.Claims.{Begins}
 use Rattle.laws_drivers.specs.control.Example.{example, example_asked}
-use Rattle.laws_drivers.specs.control.Over.{AreMidst, answers_of, orders_of}
+use Rattle.laws_drivers.specs.control.Over.{AreMidst, orders_of}
+use Rattle.laws_drivers.specs.events.Answers.{answers_of}
 use Rattle.laws_drivers.specs.control.Touches.{ToldBreak, Touch, touch_in}
 use Rattle.laws_world.specs.Claims.{AreAnswers, Beginning, IsFair, state_of}
 use Rattle.ftp_server_driver.specs.alone.Side.{Timed}

@@ -20,12 +20,13 @@ use Rattle.laws_world.specs.World.{Mark}
 use Rattle.laws_drivers.specs.control.Alone.{begun_in, reports_in}
 use Rattle.laws_drivers.specs.control.Between.{Between, Turn as Action, client_actions, server_actions}
 use Rattle.laws_drivers.specs.control.Claims.{Did}
-use Rattle.laws_drivers.specs.control.Over.{AreOver as AreOverAlone, answers_of, actions_of_server, orders_of}
+use Rattle.laws_drivers.specs.control.Over.{AreOver as AreOverAlone, orders_of}
+use Rattle.laws_drivers.specs.events.Answers.{actions_of_server, answers_of, orders_at}
 use Rattle.laws_drivers.specs.control.Quitting.{HaveQuit}
 use Rattle.laws_drivers.specs.events.Actions.{Along}
 use Rattle.laws_transfers.specs.Claims.{DidTransfer}
-use Rattle.laws_transfers.specs.Actions.{AreMoments, begun_at}
-use Rattle.laws_transfers.specs.Over.{AreOver as AreOverTransferring, orders_at}
+use Rattle.laws_drivers.specs.events.Moments.{AreMoments, begun_at}
+use Rattle.laws_transfers.specs.Over.{AreOver as AreOverTransferring}
 use Rattle.laws_transfers.specs.Quitting.{HaveQuit as HaveQuitTransferring}
 use Rattle.laws_sessions.specs.served.Alone.{FindWhatWasLeft, IsOwnDrive, actions_in, lent_first, part_at, whole}
 use Rattle.laws_sessions.specs.served.Rooted.{IsOwnDriveBut, StaysAt, TurnsStayAt}

@@ -1,11 +1,31 @@
--- What a client begins and reports: nothing in the midst of a drive.
+-- What the actions of a client begin and report: each operation by itself, and in the midst of a drive none.
 use Rattle.std.proofs.Common.{◌≡◌, ℕ, List, [], ◌∷◌, ◌++◌, Some, refl, ap, ◌∙◌, append-nil}
 use Rattle.ftp_ports.specs.Actions.{Action, Other}
 use Rattle.ftp_ports.specs.Machine.{Aside}
 use Rattle.ftp_client_driver.specs.Side.{Reporting, Starting, client_side}
+use Rattle.laws_drivers.specs.control.Alone.{reported_by, reports_in}
 use Rattle.laws_drivers.specs.events.Actions.{AreMidst, IsMidst}
-use Rattle.laws_drivers.specs.control.Alone.{begun_by, reported_by, reports_in}
-use Rattle.laws_transfers.specs.Actions.{begun_at, number_in}
+use Rattle.laws_drivers.specs.events.Moments.{begun_at, begun_by, number_in}
+use Rattle.laws_world.specs.Agreement.{AreSingle, Order, Single, Tries}
+
+-- no action begins an upload over breaks as an order of its own
+by_single : (moment : ℕ) (action : Action client_side) → AreSingle (begun_by moment action)
+by_single moment (Other (Aside (Starting op))) = tt
+by_single moment action = tt
+
+-- orders after orders
+both_single : (front given : List Order) → AreSingle front → AreSingle given → AreSingle (front ++ given)
+both_single [] given one other = other
+both_single (Single op moment ∷ front) given one other = both_single front given one other
+both_single (Tries upload moment ∷ front) given one other = absurd one
+
+-- none of all actions does
+pub in_single : (moments : ℕ → ℕ) (actions : List (Action client_side)) → AreSingle (begun_at moments actions)
+in_single moments [] = tt
+in_single moments (action ∷ before) =
+    both_single (begun_at moments before) (begun_by (moments (number_in before)) action) (in_single moments before) (by_single (moments (number_in before)) action)
+
+-- ---- in the midst
 
 -- an action in the midst begins none, and reports none
 midst_number : (action : Action client_side) (before : List (Action client_side)) → IsMidst action → number_in (action ∷ before) ≡ number_in before
