@@ -1,5 +1,6 @@
 pub mod Playing
 pub mod Moves
+pub mod Over
 pub mod Ending
 pub mod Calling
 pub mod FetchPlayed

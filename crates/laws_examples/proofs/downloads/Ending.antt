@@ -1,26 +1,21 @@
 -- How such a session ends: the client's drive reports and leaves its data connection or its port, and the server's drive is over since the client left; and the
 -- moment in its midst.
-use Rattle.std.proofs.Common.{◌≡◌, inl, inr, ℕ, false, true, List, [], ◌∷◌, ◌++◌, None, Some, refl, sym, ap, subst}
+use Rattle.std.proofs.Common.{◌≡◌, inl, ℕ, false, List, [], ◌∷◌, ◌++◌, None, Some, refl, sym, ap, subst}
 use Rattle.ftp_ports.specs.Asking.{Asked, Shut}
 use Rattle.ftp_ports.specs.Channel.{Channel}
-use Rattle.ftp_ports.specs.Actions.{Action, Done, Ended, EndsHere, Led, Other, Stand}
-use Rattle.ftp_ports.specs.Machine.{Aside, Closed, Left, move_of, seen, waits}
-use Rattle.ftp_ports.proofs.Courses.{carries}
-use Rattle.ftp_ports.proofs.Idling.{carrier}
-use Rattle.ftp_ports.proofs.Totals.{sums}
-use Rattle.ftp_client_driver.specs.Driving.{Drove as ClientDrove}
-use Rattle.ftp_client_driver.specs.Side.{Begun, Report, Starting, client_machine, client_side, is_under_way}
+use Rattle.ftp_ports.specs.Actions.{Action, Done, Other, Stand}
+use Rattle.ftp_ports.specs.Machine.{Aside, Closed, Left}
+use Rattle.ftp_client_driver.specs.Side.{Begun, Report, Starting, client_side, is_under_way}
 use Rattle.ftp_client_model.specs.Calls as near
 use Rattle.ftp_client_model.specs.Plan.{count_of}
 use Rattle.ftp_client_model.specs.View.{View as Near}
 use Rattle.ftp_ends.specs.declared.link.Wants.TheVariants as Want
 use Rattle.ftp_operation.specs.Answer.{Said}
 use Rattle.ftp_operation.specs.declared.op.Op.{Op}
-use Rattle.ftp_server_driver.specs.alone.Driving.{Drove as ServerDrove}
-use Rattle.ftp_server_driver.specs.alone.Side.{server_machine, server_side}
+use Rattle.ftp_server_driver.specs.alone.Side.{server_side}
 use Rattle.ftp_server_model.specs.Calls as far
 use Rattle.ftp_server_model.specs.View.{View as Far}
-use Rattle.laws_breaks.specs.downloads.Claims.{AnswersSuffering, DidSuffer, download_faults}
+use Rattle.laws_breaks.specs.downloads.Claims.{DidSuffer, download_faults}
 use Rattle.laws_breaks.specs.downloads.Actions.{ClientSuffers}
 use Rattle.laws_breaks.specs.downloads.Over.{AreOver}
 use Rattle.laws_breaks.proofs.downloads.Last.{AsksEach, none_after, none_short}
@@ -28,11 +23,11 @@ use Rattle.laws_drivers.specs.events.Actions.{AreMidst, IsMidst}
 use Rattle.laws_drivers.proofs.events.Along.{Went}
 use Rattle.laws_drivers.specs.control.Between.{Between, CanTurn, Client, Turn, client_actions, server_actions}
 use Rattle.laws_drivers.specs.control.Claims.{Begins}
-use Rattle.laws_drivers.specs.events.Answers.{Answers, AreAnswered}
+use Rattle.laws_drivers.specs.events.Answers.{AreAnswered}
 use Rattle.laws_drivers.proofs.control.Playing.{Attends}
 use Rattle.laws_transfers.specs.Actions.{IsTransferred}
 use Rattle.laws_world.specs.Claims.{Beginning}
-use Rattle.laws_examples.proofs.transfers.Moves.{near_closes, says_answer}
+use Rattle.laws_examples.proofs.transfers.Over.{IsLeft, Reports, far_drove, far_end, far_led, far_off, near_answers, near_does, near_done, near_drove}
 use Rattle.laws_examples.proofs.transfers.Playing.{PlayedBy, far_in, near_in, none_yet}
 use Rattle.laws_examples.proofs.downloads.Breaking.{breaking, went_on}
 
@@ -91,122 +86,39 @@ module _ {before : List Turn} (b : Beginning) (first : Far) (op : Op (List ℕ))
     (may : ClientSuffers (Other (Left asked)) (near_in channel (near.reports n) []).owner (near_in none_yet (near.reports n) []).owner)
     (can : CanTurn (Client (Other (Left asked))) there last)
     (p : PlayedBy (breaking before) moments (far_in none_yet first []) (near_in none_yet begun []) op 1 there (far_in none_yet v []) (near_in channel n [])) where
-  -- what the client holds as its drive is over
-  unfoldable near_done : Stand client_side
-  near_done = near_in none_yet (near.data_closed (near.reports n)) []
+  -- what the client's drive did
+  abbrev reporting : Reports op said client_first begun n channel asked
+  reporting = record { does = does; some = some; free = free; leaves = leaves; midst = p.midst; led = p.near_led }
 
-  -- all that its drive did led there
-  near_led : Led (Other Closed ∷ Other (Left asked) ∷ Other (Report (Some said)) ∷ p.midst) (near_in none_yet begun []) near_done
+  -- and that is all that was asked, by such actions
+  unfoldable all_asked : AreAnswered download_faults.IsAnswer ((op, said) ∷ []) (near_in none_yet client_first []) (near_done n)
   unfolding near_done
-  near_led = (
-    near_in none_yet (near.reports n) [],
-    (
-      near_in channel (near.reports n) [],
-      (near_in channel n [], p.near_led, says_answer channel n said some),
-      leaves,
-    ),
-    near_closes (near.reports n) free,
+  all_asked = (
+    near_in none_yet client_first [],
+    refl,
+    near_answers reporting,
+    record { by = near_does reporting IsTransferred ClientSuffers is p.takes (tt, refl) may (tt, refl) p.are; short = inl all },
   )
-
-  -- so it was over
-  unfoldable near_drove : ClientDrove (near_in none_yet begun []) near_done (Some said)
-  near_drove =
-      let actions : List (Action client_side) = Other Closed ∷ Other (Left asked) ∷ Other (Report (Some said)) ∷ p.midst in
-      let totals = sums actions (near_in none_yet begun []) near_done near_led in
-      record {
-        answer = said;
-        answered = refl;
-        asked = asked;
-        did = record {
-          actions = p.midst;
-          sums = record { led = near_led; read = totals.read; heard = totals.heard; wrote = totals.wrote };
-          carries = carries move_of (carrier client_machine) actions (near_in none_yet begun []) near_done near_led refl refl;
-        };
-      }
-
-  -- the operation was begun and answered
-  unfoldable near_answers : Answers op said (near_in none_yet client_first []) near_done
-  near_answers = record { begun = near_in none_yet begun []; begins = does; drove = near_drove }
-
-  -- by such actions
-  near_does : AnswersSuffering near_answers
-  unfolding near_answers near_drove near_led near_done
-  near_does = record {
-    by = record { raised = is; calm = refl; asks = (((p.takes, (tt, refl)), may), (tt, refl)); midst = p.are };
-    short = inl all;
-  }
-
-  -- and that is all that was asked
-  unfoldable all_asked : AreAnswered download_faults.IsAnswer ((op, said) ∷ []) (near_in none_yet client_first []) near_done
-  all_asked = (near_in none_yet client_first [], refl, near_answers, near_does)
-
-  -- the server as it was told that the client left
-  abbrev far_off : Stand server_side
-  far_off = record (far_in none_yet (far.control_end v) []) { left = record { octets = None; ended = true } }
-
-  -- then its port was shut
-  unfoldable far_end : v.owed ≡ [] → Attends v → far.wants (far.control_end v) ≡ Want.CloseAll
-      → Led (Other (Left Shut) ∷ Ended ∷ []) (far_in none_yet v []) far_off
-  far_end owed at over =
-      let end : EndsHere (far_in none_yet v []) far_off = record {
-        due = (owed, λ serves. ap waits at.wants);
-        heard = refl;
-        read = tt;
-        last = tt;
-        ended = refl;
-        cut = (refl, ap (λ q. seen q none_yet) (sym at.wants));
-        unheard = refl;
-        written = refl;
-      } in (
-        far_off,
-        (far_in none_yet v [], refl, end),
-        (
-          (
-            refl,
-            record { ended = refl; adds = tt; stands = refl; fate = refl; rest = refl; unwritten = refl; untold = refl },
-            (inr over, tt, tt),
-          ),
-          refl,
-        ),
-      )
-
-  -- all that its drive did
-  far_led : v.owed ≡ [] → Attends v → far.wants (far.control_end v) ≡ Want.CloseAll
-      → Led (Other (Left Shut) ∷ Ended ∷ server_actions p.turns) (far_in none_yet first []) far_off
-  unfolding far_end
-  far_led owed at over =
-      let end = far_end owed at over in (far_off, (far_in none_yet v [], p.far_led, end.1.2), end.2)
 
   -- the client left: both are over, after those turns
   pub both_over : v.owed ≡ [] → Attends v → far.wants (far.control_end v) ≡ Want.CloseAll
       → (server : Stand server_side) × (over : AreOver b moments ((op, said) ∷ []) server) × (more : List Turn) × (over.turns ≡ more ++ before)
-  unfolding all_asked near_answers near_drove far_end far_led near_done
+  unfolding all_asked near_answers near_drove far_drove far_led far_end near_done
   both_over owed at over =
       let each : AsksEach (client_actions p.turns) = subst AsksEach (sym p.client_is) (midst_each p.midst (Other (Begun op) ∷ []) p.are (all, tt)) in
-      let actions : List (Action server_side) = Ended ∷ server_actions p.turns in
-      let led = far_led owed at over in
-      let totals = sums (Other (Left Shut) ∷ actions) (far_in none_yet first []) far_off led in
-      let drove : ServerDrove (far_in none_yet first []) far_off = record {
-        asked = Shut;
-        did = record {
-          actions = actions;
-          sums = record { led = led; read = totals.read; heard = totals.heard; wrote = totals.wrote };
-          carries = carries move_of (carrier server_machine) (Other (Left Shut) ∷ actions) (far_in none_yet first []) far_off led refl refl;
-        };
-        over = over;
-      } in
+      let left : IsLeft first v (server_actions p.turns) = record { led = p.far_led; owed = owed; attends = at; over = over } in
       let last_turns : List Turn = Client (Other Closed) ∷ Client (Other (Left asked)) ∷ Client (Other (Report (Some said))) ∷ [] in (
-        far_off,
+        far_off v,
         record {
           server_start = far_in none_yet first [];
           client_start = near_in none_yet client_first [];
-          client = near_done;
+          client = near_done n;
           begins = begins;
           untold = refl;
           unwritten = refl;
           server_unwritten = refl;
           client_untold = refl;
-          drove = drove;
+          drove = far_drove left;
           answered = all_asked;
           turns = last_turns ++ p.turns;
           between = last;
@@ -216,7 +128,7 @@ module _ {before : List Turn} (b : Beginning) (first : Far) (op : Op (List ℕ))
           client_is = ap (λ l. Other Closed ∷ Other (Left asked) ∷ Other (Report (Some said)) ∷ l) p.client_is;
           last = far_in none_yet v [];
           server_led = p.far_led;
-          server_end = far_end owed at over;
+          server_end = far_end left;
           serves = p.gives;
           ports = p.ports;
           told = p.told;
