@@ -1,7 +1,5 @@
--- A client that sent ABOR is told that its data connection broke, since the server reset it: in a world it takes all that is on its way, drops it, and
--- is told of the end (RFC 959, section 4.1.3).
-use Rattle.std.proofs.Common.{◌≡◌, ℕ, ◌<◌, true, false, true≢false, List, [], ◌∷◌, ◌++◌, length, take, None, option_to_list, refl, sym, ap, ap₂, subst, ◌∙◌, append-nil}
-use Rattle.std.specs.Prelude.{if◌then◌else◌}
+-- A client that sent ABOR is told that its data connection broke, since the server reset it: a world's is told of the end (RFC 959, section 4.1.3).
+use Rattle.std.proofs.Common.{◌≡◌, ℕ, Bool, ◌&&◌, true, false, List, [], ◌++◌, refl, sym, ap, ◌∙◌}
 use Rattle.ftp_ends.specs.declared.link.Wants.TheVariants as Want
 use Rattle.ftp_ports.specs.Actions.{Calls, Stand}
 use Rattle.ftp_ports.specs.Channel.{Channel, with_fate}
@@ -9,62 +7,44 @@ use Rattle.ftp_ports.specs.Machine.{Break}
 use Rattle.ftp_ports.specs.declared.whole.Fate.TheVariants.{Broken}
 use Rattle.ftp_client_driver.specs.Side.{client_side}
 use Rattle.ftp_client_model.specs.Calls as near
-use Rattle.ftp_client_model.specs.Calls.{data_closed, data_end, data_fault, is_sound, receives, report_of}
-use Rattle.ftp_client_model.specs.Dialogue.{carries_on, has_begun, is_unsent}
-use Rattle.ftp_client_model.specs.View.{Transfer, Transferring, View as Near}
-use Rattle.ftp_client_model.specs.declared.client.ClientLink.TheVariants as NearData
-use Rattle.ftp_client_model.specs.declared.client.Ending.TheVariants as Endings
+use Rattle.ftp_client_model.specs.Calls.{data_end}
+use Rattle.ftp_client_model.specs.View.{View as Near}
 use Rattle.ftp_direct.specs.Direct.{State}
 use Rattle.ftp_operation.specs.Answer.{Said}
-use Rattle.ftp_operation.specs.declared.op.Op.{Op}
 use Rattle.ftp_server_driver.specs.alone.Side.{server_side}
-use Rattle.ftp_server_model.specs.Calls as far
 use Rattle.ftp_server_model.specs.Machine.{IsReading, Reading}
 use Rattle.ftp_server_model.specs.View.{View as Far}
-use Rattle.ftp_server_model.specs.declared.session.ServerLink.TheVariants as Data
 use Rattle.laws_world.specs.Agreement.{Order}
-use Rattle.laws_world.specs.Events.{DataToClient, is_closed_by_far, is_closed_by_near, pushed}
-use Rattle.laws_world.specs.World.{ClosedByFar, Gone, World, gone}
-use Rattle.laws_dialogues.specs.Fetches.{busy, flow_after}
+use Rattle.laws_world.specs.Events.{is_closed_by_far}
+use Rattle.laws_world.specs.World.{ClosedByFar, World}
 use Rattle.laws_agreement.specs.Over.{OverRuns}
-use Rattle.laws_agreement.specs.PeekStages.{AtHalt, Gave, Gives, Halt, Halted, halt_abort, halt_replied, halt_tie}
-use Rattle.laws_agreement.specs.Runs.{IsHalting, IsHaltingOn}
-use Rattle.laws_agreement.specs.Stages.{near_link}
 use Rattle.laws_agreement.proofs.Chunks.{both_empty}
-use Rattle.laws_agreement.proofs.OverRunning.{over_lead}
-use Rattle.laws_agreement.proofs.PeekServed.{near_at}
-use Rattle.laws_agreement.proofs.PeekTakes.{dropped}
 use Rattle.laws_drivers.specs.control.Alone.{ClientIsCalm}
 use Rattle.laws_drivers.specs.control.Between.{Between, Has_lost}
-use Rattle.laws_drivers.proofs.control.Taken.{taken}
-use Rattle.laws_drivers.proofs.control.Worlds.{LeadsOn, leads_none, leads_then}
-use Rattle.laws_drivers.specs.world.Ahead.{is_asked, is_open}
+use Rattle.laws_drivers.specs.world.Ahead.{is_open}
 use Rattle.laws_drivers.specs.world.Unaborted.{is_unaborted}
-use Rattle.laws_drivers.proofs.world.Moves.{Rested, ends, near_takes}
-use Rattle.laws_drivers.proofs.world.Served.{rests, settled}
-use Rattle.laws_drivers.proofs.events.FarForms.{given_none, told_passive}
-use Rattle.laws_drivers.proofs.events.Holding.{both, is_called, is_false, is_had, unclosed}
-use Rattle.laws_drivers.proofs.events.NearForms.{Taking, end_closing, taking_of, taking_same, wants_rest}
+use Rattle.laws_drivers.proofs.events.FarForms.{told_passive}
+use Rattle.laws_drivers.proofs.events.Holding.{both, is_called, is_false, is_had}
+use Rattle.laws_drivers.proofs.events.NearForms.{taking_of}
 use Rattle.laws_drivers.proofs.events.Stands.{ClientFetches, ServerServes, wants_port}
-use Rattle.laws_transfers.specs.Ahead.{Ahead, Level, Listened, Listens, Opens, Parted}
-use Rattle.laws_transfers.proofs.Beside.{Goes, Together, rested}
-use Rattle.laws_transfers.proofs.Broke.{with_view}
+use Rattle.laws_transfers.specs.Ahead.{Ahead, Level, Listens, Opens, Parted}
+use Rattle.laws_transfers.proofs.Aborted as ends
+use Rattle.laws_transfers.proofs.Aborted.{aborted_ends}
+use Rattle.laws_transfers.proofs.Beside.{Together, is_taking}
 use Rattle.laws_transfers.proofs.ClientTaking.{taking_is}
-use Rattle.laws_transfers.proofs.EitherEnd.{AreAlike, carried_alike, ending_in}
-use Rattle.laws_transfers.proofs.Known.{AreCarried, Known, is_near_held}
-use Rattle.laws_transfers.proofs.Running.{aborted_halts, ends_sound}
-use Rattle.laws_transfers.proofs.Settling.{NearSettles, near_settles}
-
--- a Peek that sent ABOR has begun
-halt_begun : (halt : Halt) → has_begun (halt_replied halt) ≡ true
-halt_begun (Gives octet more) = refl
-halt_begun (Gave whole true asked gap) = refl
-halt_begun (Gave whole false asked gap) = refl
-halt_begun (Halted whole left) = refl
+use Rattle.laws_transfers.proofs.Known.{AreCarried, Known}
 
 -- nothing goes to the client any more, which was told of the break
 abbrev pub with_none : Between → Between
 with_none between = record between { data_ways = record between.data_ways { to_client = [] }; near = Has_lost }
+
+-- octets of one that broke are not taken
+broken_takes : (channel : Channel) → is_taking (with_fate Broken channel) ≡ false
+broken_takes channel = by channel.stands
+  where
+    by : (stands : Bool) → (stands && false) ≡ false
+    by true = refl
+    by false = refl
 
 module _ (read : Reading) (reads : IsReading read) (from : State) (begun : List Order) (puts : AreCarried begun) (server : Stand server_side)
     (old new : Stand client_side) (reports : List Said) (w : World) (calm : ClientIsCalm old.owner new.owner) (serves : ServerServes server.owner)
@@ -73,111 +53,18 @@ module _ (read : Reading) (reads : IsReading read) (from : State) (begun : List 
   abbrev v : Near
   v = old.owner.end.view
 
-  abbrev u : Near
-  u = new.owner.end.view
-
   abbrev x : Far
   x = server.owner.end.server.view
 
-  -- a world where all that was on its way to the client is dropped
-  record Drained : Type 0 where
-    world : World
-    leads : LeadsOn read [] w world
-    near : world.near ≡ w.near
-    far : world.far ≡ w.far
-    to_server : world.control_to_server ≡ w.control_to_server
-    to_client : world.control_to_client ≡ w.control_to_client
-    falling : world.data_to_client ≡ []
-    listens : world.listens ≡ w.listens
-    said : world.reports ≡ w.reports
-    control : world.control ≡ w.control
-    marks : world.marks ≡ w.marks
-    cutoff : world.cutoff ≡ w.cutoff
-    link : world.link ≡ w.link
-
-  -- it is told of the end there, as this client
-  pub record Breaks (between : Between) (told : ℕ) : Type 0 where
-    pub goes : Goes read [] begun (with_none between) told server (with_view (data_end v) new) (reports ++ []) w
-    pub sound : is_sound (data_end v).standing ≡ true
-    pub alike : AreAlike u (data_end v)
+  -- a world's is told of the end there, as this client
+  abbrev pub Breaks : (between : Between) (told : ℕ) → Type 0
+  Breaks between told = ends.Breaks read reads from begun puts server old new reports w serves before portless known runs (with_none between) told
 
   module _ (moment : ℕ) (ahead : Ahead) (between : Between) (told : ℕ) (t : Together read begun moment ahead between told server old reports w)
       (did : Calls {side = client_side} Break old new) (aborted : is_unaborted v.job ≡ false) (wants : near.wants v ≡ Want.Receive)
       (untold : old.owner.channel.untold ≡ []) (unheld : is_had between.far ≡ false) (uncalled : is_called between.far ≡ false) where
-    taking : Taking v
-    taking = taking_of v wants
-
-    near_is : w.near ≡ v
-    near_is = taking_is read begun moment ahead between told server old reports w t taking
-
-    is : u ≡ data_fault v
-    is = did.0.0.0.0 calm
-
     channel : new.owner.channel ≡ with_fate Broken old.owner.channel
     channel = did.0.1
-
-    -- ---- the client
-
-    halts : IsHaltingOn from begun w
-    halts = aborted_halts read reads from begun puts w runs t.beside.control t.beside.unready (ap (λ (n : Near). is_unaborted n.job) near_is ∙ aborted)
-        (ap near.wants near_is ∙ wants)
-
-    abbrev peek : IsHalting from begun w
-    peek = halts.halting
-
-    abbrev a : AtHalt peek.now peek.ask peek.own w
-    a = peek.stands
-
-    abbrev op : Op (List ℕ)
-    op = peek.ask.op
-
-    abbrev transfer : Transfer
-    transfer = record { replied = halt_replied a.halt; abort = halt_abort a.halt; flow = flow_after peek.ask.settings a.came }
-
-    form : v ≡ busy (Transferring op transfer) NearData.Open v
-    form =
-        ap (λ c. record v { connection = c }) taking.connection
-        ∙ ap (λ (n : Near). record n { connection = NearData.Open })
-        (subst (λ (n : Near). n ≡ busy (Transferring op transfer) (near_link (halt_tie a.halt)) n) near_is
-        (near_at peek.now peek.ask peek.own a.base w a.cuts a.is _ _ a.here.near))
-
-    sent : is_unsent (halt_abort a.halt) ≡ false
-    sent = sym (ap (λ (n : Near). is_unaborted n.job) form) ∙ aborted
-
-    abbrev base : Near
-    base = record v { run = None; closing = false }
-
-    fault_is : u ≡ carries_on (ending_in Endings.Broken op transfer base)
-    unfolding data_fault
-    fault_is = is ∙ ap data_fault form
-
-    end_is : data_end v ≡ carries_on (ending_in Endings.Clean op transfer base)
-    unfolding data_end
-    end_is = ap data_end form
-
-    alike : AreAlike u (data_end v)
-    alike = subst (λ n. AreAlike n (data_end v)) (sym fault_is)
-        (subst (AreAlike (carries_on (ending_in Endings.Broken op transfer base))) (sym end_is) (carried_alike op transfer base sent (halt_begun a.halt)))
-
-    -- it drops all that comes
-    drops : (octets : List ℕ) → receives w.near octets ≡ w.near
-    drops octets =
-        ap (λ n. receives n octets) (near_is ∙ form)
-        ∙ dropped peek.now peek.ask v (halt_replied a.halt) (halt_abort a.halt) sent a.came octets v.ear v.gathered v.owed ∙ sym form ∙ sym near_is
-
-    takes : near.may_receive w.near ≡ true
-    takes = ap near.may_receive (near_is ∙ form)
-
-    r : Rested w
-    r = rested moment ahead between told server old reports w t.beside serves before
-
-    same : data_closed (taken v) ≡ v
-    same = ap data_closed (taking_same v taking) ∙ unclosed v taking.closing
-
-    none_said : option_to_list (report_of v) ≡ []
-    none_said = ap (λ j. option_to_list (near.report_of_job j)) taking.job
-
-    -- ---- the server
 
     shut : is_open x.session.connection ≡ false
     shut = is_false (is_open x.session.connection) (λ e. both (t.holds.had e) unheld)
@@ -190,7 +77,7 @@ module _ (read : Reading) (reads : IsReading read) (from : State) (begun : List 
     shut_there (Parted accepted) t = ap (λ (f : Far). is_open f.session.connection) t.beside.far
 
     link : w.link ≡ ClosedByFar
-    link = known.down (ap near.wants near_is ∙ wants) (shut_there ahead t)
+    link = known.down (ap near.wants (taking_is read begun moment ahead between told server old reports w t (taking_of v wants)) ∙ wants) (shut_there ahead t)
 
     none_rises : w.data_to_server ≡ []
     none_rises = known.still (known.left (ap is_closed_by_far link))
@@ -200,145 +87,8 @@ module _ (read : Reading) (reads : IsReading read) (from : State) (begun : List 
         let rest = (both_empty server.owner.channel.untold (between.data_ways.to_server ++ old.owner.channel.unwritten) (sym t.beside.rising ∙ none_rises)).1 in
         ap (λ (l : Channel). l.unwritten) channel ∙ (both_empty between.data_ways.to_server old.owner.channel.unwritten rest).1
 
-    -- ---- all comes
-
-    drained : (queue : List ℕ) → w.data_to_client ≡ queue → Drained
-    drained [] none = record {
-      world = w;
-      leads = leads_none read w;
-      near = refl;
-      far = refl;
-      to_server = refl;
-      to_client = refl;
-      falling = none;
-      listens = refl;
-      said = refl;
-      control = refl;
-      marks = refl;
-      cutoff = refl;
-      link = refl;
-    }
-    drained (octet ∷ more) some =
-        let all : List ℕ = octet ∷ more in
-        let now : World =
-        record w { near = receives w.near all; data_to_client = []; came = (pushed read DataToClient (length all) w).came; taken = all } in
-        let open_now : (receives w.near all).closing ≡ false = ap (λ (n : Near). n.closing) (drops all ∙ near_is) ∙ taking.closing in
-        let may : (k : ℕ) → k < length all → near.may_receive (receives w.near (take k w.data_to_client)) ≡ true =
-        λ k less. ap near.may_receive (drops (take k w.data_to_client)) ∙ takes in
-        let quiet : rests (near.wants (data_closed (receives w.near all))) ≡ true =
-        ap (λ n. rests (near.wants (data_closed n))) (drops all ∙ near_is) ∙ wants_rest (data_closed v) before.sound before.dials refl in
-        let s : NearSettles now (settled now) =
-        near_settles now r.far_open r.none_asked (λ e. known.still (known.left e)) (λ e. absurd (both e open_now)) in
-        record {
-          world = settled now;
-          leads = near_takes read octet more [] w r (some ∙ sym (append-nil all)) may quiet (pushed read DataToClient (length all) w).came refl;
-          near = s.near ∙ ap (λ n. data_closed (taken n)) (drops all ∙ near_is) ∙ same ∙ sym near_is;
-          far = s.far;
-          to_server = s.same.to_server;
-          to_client = s.same.to_client;
-          falling = s.same.falling;
-          listens = s.same.listens;
-          said = s.reports ∙ ap (λ n. w.reports ++ option_to_list (report_of n)) (drops all ∙ near_is) ∙ ap (λ o. w.reports ++ o) none_said
-              ∙ append-nil w.reports;
-          control = s.same.control;
-          marks = s.same.marks;
-          cutoff = s.same.cutoff;
-          link = s.stays open_now;
-        }
-
-    -- ---- the end is told
-
-    d : Drained
-    d = drained w.data_to_client refl
-
-    d_link : d.world.link ≡ ClosedByFar
-    d_link = d.link ∙ link
-
-    again : Rested d.world
-    again = record {
-      near_rests = ap (λ n. rests (near.wants n)) d.near ∙ r.near_rests;
-      near_open = ap (λ (n : Near). n.closing) d.near ∙ r.near_open;
-      none = ap report_of d.near ∙ r.none;
-      runs = record { running = ap (λ (f : Far). f.session.life) d.far ∙ r.runs.running; none_waits = ap (λ (f : Far). f.waiting) d.far ∙ r.runs.none_waits };
-      far_open = ap (λ (f : Far). f.session.closing) d.far ∙ r.far_open;
-      none_asked = ap (λ (f : Far). is_asked f.session.connection) d.far ∙ r.none_asked;
-    }
-
-    ended : data_end d.world.near ≡ data_end v
-    ended = ap data_end (d.near ∙ near_is)
-
-    sound : is_sound (data_end v).standing ≡ true
-    sound =
-        ap (λ (n : Near). is_sound n.standing) (sym ended)
-        ∙ ends_sound read reads from begun puts d.world
-        (subst (λ l. OverRuns read from l d.world) (append-nil begun)
-        (over_lead read reads from begun d.leads.events [] w d.world d.leads.timed runs d.leads.leads))
-        (λ e. absurd (true≢false (sym e ∙ ap is_closed_by_near d_link))) (ap is_closed_by_far d_link) d.falling
-
-    closing : (data_end v).closing ≡ false
-    closing = end_closing v taking
-
-    abbrev over : World
-    over = gone (record d.world { near = data_end d.world.near; taken = [] })
-
-    s : NearSettles over (settled over)
-    s =
-        near_settles over again.far_open again.none_asked (λ e. absurd (true≢false (sym e)))
-        (λ e. absurd (both e (ap (λ (n : Near). n.closing) ended ∙ closing)))
-
-    link_then : (settled over).link ≡ Gone
-    link_then = s.stays (ap (λ (n : Near). n.closing) ended ∙ closing)
-
-    untold_then : new.owner.channel.untold ≡ []
-    untold_then = ap (λ (l : Channel). l.untold) channel ∙ untold
-
     pub client_breaks : Breaks between told
     client_breaks =
-        let b = t.beside in
-        let give : far.to_give d.world.far ≡ [] =
-        ap far.to_give d.far
-        ∙ ap (λ c. far.given_by (if c then Data.Free else w.far.session.connection)) r.far_open ∙ given_none w.far.session.connection (shut_there ahead t) in
-        record {
-          goes = record {
-            world = settled over;
-            leads = leads_then read [] [] w d.world (settled over) d.leads
-                (ends read d.world again d_link d.falling give
-                (ap (λ n. rests (near.wants (data_closed n))) ended
-                ∙ wants_rest (data_closed (data_end v)) sound portless refl));
-            moment = moment;
-            ahead = ahead;
-            marked = s.same.marks ∙ d.marks;
-            together = record {
-              beside = record {
-                fits = b.fits;
-                near = s.near ∙ ap (λ n. data_closed (taken n)) ended;
-                far = s.far ∙ d.far ∙ b.far;
-                to_server = s.same.to_server ∙ d.to_server ∙ b.to_server;
-                to_client = s.same.to_client ∙ d.to_client ∙ b.to_client
-                    ∙ ap (λ (y : Stand client_side). y.unheard ++ between.control.to_client) (sym did.1);
-                rising = s.same.rising ∙ sym none_rises ∙ b.rising
-                    ∙ ap (λ (l : Channel). server.owner.channel.untold ++ (between.data_ways.to_server ++ l.unwritten)) (sym channel);
-                falling = λ e. s.same.falling ∙ ap₂ (λ a o. a ++ ([] ++ o)) (sym untold_then) (sym (t.serves.spare unheld));
-                listens = subst (Listened ahead told) (sym (s.same.listens ∙ d.listens)) b.listens;
-                reported = s.reports
-                    ∙ ap₂ (λ r n. r ++ option_to_list (report_of n)) (d.said ∙ b.reported ∙ ap (λ o. reports ++ o) none_said) ended;
-                control = s.same.control ∙ d.control ∙ b.control;
-                unready = λ e. absurd (true≢false (sym e ∙ ap is_closed_by_near link_then));
-                cutoff = s.same.cutoff ∙ d.cutoff ∙ b.cutoff;
-              };
-              holds = t.holds;
-              comes = t.comes;
-              serves = t.serves;
-              takes = record { bare = λ e. untold_then };
-              gives = record { spare = λ e. unwritten; bare = λ e. unwritten };
-              keeping = record {
-                had = λ e. absurd (true≢false (sym e ∙ ap is_near_held link_then));
-                shut = λ e. absurd (both e closing);
-                over = λ e. ap is_near_held link_then;
-              };
-              twin = λ e. absurd (true≢false (sym (ap is_closed_by_far link) ∙ ap is_closed_by_far (t.twin e).link));
-            };
-          };
-          sound = sound;
-          alike = alike;
-        }
+        aborted_ends read reads from begun puts server old new reports w serves before portless known runs moment ahead between (with_none between) told t
+        (did.0.0.0.0 calm) (ap (λ (y : Stand client_side). y.unheard) did.1) refl refl refl (ap is_taking channel ∙ broken_takes old.owner.channel)
+        (record { bare = λ e. ap (λ (l : Channel). l.untold) channel ∙ untold }) unwritten (shut_there ahead t) aborted wants

@@ -34,6 +34,7 @@ pub mod Ending
 pub mod ServerGiving
 pub mod ClientTaking
 pub mod ClientTold
+pub mod Aborted
 pub mod ClientBroken
 pub mod Resting
 pub mod Quitting

@@ -41,7 +41,8 @@ use Rattle.laws_transfers.proofs.Lost.{is_lost}
 use Rattle.laws_transfers.proofs.Running.{aborted_halts}
 use Rattle.laws_breaks.specs.downloads.Actions.{ClientSuffers, Marks}
 use Rattle.laws_breaks.specs.downloads.Claims.{ReportAlike}
-use Rattle.laws_breaks.proofs.downloads.Aborted.{Waits, aborted_ends, halt_waits}
+use Rattle.laws_transfers.proofs.Aborted.{aborted_ends}
+use Rattle.laws_breaks.proofs.downloads.Aborted.{Waits, halt_waits}
 use Rattle.laws_breaks.proofs.downloads.Laden.{Awaiting, Laden, awaiting_laden, awaiting_says, laden_alike, laden_busy, laden_closed, laden_none, laden_reports, laden_rests, laden_wants}
 use Rattle.laws_breaks.proofs.downloads.Lagging.{Leftover, OfMarks, Then, Whole, beside, dry_shut, is_failed, left_over, leftover_as, unbroken, viewed}
 use Rattle.laws_breaks.proofs.downloads.Unsent.{Unsent, unsent_kept}
