@@ -49,7 +49,8 @@ leaves_so (action ∷ before) start now led leaves = (leaves_so before start led
 
 -- they keep the map
 finals_keep : (read : Reading) → IsReading read → (table : Table) (actions : List (Action server_side)) (start now : Stand server_side)
-    (led : Led actions start now) → LeavesAlong actions start now led → (old last : Between) → HappenedAlone actions old last → Quits table start old → Quits table now last
+    (led : Led actions start now) → LeavesAlong actions start now led → (old last : Between) → HappenedAlone actions old last
+    → Quits table start old → Quits table now last
 finals_keep read reads table actions start now led leaves old last happened quits =
     let q : AtQuit read reads (length actions) actions start now old last =
     at_quit read reads (length actions) actions start now led (leaves_so actions start now led leaves) old last
