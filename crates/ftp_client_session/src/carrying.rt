@@ -18,10 +18,13 @@ impl<A: Allocator + Copy, F: ClientTransfer<A>> Dialogue<A, F> {
 
     /// What follows of where a transfer stands. It takes memory only for an ABOR, the answer of a download, and the next operation of a run.
     pub fn carry_on(&mut self) -> Result<(), AllocError>
+        // Witness of ok, err: equations; `edits/done_before_the_links_end`.
         ensures ok { OnOk result (view_of F.flow self.new ≡ carries_on (view_of F.flow self.old)) }
         ensures err { OnErr result (shorted (view_of F.flow self.new) ≡ shorted (view_of F.flow self.old)) }
+        // Witness of sound, was: `now` of `Client::data_out`.
         ensures sound { OnErr result (IsTrue (is_sound (view_of F.flow self.new).standing)) }
         ensures was { OnErr result (IsTrue (is_sound (view_of F.flow self.old).standing)) }
+        // Witness of grows: `spare` of `Client::data_out`; `edits/an_answer_needs_memory_where_nothing_follows`.
         ensures grows { OnErr result (IsTrue (carrying_grows (view_of F.flow self.old))) }
     {
         self.close_once_given();

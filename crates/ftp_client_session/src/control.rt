@@ -69,8 +69,10 @@ impl<A: Allocator + Copy, F: ClientTransfer<A>> Dialogue<A, F> {
 
     /// Gives octets of the control connection, and says how many.
     pub fn control_out(&mut self, room: &mut [u8]) -> usize
+        // Witness of within, gave, some, most: bounds, and equations.
         ensures within { (result ≤ length room.old) × (result ≤ length (view_of F.flow self.old).owed) }
         ensures gave { take result room.new ≡ take result (view_of F.flow self.old).owed }
+        // Witness of now: equations; `edits/upload_octets_are_given_before_the_1yz`.
         ensures now { view_of F.flow self.new ≡ gives_control result (view_of F.flow self.old) }
         ensures some { 0 < length room.old → 0 < length (view_of F.flow self.old).owed → 0 < result }
 
@@ -104,6 +106,7 @@ impl<A: Allocator + Copy, F: ClientTransfer<A>> Dialogue<A, F> {
     /// How far the operation that was begun last has come.
     pub fn place(&self) -> &Task<A, F>
         ensures place { result.now ≡ self.now.place }
+        // Witness of calm: `job_answered` of `replies`, which needs it at each step.
         ensures calm { IsTrue (is_under_way result.now) → IsTrue (is_sound (view_of F.flow self.now).standing) }
     {
         &self.place

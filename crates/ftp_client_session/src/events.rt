@@ -22,7 +22,9 @@ pub fn listening<A: Allocator + Copy, F: ClientTransfer<A>>(
     dialogue: &mut Dialogue<A, F>,
     port: u16,
 ) -> Result<(), AllocError>
+    // Witness of ok, err: equations; `edits/a_link_from_another_host_is_kept`, `edits/a_refused_link_is_not_closed`.
     ensures ok { OnOk result (view_of F.flow dialogue.new ≡ listening port (view_of F.flow dialogue.old)) }
+    // Witness of wanted, open: the lone clause of `Client::listening`.
     ensures wanted { OnErr result ((view_of F.flow dialogue.old).connection ≡ ClientLink.ListenWanted) }
     ensures open { OnErr result ((view_of F.flow dialogue.old).closing ≡ false) }
     ensures err { OnErr result (view_of F.flow dialogue.new ≡ record (view_of F.flow dialogue.old) { connection = Data.Listening port }) }
@@ -45,6 +47,7 @@ pub fn listening<A: Allocator + Copy, F: ClientTransfer<A>>(
 pub fn listen_refused<A: Allocator + Copy, F: ClientTransfer<A>>(
     dialogue: &mut Dialogue<A, F>,
 ) -> Result<(), AllocError>
+    // Witness: as of `listening`.
     ensures ok { OnOk result (view_of F.flow dialogue.new ≡ listen_refused (view_of F.flow dialogue.old)) }
     ensures err { OnErr result (short (view_of F.flow dialogue.new) ≡ listen_refused_short (view_of F.flow dialogue.old)) }
 {
@@ -63,6 +66,7 @@ pub fn data_opened<A: Allocator + Copy, F: ClientTransfer<A>>(
     dialogue: &mut Dialogue<A, F>,
     host: Host,
 ) -> Result<(), AllocError>
+    // Witness: as of `listening`.
     ensures ok { OnOk result (view_of F.flow dialogue.new ≡ data_opened host (view_of F.flow dialogue.old)) }
     ensures err { OnErr result (short (view_of F.flow dialogue.new) ≡ data_opened_short (view_of F.flow dialogue.old)) }
 {
@@ -83,6 +87,7 @@ pub fn data_opened<A: Allocator + Copy, F: ClientTransfer<A>>(
 pub fn data_fault<A: Allocator + Copy, F: ClientTransfer<A>>(
     dialogue: &mut Dialogue<A, F>,
 ) -> Result<(), AllocError>
+    // Witness: as of `listening`.
     ensures ok { OnOk result (view_of F.flow dialogue.new ≡ data_fault (view_of F.flow dialogue.old)) }
     ensures err { OnErr result (short (view_of F.flow dialogue.new) ≡ data_fault_short (view_of F.flow dialogue.old)) }
 {
@@ -100,6 +105,7 @@ pub fn data_fault<A: Allocator + Copy, F: ClientTransfer<A>>(
 pub fn data_end<A: Allocator + Copy, F: ClientTransfer<A>>(
     dialogue: &mut Dialogue<A, F>,
 ) -> Result<(), AllocError>
+    // Witness: as of `listening`.
     ensures ok { OnOk result (view_of F.flow dialogue.new ≡ data_end (view_of F.flow dialogue.old)) }
     ensures err { OnErr result (short (view_of F.flow dialogue.new) ≡ data_end_short (view_of F.flow dialogue.old)) }
 {
@@ -118,6 +124,7 @@ pub fn data_end<A: Allocator + Copy, F: ClientTransfer<A>>(
 pub fn data_refused<A: Allocator + Copy, F: ClientTransfer<A>>(
     dialogue: &mut Dialogue<A, F>,
 ) -> Result<(), AllocError>
+    // Witness: as of `listening`.
     ensures ok { OnOk result (view_of F.flow dialogue.new ≡ data_refused (view_of F.flow dialogue.old)) }
     ensures err { OnErr result (short (view_of F.flow dialogue.new) ≡ data_refused_short (view_of F.flow dialogue.old)) }
 {

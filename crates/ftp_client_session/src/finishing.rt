@@ -37,8 +37,11 @@ impl<A: Allocator + Copy, F: ClientTransfer<A>> Dialogue<A, F> {
     pub fn finish(&mut self, answer: Answer<A>) -> Result<(), AllocError>
         ensures ok { OnOk result (view_of F.flow self.new ≡ finishes (said_of answer) (view_of F.flow self.old)) }
         ensures err { OnErr result (shorted (view_of F.flow self.new) ≡ shorted (view_of F.flow self.old)) }
+        // Witness of sound: `sound` of `hear_octet`.
         ensures sound { OnErr result (IsTrue (is_sound self.new.standing)) }
+        // Witness of was: `err` of `listen_refused`.
         ensures was { OnErr result (IsTrue (is_sound self.old.standing)) }
+        // Witness of followed: `grows` of `carry_on`.
         ensures followed { OnErr result (IsTrue (is_some (next_with (view_of F.flow self.old).run self.old.op (said_of answer)))) }
     {
         match &self.place {
@@ -170,6 +173,7 @@ impl<A: Allocator + Copy, F: ClientTransfer<A>> Dialogue<A, F> {
     /// The control connection ended: the client has failed for good. Hands out what came of a transfer under way, as its answer would have it where
     /// it was cut: of a download of a file. Takes no memory.
     pub fn lose(&mut self) -> Option<Text<A>>
+        // Witness: equations; `edits/a_lost_connection_is_told_as_want_of_memory`.
         ensures lost { view_of F.flow self.new ≡ fails Failures.Lost (view_of F.flow self.old) }
         ensures came { result ≡ came_of (view_of F.flow self.old).job }
     {

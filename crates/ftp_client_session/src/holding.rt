@@ -39,7 +39,9 @@ impl<A: Allocator + Copy, F: ClientTransfer<A>> Dialogue<A, F> {
 impl<A: Allocator + Copy, F: CountedTransfer<A>> Dialogue<A, F> {
     /// What its transfer stores; nothing where none is under way.
     pub fn stored_len(&self) -> usize
+        // Witness of sum: an equation, with what the impl of `CountedTransfer` says by its fields.
         ensures sum { result ≡ stored_in F.stored self.now.place }
+        // Witness of few: `Client::held` of `ftp_client` needs it.
         ensures few { result ≤ stored_limit }
     {
         match &self.place {

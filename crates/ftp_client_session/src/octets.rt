@@ -35,8 +35,10 @@ impl<A: Allocator + Copy, F: ClientTransfer<A>> Dialogue<A, F> {
     /// Takes octets of a download, all of them; none where none may be taken. `Err` says behind how many of them memory was refused.
     pub fn receive(&mut self, piece: &[u8]) -> Result<(), usize>
         ensures ok { may_receive (view_of F.flow self.old) ≡ true → OnOk result (view_of F.flow self.new ≡ receives (view_of F.flow self.old) piece.now) }
+        // Witness of none: an equation: where no octet may be taken nothing changes.
         ensures none { may_receive (view_of F.flow self.old) ≡ false → view_of F.flow self.new ≡ view_of F.flow self.old }
         ensures err { OnErr result (shorted (view_of F.flow self.new) ≡ shorted (view_of F.flow self.old)) }
+        // Witness of within, sound, was: `took` of `Client::data_hear`.
         ensures within { IfErr result (λ count. count < length piece.now) }
         ensures sound { OnErr result (IsTrue (is_sound (view_of F.flow self.new).standing)) }
         ensures was { OnErr result (IsTrue (is_sound (view_of F.flow self.old).standing)) }
@@ -93,8 +95,10 @@ impl<A: Allocator + Copy, F: ClientTransfer<A>> Dialogue<A, F> {
 
     /// Gives octets of an upload, and says how many.
     pub fn give(&mut self, room: &mut [u8]) -> usize
+        // Witness of within, gave, some, most: bounds, and equations.
         ensures within { (result ≤ length room.old) × (result ≤ length (to_give (view_of F.flow self.old))) }
         ensures gave { take result room.new ≡ take result (to_give (view_of F.flow self.old)) }
+        // Witness of now: equations; `edits/upload_octets_are_given_before_the_1yz`.
         ensures now { view_of F.flow self.new ≡ record (view_of F.flow self.old) { job = job_went result (view_of F.flow self.old).job } }
         ensures some { 0 < length room.old → 0 < length (to_give (view_of F.flow self.old)) → 0 < result }
 

@@ -27,10 +27,14 @@ pub fn hear_octet<A: Allocator + Copy, F: ClientTransfer<A>>(
     octet: u8,
     last: &mut LastLine,
 ) -> Result<(), AllocError>
+    // Witness of ok, err: equations; `edits/another_host_is_contacted`.
     ensures ok { IsTrue (is_sound (view_of F.flow dialogue.old).standing) → OnOk result (view_of F.flow dialogue.new ≡ hears_octet (view_of F.flow dialogue.old) octet) }
+    // Witness of failed: an equation: a client that has failed hears nothing.
     ensures failed { is_sound (view_of F.flow dialogue.old).standing ≡ false → view_of F.flow dialogue.new ≡ view_of F.flow dialogue.old }
     ensures err { OnErr result (shorted (view_of F.flow dialogue.new) ≡ shorted (view_of F.flow dialogue.old)) }
+    // Witness of sound: `took` of `Client::hear`.
     ensures sound { OnErr result (IsTrue (is_sound (view_of F.flow dialogue.new).standing)) }
+    // Witness of told: an equation, of the line that was said last.
     ensures told { IsTrue (is_sound (view_of F.flow dialogue.old).standing) → last.new ≡ line_with (view_of F.flow dialogue.old).ear octet last.old }
 {
     if let Standing::Failed(_) = dialogue.standing() {

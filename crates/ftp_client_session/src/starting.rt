@@ -67,6 +67,7 @@ impl<A: Allocator + Copy, F: ClientTransfer<A>> Dialogue<A, F> {
     #[tactic(auto, unfolding(ftp_client_model::specs::Calls::starts))]
     pub fn start(&mut self, op: Op<Text<A>>) -> Result<(), AllocError>
         ensures ok { OnOk result (view_of F.flow self.new ≡ starts op (view_of F.flow self.old)) }
+        // Witness of sent: `begun` of `Client::start` and `upload`: an operation that is answered without its server is never short of memory.
         ensures sent { OnErr result (can_be_sent op && is_sound (view_of F.flow self.old).standing ≡ true) }
         ensures err { OnErr result (short (view_of F.flow self.new) ≡ short (record (view_of F.flow self.old) { job = Waiting op; run = None })) }
     {
@@ -87,6 +88,7 @@ impl<A: Allocator + Copy, F: ClientTransfer<A>> Dialogue<A, F> {
     #[tactic(auto, unfolding(ftp_client_model::specs::Calls::uploads))]
     pub fn upload(&mut self, path: Text<A>, octets: Text<A>, how: How) -> Result<(), AllocError>
         ensures ok { OnOk result (view_of F.flow self.new ≡ uploads (over_breaks path octets how) (view_of F.flow self.old)) }
+        // Witness of sent: as of `start`.
         ensures sent { OnErr result (can_be_sent (first_try (over_breaks path octets how)) && is_sound (view_of F.flow self.old).standing ≡ true) }
         ensures err { OnErr result (short (view_of F.flow self.new)
             ≡ short (record (view_of F.flow self.old) { job = Waiting (first_try (over_breaks path octets how)); run = Some (run_of (over_breaks path octets how)) })) }
@@ -154,6 +156,7 @@ impl<A: Allocator + Copy, F: ClientTransfer<A>> Dialogue<A, F> {
 
     /// The answer that stands, which is taken by it.
     pub fn report(&mut self) -> Option<Answer<A>>
+        // Witness: equations; `edits/a_report_is_followed_by_another`.
         ensures answer { option_map said_of result ≡ report_of (view_of F.flow self.old) }
         ensures taken { view_of F.flow self.new ≡ reports (view_of F.flow self.old) }
     {

@@ -63,8 +63,10 @@ impl<A: Allocator + Copy, F: ClientTransfer<A>> Task<A, F> {
 
     /// Gives octets of an upload, and says how many.
     pub(crate) fn give(&mut self, op: &Op<Text<A>>, room: &mut [u8]) -> usize
+        // Witness of within, gave, some, most: bounds, and equations.
         ensures within { (result ≤ length room.old) × (result ≤ length (job_left (job_of F.flow op.now self.old))) }
         ensures gave { take result room.new ≡ take result (job_left (job_of F.flow op.now self.old)) }
+        // Witness of now: equations; `edits/upload_octets_are_given_before_the_1yz`.
         ensures now { job_of F.flow op.now self.new ≡ job_went result (job_of F.flow op.now self.old) }
         ensures some { 0 < length room.old → 0 < length (job_left (job_of F.flow op.now self.old)) → 0 < result }
         ensures most { result ≡ min (length room.old) (length (job_left (job_of F.flow op.now self.old))) }

@@ -19,6 +19,7 @@ impl<A: Allocator + Copy, F: ClientTransfer<A>> Dialogue<A, F> {
     pub fn transfer_opened(&mut self, code: u16) -> Result<(), AllocError>
         ensures ok { OnOk result (view_of F.flow self.new ≡ in_transfer (transfer_opened code) (view_of F.flow self.old)) }
         ensures err { OnErr result (shorted (view_of F.flow self.new) ≡ shorted (view_of F.flow self.old)) }
+        // Witness of sound: `sound` of `hear_octet`.
         ensures sound { OnErr result (IsTrue (is_sound self.new.standing)) }
     {
         let Task::Transferring(_) = &self.place else {
@@ -43,6 +44,7 @@ impl<A: Allocator + Copy, F: ClientTransfer<A>> Dialogue<A, F> {
         ensures ok { OnOk result (view_of F.flow self.new ≡ in_transfer (λ op transfer v.
             abort_answered transfer.abort (verdict_in verdict) op transfer v) (view_of F.flow self.old)) }
         ensures err { OnErr result (shorted (view_of F.flow self.new) ≡ shorted (view_of F.flow self.old)) }
+        // Witness of sound: `sound` of `hear_octet`.
         ensures sound { OnErr result (IsTrue (is_sound self.new.standing)) }
     {
         let Task::Transferring(transfer) = &mut self.place else {
@@ -62,6 +64,7 @@ impl<A: Allocator + Copy, F: ClientTransfer<A>> Dialogue<A, F> {
     pub fn with_reply(&mut self, replied: Replied) -> Result<(), AllocError>
         ensures ok { OnOk result (view_of F.flow self.new ≡ in_transfer (with_reply replied) (view_of F.flow self.old)) }
         ensures err { OnErr result (shorted (view_of F.flow self.new) ≡ shorted (view_of F.flow self.old)) }
+        // Witness of sound: `sound` of `hear_octet`.
         ensures sound { OnErr result (IsTrue (is_sound self.new.standing)) }
     {
         let Task::Transferring(transfer) = &mut self.place else {

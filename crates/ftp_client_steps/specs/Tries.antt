@@ -4,7 +4,7 @@ use Rattle.ftp_operation.specs.declared.op.Op.{Op}
 use Rattle.ftp_operation.specs.declared.op.Op.TheVariants as Ops
 use Rattle.ftp_client_model.specs.Tries.{OverBreaks, over_breaks}
 use Rattle.ftp_client_model.specs.Tries.{Run as Seen}
-use Rattle.ftp_client_steps.specs.declared.tries.Run.{Run}
+use Rattle.ftp_client_steps.specs.declared.upload_tries.Run.{Run}
 
 -- the octets that are lent to an operation: all those of a Put
 abbrev pub lent : Op (List ℕ) → List ℕ

@@ -15,6 +15,7 @@ pub fn own_command<A: Allocator + Copy>(
     op: &Op<Text<A>>,
     alloc: &A,
 ) -> Result<Command<Argument<A>>, AllocError>
+    // Witness: equations, of what is made where memory was not refused.
     ensures { IfOk result (λ command. command ≡ own_command op.now) }
 {
     let command = match op {
@@ -60,6 +61,7 @@ pub fn source_command<A: Allocator + Copy>(
     op: &Op<Text<A>>,
     alloc: &A,
 ) -> Result<Option<Command<Argument<A>>>, AllocError>
+    // Witness: equations, of what is made where memory was not refused.
     ensures { IfOk result (λ command. command ≡ source_command op.now) }
 {
     match op {

@@ -15,6 +15,8 @@ pub trait CountedTransfer<A: Allocator + Copy>: ClientTransfer<A> {
 
     /// So many octets, at most 8,216.
     fn stored_len(&self) -> usize
+        // Witness of sum: an equation, with the ghost member `stored` that each transfer says by its fields.
         ensures sum { result ≡ stored self.now }
+        // Witness of few: `Client::held` (`little`) needs it.
         ensures few { result ≤ stored_limit };
 }

@@ -22,7 +22,9 @@ pub fn judged<A: Allocator + Copy, F: ClientTransfer<A>>(
     flow: F,
     alloc: &A,
 ) -> Result<Option<Answer<A>>, AllocError>
+    // Witness of answer: an equation, of what is answered where memory was not refused; `edits/every_transfer_is_answered_broken`.
     ensures answer { IfOk result (λ answer. option_map said_of answer ≡ judged ending abort code op.now (F.flow op.now flow)) }
+    // Witness of down: only the answer of a download takes memory: `carry_on` of `ftp_client_session` needs it.
     ensures down { OnErr result (IsTrue (is_down (F.flow op.now flow))) }
 {
     if let Ending::Foreign = ending {

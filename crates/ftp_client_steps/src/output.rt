@@ -49,6 +49,7 @@ impl<A: Allocator + Copy> Output<A> {
     /// Gives octets, the first that are owed first, and says how many.
     pub fn give(&mut self, room: &mut [u8]) -> usize
         ensures count { result ≡ min (length room.old) (length self.old) }
+        // Witness of gave: bounds, and equations.
         ensures gave { room.new ≡ take result self.old ++ drop result room.old }
         ensures rest { self.new ≡ drop result self.old }
     {
@@ -64,6 +65,7 @@ impl<A: Allocator + Copy> Output<A> {
 
     /// Owes these octets as they are.
     pub fn put(&mut self, octets: &[u8]) -> Result<(), AllocError>
+        // Witness: equations, of what is left.
         ensures ok { OnOk result (self.new ≡ self.old ++ octets.now) }
         ensures err { OnErr result (self.new ≡ self.old) }
     {
@@ -82,6 +84,7 @@ impl<A: Allocator + Copy> Output<A> {
     ) -> Result<(), AllocError>
     where
         A: Copy,
+        // Witness: equations, of what is left.
         ensures ok { OnOk result (self.new ≡ self.old ++ written_line (line_of command.now)) }
         ensures err { OnErr result (self.new ≡ self.old) }
     {

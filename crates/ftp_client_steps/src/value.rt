@@ -20,6 +20,7 @@ pub fn answer_in<A: Allocator + Copy>(
     reply: &Reply<A>,
     alloc: &A,
 ) -> Result<Option<Answer<A>>, AllocError>
+    // Witness: equations, of what is answered where memory was not refused.
     ensures { IfOk result (λ answer. option_map said_of answer ≡ answer_in op.now reply.now.lines) }
 {
     match op {
@@ -91,6 +92,7 @@ fn entry_answer<A: Allocator + Copy>(
 /// The entry that a line says, if it says one (RFC 3659, section 7.2).
 #[tactic(auto, using(crate::proofs::EntryLemmas::says_none))]
 pub fn entry_in<A: Allocator + Copy>(line: &[u8], alloc: &A) -> Result<Option<Entry<A>>, AllocError>
+    // Witness: equations, of what is answered where memory was not refused.
     ensures { IfOk result (λ entry. option_map listed_of entry ≡ entry_value line.now) }
 {
     match read_entry(*alloc, line) {

@@ -21,7 +21,9 @@ pub fn read<A: Allocator + Copy>(
     alloc: A,
     line: &[u8],
 ) -> Result<Command<Argument<A>>, CommandFault>
+    // Witness of says, said: law `one_meaning`, command.
     ensures says { IfOk result (λ command. Says line.now command) }
+    // Witness of refuses, refused: equation; law `one_meaning`, apart and fault.
     ensures refuses { IfErr result (λ fault. (fault ≡ CommandFault.Memory) ⊎ Refuses line.now fault) }
     ensures refused { (fault : CommandFault) → Refuses line.now fault → result ≡ Err fault }
     ensures said { (command : Command (List ℕ)) → Says line.now command

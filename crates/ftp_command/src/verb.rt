@@ -176,6 +176,7 @@ impl VerbRow {
 impl Verb {
     /// The row of a verb.
     pub fn row(self) -> VerbRow
+        // Witness: equation; caller: `Verb::letters`.
         ensures letters { result.letters.now ≡ letters self }
         ensures older { result.older.now ≡ old_letters self }
         ensures role { result.role ≡ (row self).role }
@@ -228,6 +229,7 @@ impl Verb {
 
     /// The word that `write` gives.
     pub fn letters(self) -> &'static [u8]
+        // Witness: equation; caller: the private `line_of`, which has room for four letters.
         ensures text { result.now ≡ letters self }
         ensures short { length result.now ≤ 4 }
     {
@@ -236,6 +238,7 @@ impl Verb {
 
     /// Whether a word names this verb, in capitals or small letters.
     pub fn is_named(self, word: &[u8]) -> bool
+        // Witness: equation (a test, both ways).
         ensures { IsTrue result ↔ Names word.now self }
     {
         let row = self.row();
@@ -245,6 +248,7 @@ impl Verb {
 
 /// The verb that a word names.
 pub fn verb_of(word: &[u8]) -> Option<Verb>
+    // Witness: law `one_meaning`, verb.
     ensures some { IfSome result (λ verb. Names word.now verb) }
     ensures none { IfNone result ((verb : Verb) → ¬ Names word.now verb) }
 {

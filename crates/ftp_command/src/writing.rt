@@ -25,7 +25,9 @@ pub fn write<A: Allocator + Copy, B: Allocator + Copy>(
     command: &Command<Argument<A>>,
     out: &mut Vec<u8, B>,
 ) -> Result<(), CommandFault>
+    // Witness of ok: equation: what is appended is `line_of`.
     ensures ok { OnOk result (IsStated command.now × (out.new.items ≡ out.old.items ++ line_text command.now)) }
+    // Witness of refused, memory, kept: equation; laws `only_stated` and `round_trip`, carried: a command has a line just where it is stated.
     ensures refused { (¬ IsStated command.now) → result ≡ Err CommandFault.BadArgument }
     ensures memory { IsStated command.now → IfErr result (λ fault. fault ≡ CommandFault.Memory) }
     ensures kept { IfErr result (λ _. out.new.items ≡ out.old.items) }

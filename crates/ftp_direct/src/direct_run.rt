@@ -34,10 +34,13 @@ pub fn direct<A: Allocator + Copy, T: Tree<A>>(
     login: &Login<A>,
     list: &[(Op<Text<A>>, Moment)],
 ) -> Result<Vec<Answer<A>, A>, AllocError>
+    // Witness of answers: `direct_in_memory` of `rows_tree`, `answers`; `steady_run`.
     ensures answers { NoStray (T.failures tree.old) (T.failures tree.new) → IfOk result (λ answers. let account = login_account accounts.now login.now.user login.now.pass in
         Ran (T.failures tree.old).told (start (T.table tree.old) account) (orders_of list.now) (map said_of answers.items) (T.failures tree.new).told (T.table tree.new)) }
+    // Witness of begun: `direct_in_memory` of `rows_tree`, `begun`.
     ensures begun { NoStray (T.failures tree.old) (T.failures tree.new) → IfErr result (λ _. let account = login_account accounts.now login.now.user login.now.pass in
         (count : ℕ) × (said : List Said) × Ran (T.failures tree.old).told (start (T.table tree.old) account) (take count (orders_of list.now)) said (T.failures tree.new).told (T.table tree.new)) }
+    // Witness of strays: said of each call of a tree.
     ensures strays { (T.failures tree.old).strays ≤ (T.failures tree.new).strays }
 {
     let top = Path::root(*alloc);

@@ -19,7 +19,9 @@ pub fn put_file_line<A: Allocator + Copy>(
     moment: Moment,
     out: &mut Vec<u8, A>,
 ) -> Result<(), AllocError>
+    // Witness of line: equations, of what is left where memory was not refused.
     ensures line { OnOk result (out.new.items ≡ out.old.items ++ list_line (codes "-rw-r--r--") size moment.seconds name.now) }
+    // Witness of few: the ghost fields of `Listing` of `ftp_server_transfer` need it.
     ensures few { OnOk result (length out.new.items ≤ length out.old.items + (100 + length name.now)) }
 {
     out.extend_from_slice(b"-rw-r--r--")?;
@@ -32,7 +34,9 @@ pub fn put_dir_line<A: Allocator + Copy>(
     name: &[u8],
     out: &mut Vec<u8, A>,
 ) -> Result<(), AllocError>
+    // Witness of line: equations, of what is left where memory was not refused.
     ensures line { OnOk result (out.new.items ≡ out.old.items ++ list_line (codes "drwxr-xr-x") 0 0 name.now) }
+    // Witness of few: as of `put_file_line`.
     ensures few { OnOk result (length out.new.items ≤ length out.old.items + (100 + length name.now)) }
 {
     out.extend_from_slice(b"drwxr-xr-x")?;

@@ -19,7 +19,9 @@ pub fn put_node<A: Allocator + Copy, T: Tree<A>>(
     name: &[u8],
     line: &mut Vec<u8, A>,
 ) -> Result<(), AllocError>
+    // Witness of line: equations, of what is left where memory was not refused.
     ensures line { OnOk result (line.new.items ≡ line.old.items ++ node_line name.now (unwrap_or (node_at (under (T.table tree.now) root.now) path.now) Dir)) }
+    // Witness of few: as of `put_file_line`.
     ensures few { OnOk result (length line.new.items ≤ length line.old.items + (100 + length name.now)) }
 {
     let Some(file) = file_at(tree, root, path) else {
@@ -33,6 +35,7 @@ pub fn put_node<A: Allocator + Copy, T: Tree<A>>(
 /// The last name of a path; no octets for the root.
 pub fn last_name<A: Allocator + Copy>(path: &Path<A>) -> &[u8]
     ensures name { result.now ≡ last_name path.now }
+    // Witness of few: `Listing` of `ftp_server_transfer` needs it.
     ensures few { length result.now ≤ text_limit }
 {
     let octets = path.key();

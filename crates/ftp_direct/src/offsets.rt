@@ -44,8 +44,11 @@ pub fn place_at<A: Allocator + Copy, T: Tree<A>>(
     offset: u64,
 ) -> Result<Option<u64>, TreeFault>
     ensures place { NoStray (T.failures tree.old) (T.failures tree.new) → IfOk result (λ place. place ≡ place_in kind (octets_or_none (under (T.table tree.old) root.now) path.now) offset) }
+    // Witness of within: of a device that does not stray it follows from `place`.
     ensures within { IfOk result (λ place. IfSome place (λ place. place ≤ length (octets_or_none (under (T.table tree.old) root.now) path.now))) }
+    // Witness of table: nothing is changed.
     ensures table { T.table tree.new ≡ T.table tree.old }
+    // Witness of refused, told: `a_file_that_cannot_be_opened_is_absent.edit`.
     ensures refused { IfErr result (λ fault. (fault ≡ TreeFault.Memory) ⊎ (fault ≡ TreeFault.Device)) }
     ensures told { Tells result (T.failures tree.old) (T.failures tree.new) }
 {

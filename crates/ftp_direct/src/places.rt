@@ -227,6 +227,7 @@ pub fn move_to<A: Allocator + Copy, T: Tree<A>>(
     to: &Path<A>,
 ) -> Result<(), TreeFault>
     requires { fits to.now ≡ true }
+    // Witness: `a_file_is_renamed_onto_another_without_the_right.edit`.
     ensures done { OnOk result (let seen = freed onto (under (T.table tree.old) root.now) from.now to.now in
         IsDone (rename_refusal seen from.now to.now) (with_part (T.table tree.old) root.now (moved seen from.now to.now)) (T.table tree.new) (T.failures tree.old) (T.failures tree.new)) }
     ensures refused { IfErr result (λ fault. let seen = freed onto (under (T.table tree.old) root.now) from.now to.now in

@@ -64,7 +64,9 @@ pub fn wire_len<A: Allocator + Copy, T: Tree<A>>(
     kind: Kind,
 ) -> Result<u64, TreeFault>
     ensures count { NoStray (T.failures tree.old) (T.failures tree.new) → IfOk result (λ count. count ≡ min (size_in kind (octets_or_none (under (T.table tree.old) root.now) path.now)) (2 ^ 64 - 1)) }
+    // Witness of table: nothing is changed.
     ensures table { T.table tree.new ≡ T.table tree.old }
+    // Witness of refused, told: `a_file_that_cannot_be_opened_is_absent.edit`.
     ensures refused { IfErr result (λ fault. (fault ≡ TreeFault.Memory) ⊎ (fault ≡ TreeFault.Device)) }
     ensures told { Tells result (T.failures tree.old) (T.failures tree.new) }
 {

@@ -70,6 +70,7 @@ pub trait Host {
     /// are read and others changed them since it was opened: it has another length or moment, or its inode was touched and neither its name, its links,
     /// its permissions nor its owner tell why.
     fn read(&self, file: &mut Self::File, at: u64, room: &mut [u8]) -> io::Result<usize>
+        // Witness: of whoever has files: at most what there is room for, and something where there is room.
         ensures most { IfOk result (λ count. count ≤ length room.old) }
         ensures some { IfOk result (λ count. 0 < length room.old → 0 < count) };
 

@@ -22,6 +22,7 @@ pub struct Data<S> {
 impl<S: Duplex> Data<S> {
     /// No data connection.
     pub fn new() -> Data<S>
+        // Witness: `Drives` of `drive_server` begins where none stands.
         ensures { HasNone S.remaining S.contents result }
     {
         Data {
@@ -66,6 +67,7 @@ impl<S: Duplex> Data<S> {
 
     /// The control connection ended: the end is told, and it is seen before whether it had more octets.
     pub fn cut<K: EndCalls<E>, E>(&mut self, end: &mut E)
+        // Witness: both drives: `IsCut` of `BrokeOff` and `GivesUp`.
         ensures { (asked : Option (List Asked)) → IsCut K.machine (held (K.here end.old) (channel_at S.remaining S.contents asked self.old [])) (held (K.here end.new) (channel_at S.remaining S.contents asked self.new [])) }
     {
         self.see::<K, E>(end);
@@ -153,6 +155,7 @@ impl<S: Duplex> Data<S> {
     /// Puts another stream in the place of the one that stands, and gives that; where none stands, it gives the other one back. So one who has a stream
     /// in memory brings it what came, between two turns.
     pub fn exchange(&mut self, stream: S) -> Result<S, S>
+        // Witness: `MemoryEnd::is_known` of `ftp_pair_memory`: `edits/ports_that_gave_another_are_believed` there.
         ensures ok { IfOk result (λ before. IsExchanged before stream self.old self.new) }
         ensures err { IfErr result (λ kept. (kept ≡ stream) × (self.old.connection.stream ≡ None) × IsSameChannel self.old self.new) }
     {
@@ -162,7 +165,9 @@ impl<S: Duplex> Data<S> {
     /// Closes it, if it is open, and the port that is listened at.
     #[tactic(auto, using(ftp_ports::proofs::Channels::leaves, ftp_ports::proofs::Channels::none_had))]
     pub fn leave<P: Ports<Stream = S>>(&mut self, ports: &mut P)
+        // Witness of none: `drive_client`.
         ensures none { HasNone S.remaining S.contents self.new }
+        // Witness of left: `drive_some` of `ftp_server_driver`.
         ensures left { Leaving (channel_at S.remaining S.contents (P.history ports.old) self.old []) (channel_at S.remaining S.contents (P.history ports.new) self.new []) }
     {
         self.connection.close(ports);
@@ -171,6 +176,7 @@ impl<S: Duplex> Data<S> {
     /// Resets it, if it is open, and else closes the port that is listened at.
     #[tactic(auto, using(ftp_ports::proofs::Outcomes::resets))]
     pub fn reset<P: Ports<Stream = S>>(&mut self, ports: &mut P)
+        // Witness: `drive_client`: `GivesUp`.
         ensures { (asked : Asked) × IsReset asked (channel_at S.remaining S.contents (P.history ports.old) self.old []) (channel_at S.remaining S.contents (P.history ports.new) self.new []) }
     {
         self.connection.reset(ports);
@@ -179,6 +185,8 @@ impl<S: Duplex> Data<S> {
     /// Closes it for good.
     #[tactic(auto, using(ftp_ports::proofs::Channels::leaves_for_good))]
     pub fn finish<P: Ports<Stream = S>>(self, ports: &mut P)
+        // Witness: `drive_server`: `fair` of `BrokeOff`; both drives: which actions are due;
+        // `edits/what_is_cut_short_is_closed_as_if_all_was_given.edit`.
         ensures { Leaving (channel_at S.remaining S.contents (P.history ports.old) self []) (no_channel (P.history ports.new)) }
     {
         let Data {

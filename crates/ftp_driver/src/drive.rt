@@ -45,7 +45,9 @@ where
     R: Read + Drop,
     W: Write + Drop,
     P: Ports,
+    // Witness of ends: `Drives` of `drive_server` and of `drive_client`.
     ensures ends { Ends K.machine K.last (stand_of K.machine R.remaining W.contents (held (K.here end.old) (channel_at P.Stream.remaining P.Stream.contents (P.history ports.old) data.old [])) control.old) (stand_of K.machine R.remaining W.contents (held (K.here end.new) (channel_at P.Stream.remaining P.Stream.contents (P.history ports.new) data.new [])) control.new) result }
+    // Witness of why: `edits/a_drive_breaks_off_after_three_turns.edit`.
     ensures why { Why K.machine K.machine.serves (K.here end.new) (P.history ports.new) control.new result }
 {
     let mut drive = Drive {
@@ -82,8 +84,12 @@ where
     R: Read + Drop,
     W: Write + Drop,
     P: Ports,
+    // Witness of turns: `edits/one_turn_counts_as_all.edit`, `octets_that_were_read_are_let_go_where_the_next_turn_would_wait`,
+    // `a_data_connection_is_left_where_the_next_turn_would_wait`.
     ensures turns { TurnsTo K.machine K.last most (stand_of K.machine R.remaining W.contents (held (K.here end.old) (channel_at P.Stream.remaining P.Stream.contents (P.history ports.old) data.old [])) control.old) (stand_of K.machine R.remaining W.contents (held (K.here end.new) (channel_at P.Stream.remaining P.Stream.contents (P.history ports.new) data.new [])) control.new) result }
+    // Witness of why: as of `drive_end`.
     ensures why { Why K.machine K.machine.serves (K.here end.new) (P.history ports.new) control.new result }
+    // Witness of later: `edits/what_would_end_at_once_counts_as_waiting.edit`.
     ensures later { IsLater (P.waits ports.new) result }
 {
     let mut drive = Drive {

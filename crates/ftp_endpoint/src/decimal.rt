@@ -35,7 +35,9 @@ fn digits_in_front(text: &[u8]) -> usize
 
 /// Reads a number of 1 to 18 decimal digits, leading zeros too.
 pub fn number(text: &[u8]) -> Option<u64>
+    // Witness of says: equation (`SomeIff`: the value, and just where there is one).
     ensures says { SomeIff result (IsNumber text.now) (digits_value 10 text.now) }
+    // Witness of bound: follows from says; caller: `read` of `ftp_command`, whose numbers have a line (`only_stated`).
     ensures bound { IfSome result (λ n. IsShort n) }
 {
     if text.is_empty() || text.len() > DIGIT_LIMIT {
@@ -62,6 +64,7 @@ fn value(text: &[u8]) -> Option<u64>
 
 /// Reads an octet's number: one to three decimal digits, 0 to 255.
 pub fn octet(text: &[u8]) -> Option<u8>
+    // Witness: equation (`SomeIff`).
     ensures { SomeIff result (IsOctet text.now) (digits_value 10 text.now) }
 {
     if text.len() > 3 {
@@ -75,6 +78,7 @@ pub fn octet(text: &[u8]) -> Option<u8>
 
 /// Reads a port: a number of 1 to 18 decimal digits, 1 to 65535.
 pub fn port(text: &[u8]) -> Option<u16>
+    // Witness: equation (`SomeIff`).
     ensures { SomeIff result (IsPort text.now) (digits_value 10 text.now) }
 {
     match number(text) {
@@ -85,6 +89,7 @@ pub fn port(text: &[u8]) -> Option<u16>
 
 /// Reads the octet's number that a whole run of digits in front is, and what is behind it.
 pub fn octet_in_front(text: &[u8]) -> Option<(u8, &[u8])>
+    // Witness: equation: `SaysOctet` gives the number, and what is after is a function of the text.
     ensures some { IfSome result (λ r. SaysOctet (front_digits text.now) r.0 × (r.1.now ≡ behind_digits text.now)) }
     ensures none { IfNone result (¬ IsOctet (front_digits text.now)) }
 {

@@ -16,6 +16,7 @@ pub struct Endpoint {
 /// Reads `h1,h2,h3,h4,p1,p2` from the front of a text, and gives what is behind it (RFC 959, section 4.1.2).
 /// Each number is a whole run of one to three digits, 0 to 255.
 pub fn six_in_front(text: &[u8]) -> Option<(Endpoint, &[u8])>
+    // Witness: law `endpoints_have_one_meaning`, six.
     ensures some { IfSome result (λ r. BeginsWithSix text.now r.0 r.1.now) }
     ensures none { IfNone result ((endpoint : Endpoint) (rest : List ℕ) → ¬ BeginsWithSix text.now endpoint rest) }
 {
@@ -44,6 +45,7 @@ pub(crate) fn octet_before(separator: u8, text: &[u8]) -> Option<(u8, &[u8])>
 
 /// Reads six numbers, and nothing behind them: the argument of PORT.
 pub fn six_numbers(text: &[u8]) -> Option<Endpoint>
+    // Witness: law `endpoints_have_one_meaning`, six.
     ensures some { IfSome result (λ endpoint. SaysSix text.now endpoint) }
     ensures none { IfNone result ((endpoint : Endpoint) → ¬ SaysSix text.now endpoint) }
 {
@@ -57,6 +59,7 @@ pub fn six_numbers(text: &[u8]) -> Option<Endpoint>
 
 /// Whether an octet may stand between the parts of an extended address: 33 to 126, and no digit.
 pub fn is_delimiter(octet: u8) -> bool
+    // Witness: equation (a test, both ways).
     ensures { IsTrue result ↔ IsDelimiter octet }
 {
     octet.is_ascii_graphic() && !octet.is_ascii_digit()
@@ -64,6 +67,7 @@ pub fn is_delimiter(octet: u8) -> bool
 
 /// Reads the port of `(<d><d><d>port<d>)` from the front of a text (RFC 2428, section 3).
 pub fn port_in_front(text: &[u8]) -> Option<u16>
+    // Witness: law `endpoints_have_one_meaning`, port.
     ensures some { IfSome result (λ port. BeginsWithPort text.now port) }
     ensures none { IfNone result ((port : ℕ) → ¬ BeginsWithPort text.now port) }
 {
@@ -95,6 +99,7 @@ fn closed_port(d: u8, text: &[u8]) -> Option<u16>
 
 /// What is behind the octet that a text has to begin with.
 pub fn after(octet: u8, text: &[u8]) -> Option<&[u8]>
+    // Witness: equation: the text is the octet and the rest.
     ensures some { IfSome result (λ rest. text.now ≡ octet ∷ rest.now) }
     ensures none { IfNone result ((rest : List ℕ) → ¬ (text.now ≡ octet ∷ rest)) }
 {

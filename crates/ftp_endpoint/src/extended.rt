@@ -12,7 +12,9 @@ use crate::host::{Host, v6};
 
 /// Reads `<d>proto<d>address<d>port<d>`, the argument of EPRT: its shape first, then its protocol, then its address.
 pub fn extended_endpoint(text: &[u8]) -> Result<Endpoint, EndpointFault>
+    // Witness of ok: law `endpoints_have_one_meaning`, extended.
     ensures ok { IfOk result (λ endpoint. SaysExtended text.now endpoint) }
+    // Witness of err: law `endpoints_have_one_meaning`, protocol: no two outcomes meet one text.
     ensures err { IfErr result (λ fault. RefusesExtended text.now fault) }
 {
     let Some((proto, address, port)) = shape(text) else {

@@ -15,6 +15,7 @@ type Line = ArrayVec<u8, 128>;
 /// The six numbers of an endpoint; a host of IPv6 has none (RFC 959, section 4.1.2).
 pub fn write_six(endpoint: Endpoint) -> Option<ArrayVec<u8, 128>>
     ensures some { IfSome result (λ text. IsV4 endpoint.host × (text.items ≡ six_text endpoint)) }
+    // Witness of none: equation.
     ensures none { IfNone result (¬ IsV4 endpoint.host) }
 {
     let Endpoint { host, port } = endpoint;

@@ -6,6 +6,7 @@ use ftp_endpoint::Host;
 
 /// Whether two hosts are one.
 pub fn is_same_host(one: Host, other: Host) -> bool
+    // Witness: an equation; `edits/another_host_is_the_same`.
     ensures { result ≡ same_host one other }
 {
     match one {

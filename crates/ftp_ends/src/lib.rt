@@ -5,8 +5,8 @@
 mod host;
 pub mod laws;
 mod link;
-mod reply;
+mod reply_limit;
 
 pub use host::{is_same_host, is_v6};
 pub use link::Wants;
-pub use reply::REPLY_LIMIT;
+pub use reply_limit::REPLY_LIMIT;

@@ -10,8 +10,10 @@ pub fn day_number(year: u16, month: u8, day: u8) -> Option<u32>
     requires year_in { year < 10_000 }
     requires month_in { month < 100 }
     requires day_in { day < 100 }
+    // Witness of real, counted, none: caller: `moment_of_text`, `value`.
     ensures real { IfSome result (λ number. calendar.IsDate year month day) }
     ensures counted { IfSome result (λ number. number ≡ calendar.day_number year month day) }
+    // Witness of bound: caller: `moment_of_text`, whose result is a `Moment`.
     ensures bound { IfSome result (λ number. number ≤ 2_932_896) }
     ensures none { IfNone result (¬ (calendar.IsDate year month day)) }
 {
@@ -36,6 +38,7 @@ fn number_of(date: Date) -> u32
 /// The date with that day number.
 pub fn date_of(number: u32) -> Date
     requires { number ≤ 2_932_896 }
+    // Witness: caller: `moment_text`, `written`.
     ensures { epoch_day result ≡ pos number }
 {
     Date::from_days_since_min(number + 4_371_587)
@@ -44,6 +47,7 @@ pub fn date_of(number: u32) -> Date
 /// The year of a date from 1970 on.
 pub fn year_of(date: Date) -> u16
     requires { pos 0 ≤ℤ epoch_day date }
+    // Witness: caller: `moment_text`, `written`.
     ensures value { pos result ≡ date.year }
     ensures from { 1970 ≤ result }
 {

@@ -7,6 +7,7 @@ ghost use Rattle.ftp_facts.specs.Moment as spec;
 
 /// The number of the two digits at the front of the text, and the rest.
 pub fn read_two(text: &[u8]) -> Option<(u8, &[u8])>
+    // Witness: caller: `moment_of_text`, `value`.
     ensures bound { IfSome result (λ read. read.0 < 100) }
     ensures some { IfSome result (λ read. text.now ≡ two_digits read.0 ++ read.1.now) }
     ensures none { IfNone result ((n : ℕ) (rest : List ℕ) → n < 100 → text.now ≢ two_digits n ++ rest) }
@@ -21,6 +22,7 @@ pub fn read_two(text: &[u8]) -> Option<(u8, &[u8])>
 
 /// The number of the four digits at the front of the text, and the rest.
 pub fn read_four(text: &[u8]) -> Option<(u16, &[u8])>
+    // Witness: caller: `moment_of_text`, `value`.
     ensures bound { IfSome result (λ read. read.0 < 10_000) }
     ensures some { IfSome result (λ read. text.now ≡ four_digits read.0 ++ read.1.now) }
     ensures none { IfNone result ((n : ℕ) (rest : List ℕ) → n < 10_000 → text.now ≢ four_digits n ++ rest) }
@@ -33,6 +35,7 @@ pub fn read_four(text: &[u8]) -> Option<(u16, &[u8])>
 /// A number below 100 in two digits.
 pub fn two(n: u8) -> [u8; 2]
     requires { n < 100 }
+    // Witness: equation; caller: `moment_text`, `digits`.
     ensures { result ≡ two_digits n }
 {
     [b'0' + n / 10, b'0' + n % 10]
@@ -40,6 +43,7 @@ pub fn two(n: u8) -> [u8; 2]
 
 /// Whether the text is nothing, or `.` and one or more digits.
 pub fn is_fraction(text: &[u8]) -> bool
+    // Witness: equation; caller: `moment_of_text`, `value`.
     ensures { result ≡ spec.is_fraction text.now }
 {
     match text {

@@ -88,6 +88,7 @@ impl<A: Allocator + Copy> Entry<A> {
     /// A copy of an entry that is lent. One of the four words of a type, in whatever case, is that type.
     pub fn copy_of(alloc: A, lent: LentEntry<'_>) -> Result<Entry<A>, AllocError>
         requires { IsFit (listed_lent lent) }
+        // Witness: equations; callers: `read_entry`, `says`, and `write_entry`, `line`.
         ensures { IfOk result (λ entry. listed_of entry ≡ listed_in lent.entry) }
     {
         let kind = EntryKind::copy_of(alloc, lent.kind)?;
@@ -104,6 +105,7 @@ impl<A: Allocator + Copy> Entry<A> {
 
     /// The entry, lent.
     pub fn lent(&self) -> LentEntry<'_>
+        // Witness: as of `copy_of`.
         ensures { listed_lent result ≡ listed_of self.now }
     {
         LentEntry {

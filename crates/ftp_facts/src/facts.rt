@@ -9,6 +9,7 @@ use crate::cutting::cut_at;
 
 /// The value of the first fact of that name, whose letters have no case. Octets that are no facts are `BadFact`.
 pub fn value_of<'a>(facts: &'a [u8], name: &[u8]) -> Result<Option<&'a [u8]>, FactFault>
+    // Witness: caller: `read_entry`, `says` and `refuses`.
     ensures value { IfOk result (λ value. HasValue facts.now name.now (option_copied value)) }
     ensures silent { IfErr result (λ _. (list : List Fact) → ¬ (AreFacts facts.now list)) }
     ensures fault { IfErr result (λ fault. fault ≡ FactFault.BadFact) }
@@ -39,6 +40,7 @@ fn split_fact(facts: &[u8]) -> Option<(&[u8], &[u8], &[u8])>
 
 /// Whether the two words are the same but for case.
 pub fn is_word(text: &[u8], word: &[u8]) -> bool
+    // Witness: equation; caller: `read_entry`, `says`.
     ensures { result ≡ spec.is_word text.now word.now }
 {
     text.eq_ignore_ascii_case(word)

@@ -9,6 +9,7 @@ use std::alloc::Allocator;
 
 /// The moments are the seconds up to the last of the year 9999, and no later ones.
 pub fn moments_end(seconds: u64) -> bool
+    // Witness: an equivalence, which names the one result.
     ensures { IsTrue result ↔ (seconds ≤ 253_402_300_799) }
 {
     Moment::new(seconds).is_some()
@@ -16,17 +17,20 @@ pub fn moments_end(seconds: u64) -> bool
 
 /// A text says a moment just where it is six numbers of a real date and time, and perhaps a fraction.
 pub fn moment_is_said()
+    // Witness: laws, whose bodies are empty.
     ensures { (text : List ℕ) (seconds : ℕ) → (moment_value text ≡ Some seconds) ↔ SaysMoment text seconds }
 {}
 
 /// What is written of a moment says that moment.
 pub fn written_is_said(text: &[u8], moment: Moment)
     requires { WritesMoment text.now moment.seconds }
+    // Witness: laws, whose bodies are empty.
     ensures { moment_value text.now ≡ Some moment.seconds }
 {}
 
 /// The digits of a moment say that moment.
 pub fn moment_digits_say(moment: Moment)
+    // Witness: laws, whose bodies are empty.
     ensures { moment_value (moment_digits moment.seconds) ≡ Some moment.seconds }
 {}
 
@@ -39,6 +43,7 @@ pub fn moment_comes_back(moment: Moment) -> Result<Moment, FactFault>
 
 /// A line says an entry just where it is facts, a space and a pathname, whose values these are.
 pub fn entry_is_said()
+    // Witness: laws, whose bodies are empty.
     ensures { (line : List ℕ) (entry : Listed) → (entry_value line ≡ Some entry) ↔ SaysListed line entry }
 {}
 
@@ -46,6 +51,7 @@ pub fn entry_is_said()
 pub fn one_entry<A: Allocator + Copy>(line: &[u8], first: &Entry<A>, second: &Entry<A>)
     requires first { SaysEntry line.now first.now }
     requires second { SaysEntry line.now second.now }
+    // Witness: laws, whose bodies are empty.
     ensures { first.now ≡ second.now }
 {}
 
@@ -53,17 +59,20 @@ pub fn one_entry<A: Allocator + Copy>(line: &[u8], first: &Entry<A>, second: &En
 pub fn one_fault(line: &[u8], first: FactFault, second: FactFault)
     requires first { Refuses line.now first }
     requires second { Refuses line.now second }
+    // Witness: laws, whose bodies are empty.
     ensures { first ≡ second }
 {}
 
 /// A line that says an entry meets no fault: only memory can be refused.
 pub fn no_fault<A: Allocator + Copy>(line: &[u8], entry: &Entry<A>)
     requires { SaysEntry line.now entry.now }
+    // Witness: laws, whose bodies are empty.
     ensures { Refuses line.now FactFault.Memory }
 {}
 
 /// The line of an entry says that entry.
 pub fn entry_line_says<A: Allocator + Copy>(entry: &Entry<A>)
+    // Witness: laws, whose bodies are empty.
     ensures { SaysEntry (entry_line entry.now) entry.now }
 {}
 

@@ -18,6 +18,7 @@ impl Moment {
     /// The moment that many seconds after the start of 1970, if it comes before the year 10000.
     pub fn new(seconds: u64) -> Option<Moment>
         ensures some { IfSome result (λ moment. moment.seconds ≡ seconds) }
+        // Witness of none: caller: `laws::moments_end`, lone.
         ensures none { IfNone result (253_402_300_799 < seconds) }
     {
         if seconds <= 253_402_300_799 {
@@ -31,7 +32,9 @@ impl Moment {
 /// Reads a moment: YYYYMMDDHHMMSS, perhaps followed by `.` and digits, which are dropped. A second of 60 is 59.
 /// What is no real date and time from 1970 on is `BadMoment` (RFC 3659, section 2.3).
 pub fn moment_of_text(text: &[u8]) -> Result<Moment, FactFault>
+    // Witness of value: equation (`laws::moment_is_said` says what it is); caller: `laws::moment_comes_back`.
     ensures value { option_map (λ moment. moment.seconds) (result_ok result) ≡ moment_value text.now }
+    // Witness of fault: equation; caller: `read_entry`, `refuses`.
     ensures fault { IfErr result (λ fault. fault ≡ FactFault.BadMoment) }
 {
     match read_moment(text) {
@@ -85,7 +88,9 @@ fn read_time(text: &[u8]) -> Option<(u32, &[u8])>
 
 /// The fourteen digits of a moment, YYYYMMDDHHMMSS (RFC 3659, section 2.3).
 pub fn moment_text(moment: Moment) -> [u8; 14]
+    // Witness of written: law: `laws::written_is_said`; caller: `laws::moment_comes_back`.
     ensures written { WritesMoment result moment.seconds }
+    // Witness of digits: equation; law: `laws::moment_digits_say`.
     ensures digits { result ≡ moment_digits moment.seconds }
 {
     let date = date_of((moment.seconds / 86_400) as u32);

@@ -28,6 +28,7 @@ impl FactName {
 
     /// The word that names it, of at most 6 octets; the case of its letters is of no matter.
     pub fn word(self) -> &'static [u8]
+        // Witness: equation; its bound.
         ensures word { result.now ≡ fact_word self }
         ensures short { length result.now ≤ 6 }
     {

@@ -18,7 +18,9 @@ use std::alloc::Allocator;
 /// Of several faults the one with the lowest number is given; the whole line is always read. Memory is asked for last, so
 /// that `Memory` comes only where there is no other fault.
 pub fn read_entry<A: Allocator + Copy>(alloc: A, line: &[u8]) -> Result<Entry<A>, FactFault>
+    // Witness of says: law: `laws::one_entry`; caller: `laws::entry_comes_back`, `back`.
     ensures says { IfOk result (SaysEntry line.now) }
+    // Witness of refuses: laws: `laws::one_fault`, `no_fault`; caller: `laws::entry_comes_back`, `fault`.
     ensures refuses { IfErr result (Refuses line.now) }
 {
     let seen = see(line)?;

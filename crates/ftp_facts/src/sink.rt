@@ -17,6 +17,7 @@ pub trait LineSink {
 
     /// Writes a text behind what it has. Refused, a part of it may stand there.
     fn write_text(&mut self, text: &[u8]) -> Result<(), AllocError>
+        // Witness: caller: `write_entry_line`, `ok` and `err`.
         ensures ok { OnOk result (Writes held form left text.now self.old self.new) }
         ensures err { OnErr result (BreaksOff held left text.now self.old self.new) };
 

@@ -27,6 +27,7 @@ impl<A: Allocator + Copy> Model for Text<A> {
 impl<A: Allocator + Copy> Text<A> {
     /// A copy of these octets.
     pub fn copy_of(alloc: A, octets: &[u8]) -> Result<Text<A>, AllocError>
+        // Witness: equation; caller: `read_entry`, `says`.
         ensures { IfOk result (λ text. text ≡ octets.now) }
     {
         let octets = Vec::from_slice(alloc, octets)?;

@@ -16,8 +16,10 @@ pub fn write_entry<A: Allocator + Copy, B: Allocator + Copy>(
     entry: &Entry<A>,
     out: &mut Vec<u8, B>,
 ) -> Result<(), FactFault>
+    // Witness of line: equation; law: `laws::entry_line_says`; caller: `laws::entry_comes_back`, `back`.
     ensures line { OnOk result (out.new.items ≡ out.old.items ++ entry_line entry.now) }
     ensures unchanged { OnErr result (out.new.items ≡ out.old.items) }
+    // Witness of fault: equation; caller: `laws::entry_comes_back`, `fault`.
     ensures fault { IfErr result (λ fault. fault ≡ FactFault.Memory) }
 {
     let start = out.len();
@@ -37,7 +39,9 @@ pub fn write_entry_line<S: LineSink>(
     facts: Facts,
     out: &mut S,
 ) -> Result<(), AllocError>
+    // Witness of ok: equation; caller: `write_entry`, `line`.
     ensures ok { OnOk result (Writes S.held S.form S.left (listed_line facts (listed_lent lent.entry)) out.old out.new) }
+    // Witness of err: caller: `write_entry`, `unchanged`; `put_listed` of `ftp_server_replies`.
     ensures err { OnErr result (BreaksOff S.held S.left (listed_line facts (listed_lent lent.entry)) out.old out.new) }
 {
     write_facts(lent, facts, out)?;

@@ -76,6 +76,7 @@ pub struct Deframer {
 impl Deframer {
     /// A reader of one file in this mode and structure.
     pub fn new(mode: Mode, structure: Structure) -> Deframer
+        // Witness: equations; `edits/stream_of_a_file_has_escapes`.
         ensures state { reading result ≡ start mode structure }
         ensures owes { owed result ≡ [] }
     {
@@ -102,7 +103,11 @@ impl Deframer {
     /// file are taken and say nothing. Faults name their place, in wire octets from 0, and come with the octets taken
     /// up to the wrong one, which `taken_with_fault` counts. After one, each call answers it again and takes nothing.
     pub fn feed<'a>(&mut self, piece: &'a [u8]) -> Result<Step<'a>, FrameFault>
+        // Witness of ok: `edits/deframer_that_takes_nothing`; `tool_codec::frame`, `done`; `edits/end_of_both_ends_the_file_alone`,
+        // `end_of_file_in_a_header_is_passed_over`, `suspected_errors_are_read`.
         ensures ok { IfOk result (λ step. Hears self.old piece.now step self.new) }
+        // Witness of err: `edits/what_is_behind_a_fault_is_taken`, `a_fault_met_before_takes_octets`.
+        // Witness of err: `edits/fault_place_counts_from_the_piece`; `tool_codec::frame`, `done`; `edits/marker_octets_not_checked`.
         ensures err { IfErr result (λ fault. Fails self.old piece.now (taken_with_fault self.new) fault self.new) }
     {
         if let Some(part) = self.owed_part() {
@@ -139,6 +144,7 @@ impl Deframer {
 
     /// The marker that `feed` gave last, until the next call of it.
     pub fn marker(&self) -> &[u8]
+        // Witness: equations; `edits/marker_is_lent_empty`.
         ensures { result.now ≡ last_marker self.now }
     {
         self.marker.as_slice()
@@ -148,6 +154,7 @@ impl Deframer {
     ///
     /// None where the fault was met before.
     pub fn taken_with_fault(&self) -> usize
+        // Witness: equations; `edits/marker_is_lent_empty`.
         ensures { result ≡ taken_with_fault self.now }
     {
         self.with_fault
@@ -158,6 +165,7 @@ impl Deframer {
     /// In stream mode and file structure the end of the connection is the end of file. After a fault each call
     /// answers it again.
     pub fn end(&mut self) -> Result<(), FrameFault>
+        // Witness of state, ok, err: an equation, and two that `state` decides; `edits/record_link_that_ends_is_the_end_of_file`.
         ensures state { reading self.new ≡ at_end (reading self.old) }
         ensures ok { OnOk result (is_complete (reading self.new)) }
         ensures err { IfErr result (λ fault. reading self.new ≡ failed fault) }
@@ -185,6 +193,7 @@ impl Deframer {
 
     /// The connection broke: no octet follows. What was read stays to be given.
     pub fn broken(&mut self)
+        // Witness: equations; `edits/broken_reader_goes_on`.
         ensures state { reading self.new ≡ broken_state (reading self.old) }
         ensures owes { owed self.new ≡ owed self.old }
     {
@@ -196,6 +205,7 @@ impl Deframer {
 
     /// Takes the first end that was read and not yet given, as the next `feed` would.
     pub fn owed_part<'a>(&mut self) -> Option<Part<'a>>
+        // Witness: `feed`, whose clauses rest on them.
         ensures some { IfSome result (λ part. (text : List ℕ) → part_said part text ++ owed self.new ≡ owed self.old) }
         ensures one { IfSome result (λ part. (text : List ℕ) → length (part_said part text) ≡ 1) }
         ensures none { IfNone result (owed self.old ≡ []) }

@@ -5,9 +5,9 @@ ghost use Rattle.ftp_mode.specs.Block.{block_text, marker_text};
 ghost use Rattle.ftp_mode.specs.Writing.{blank, with_marks, is_due, due_text, marked, counted_on, counted_far, IsCount, IsFar, writer, write_step, closed, manner};
 ghost use Rattle.ftp_mode.specs.Framing.{writing, counting, owed_block, owed_octets, still_to_write, is_open, IsClear, Takes, Waits, AreRun, Fills, TakesRun};
 
+use crate::block_output::copy_to;
 use crate::descriptor::{END_OF_BOTH, END_OF_FILE, END_OF_RECORD, GOES_ON, RESTART_MARKER};
 use crate::escape::{BOTH_CODE, ESCAPE, FILE_CODE, RECORD_CODE};
-use crate::pouring::copy_to;
 use arrayvec::ArrayVec;
 use ftp_repr::{Item, first_ff};
 use ftp_settings::{Mode, Structure};
@@ -24,6 +24,7 @@ impl Moved {
     /// What is left of the item, or nothing: it is to be put again.
     pub fn rest<'a>(self, item: Item<'a>) -> Option<Item<'a>>
         requires { self.taken ≤ length (signs item) }
+        // Witness: `rest` leaves one row of signs; `tool_codec::frame`, `done`, needs both.
         ensures rest { given_signs result ≡ drop self.taken (signs item.entry) }
 
         // Of the end of file all is left, or it was taken.
@@ -115,6 +116,7 @@ pub struct Framer {
 impl Framer {
     /// A writer of one file in this mode and structure.
     pub fn new(mode: Mode, structure: Structure) -> Framer
+        // Witness: equations; `edits/stream_of_a_file_is_written_with_escapes`.
         ensures state { writing result ≡ blank mode structure }
         ensures owes { owed_octets result ≡ [] }
     {
@@ -142,15 +144,22 @@ impl Framer {
     /// `taken` counts octets of the item; of an end it is 1 once the end needs no further call. `made` counts the
     /// octets of the room that were written. Behind the end of file items are taken and nothing is written.
     pub fn put(&mut self, item: Item<'_>, room: &mut [u8]) -> Moved
+        // Witness of within, text: `edits/a_count_goes_low_octet_first`; `tool_codec::frame`, `done`: over a whole file they leave one text;
+        // `edits/escape_octet_not_doubled`, `a_run_goes_past_an_escape_octet`, `block_below_its_size`, `last_block_forgets_its_record`,
+        // `end_of_record_and_file_go_as_two_escapes`, `marker_at_the_start_of_the_file`, `a_run_passes_a_marker`,
+        // `a_slice_of_a_block_is_given_again`.
         ensures within { (result.taken ≤ length (signs item.entry)) × (result.made ≤ length room.old) }
         ensures text { (more : List Sign) → still_to_write self.old (signs item.entry ++ more)
             ≡ take result.made room.new ++ still_to_write self.new (drop result.taken (signs item.entry) ++ more) }
+        // Witness of some: `edits/framer_that_takes_nothing`.
         ensures some { 0 < length room.old → 0 < length (signs item.entry) → 0 < result.taken + result.made }
 
         // The end of file is taken once all is out.
+        // Witness of out: `tool_codec::frame`, `done`: after the end nothing is left; `edits/end_is_taken_before_it_is_out`.
         ensures out { item.entry ≡ Item.EndFile → result.taken ≡ 1 → owed_octets self.new ≡ [] }
 
         // Nothing but the end of file closes it.
+        // Witness of goes_on, closes, closed: `ftp_wire::is_out`: what is still to be given is none just where it says so.
         ensures goes_on { (item.entry ≡ Item.EndFile) ⊎ (manner (writing self.new) ≡ manner (writing self.old)) }
         ensures closes { (manner (writing self.new) ≡ Manner.Closed) ⊎ (manner (writing self.new) ≡ manner (writing self.old)) }
         ensures closed { item.entry ≡ Item.EndFile → result.taken ≡ 1 → manner (writing self.new) ≡ Manner.Closed }
@@ -185,6 +194,7 @@ impl Framer {
     /// A marker stands at each multiple of 65,536 above the start and before the end of the file. It is for type I
     /// and the start of a file; without effect but in block mode and file structure.
     pub fn mark(&mut self, start: u64)
+        // Witness: equations; `edits/marks_count_from_nothing`.
         ensures state { writing self.new ≡ with_marks start (writing self.old) }
         ensures owes { owed_octets self.new ≡ owed_octets self.old }
     {

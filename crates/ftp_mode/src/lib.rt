@@ -1,13 +1,13 @@
 //! Modes and restart markers, without IO: items to octets of the wire, and the wire in pieces to items (RFC 959, sections 3.4 and 3.5).
 #![tactic(auto)]
 
+mod block_output;
 mod deframer;
 pub mod descriptor;
 pub mod escape;
 mod fault;
 mod framer;
 pub mod laws;
-mod pouring;
 mod step;
 mod stored;
 pub mod written;

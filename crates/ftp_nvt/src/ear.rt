@@ -22,6 +22,7 @@ impl<A: Allocator + Copy> Ear<A> {
     /// An ear that has heard nothing, for lines of at most `limit` octets, their ends included and Telnet octets
     /// taken out.
     pub fn new(alloc: A, limit: usize) -> Result<Ear<A>, NvtFault>
+        // Witness of heard, limit: caller: `Reader::new` of `ftp_server` begins with them; edit `new_ear_takes_one_octet_less`.
         ensures heard { IfOk result (λ ear. HasHeard ear []) }
         ensures limit { IfOk result (λ ear. limit_of ear ≡ limit) }
         ensures room { IfOk result (λ ear. room_of ear ≡ limit) }
@@ -39,10 +40,14 @@ impl<A: Allocator + Copy> Ear<A> {
     ///
     /// A line is lent by `line` until the next call. Octets behind those taken are for the next call.
     pub fn feed(&mut self, piece: &[u8]) -> Heard
+        // Witness of within, some: edit `ear_takes_nothing`; caller: `events_in`, which ends only because each call takes an octet.
         ensures within { result.taken ≤ length piece.now }
+        // Witness of hears: edit `return_at_the_end_of_a_piece_is_forgotten`; law `events_are_settled`; caller: `events_in` of `rows_lines`, whose
+        // count of events follows from it.
         ensures hears { Hears self.old (take result.taken piece.now)
             (event_list result.event (line_of self.new)) self.new }
         ensures some { 0 < length piece.now → 0 < result.taken }
+        // Witness of all: `leaves_octets` of `rows_lines`.
         ensures all { (result.event ≡ Event.More) → result.taken ≡ length piece.now }
         ensures room { room_of self.new ≡ room_of self.old }
     {

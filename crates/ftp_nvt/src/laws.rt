@@ -27,10 +27,12 @@ pub fn written_lines_are_heard()
 
 /// The fold gives, octet by octet, what all octets say.
 pub fn fold_gives_events()
+    // Witness: law; edit of a definition.
     ensures { EarGivesEvents }
 {}
 
 /// An ear is seen as the fold behind what it has heard.
 pub fn ear_is_its_fold<A: Allocator + Copy>(ear: &Ear<A>)
+    // Witness: law; edit of a definition.
     ensures { ReaderIsEar ear.now }
 {}

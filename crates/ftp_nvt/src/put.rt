@@ -16,6 +16,7 @@ pub fn put_line<A: Allocator + Copy>(text: &[u8], out: &mut Vec<u8, A>) -> Resul
     ensures memory { IfErr result (λ fault. fault ≡ NvtFault.Memory) }
 
     // Memory is refused only where the vector had no room.
+    // Witness of full: `writes_in_room` of `rows_lines`.
     ensures full { OnErr result
         (vec_capacity out.old < vec_len out.old + length (written_line text.now)) }
 {

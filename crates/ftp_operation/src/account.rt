@@ -36,6 +36,7 @@ pub struct Login<A: Allocator + Copy> {
 impl<A: Allocator + Copy> Login<A> {
     /// The login of a user name and a password, or `None` where one is past its limits. Takes no memory.
     pub fn new(user: Text<A>, pass: Text<A>) -> Option<Login<A>>
+        // Witness: equation: which login, and just when.
         ensures same { IfSome result (λ login. (login.user ≡ user) × (login.pass ≡ pass)) }
         ensures fits { IsSome result ↔ IsTrue (is_user user && is_password pass) }
     {
@@ -49,6 +50,7 @@ impl<A: Allocator + Copy> Login<A> {
     /// The user name.
     pub fn user(&self) -> &[u8]
         ensures same { result.now ≡ self.now.user }
+        // Witness of fits: `Login::new`, `fits`, with `same`.
         ensures fits { IsTrue (is_user result.now) }
     {
         self.user.as_slice()
@@ -57,6 +59,7 @@ impl<A: Allocator + Copy> Login<A> {
     /// The password.
     pub fn pass(&self) -> &[u8]
         ensures same { result.now ≡ self.now.pass }
+        // Witness of fits: `Login::new`, `fits`, with `same`.
         ensures fits { IsTrue (is_password result.now) }
     {
         self.pass.as_slice()
@@ -114,6 +117,7 @@ impl<A: Allocator + Copy> Accounts<A> {
     /// These accounts, in this order, or the list back with the first reason why not. An account with a user name or a
     /// password that no login has is accepted. Takes no memory.
     pub fn new(list: Vec<Account<Text<A>, Path<A>>, A>) -> Result<Accounts<A>, RefusedAccounts<A>>
+        // Witness: equation: which list, and just when and why not.
         ensures accounts { IfOk result (λ accounts. (accounts ≡ list.items) × (accounts_refusal list.items ≡ None)) }
         ensures back { IfErr result (λ refused. (refused.list.items ≡ list.items) × (accounts_refusal list.items ≡ Some refused.fault)) }
     {

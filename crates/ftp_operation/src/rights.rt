@@ -69,6 +69,7 @@ impl Rights {
 
     /// Whether a file may be put where one stands, or where none does.
     pub fn may_put(self, stands: bool) -> bool
+        // Witness: an equation; `who_may_put_may_replace.edit`, `who_may_look_may_put.edit`, beside the gate.
         ensures { result ≡ may_put self stands }
     {
         if self.put {
@@ -80,6 +81,7 @@ impl Rights {
 
     /// Whether any of them is had: whoever has none may look and fetch alone.
     pub fn may_change(self) -> bool
+        // Witness: an equation; caller: `Accounts::new`, `accounts` and `back`.
         ensures { result ≡ may_change self }
     {
         let of_files = self.put || self.replace || self.delete;

@@ -1,8 +1,8 @@
 // Both drives in turns over connections in memory.
 
-mod course;
 mod slots;
 mod taking;
+mod turn_ending;
 mod turns;
 
 pub use slots::{Line, Slot};

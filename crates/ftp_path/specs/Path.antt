@@ -6,7 +6,7 @@ use Rattle.std.specs.List.{list_all, slice_split, starts_with}
 use Rattle.std.specs.Ordering.{nat_cmp}
 use Rattle.std.specs.Str.{is_utf8}
 use Rattle.std.specs.declared.cmp.Ordering.{Ordering}
-use Rattle.ftp_path.specs.declared.name.TheConstants.{NAME_LIMIT, TEXT_LIMIT}
+use Rattle.ftp_path.specs.declared.limits.TheConstants.{NAME_LIMIT, TEXT_LIMIT}
 
 -- the octet between two names, `/`
 abbrev pub slash : ℕ

@@ -5,12 +5,14 @@
 mod fault;
 pub mod key;
 pub mod laws;
+mod limits;
 mod login;
 mod name;
 mod path;
 mod walk;
 
 pub use fault::PathFault;
+pub use limits::TEXT_LIMIT;
 pub use login::{LOGIN_LIMIT, are_login_octets, is_password, is_user};
-pub use name::{Name, TEXT_LIMIT, is_listed_text, is_path_text};
+pub use name::{Name, is_listed_text, is_path_text};
 pub use path::Path;

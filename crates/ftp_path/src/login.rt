@@ -9,6 +9,7 @@ pub const LOGIN_LIMIT: usize = 255;
 
 /// Whether a text is a user name: 1 to 255 octets, none of them CR, LF or NUL.
 pub fn is_user(user: &[u8]) -> bool
+    // Witness: equations; `a_user_name_of_256_octets_is_taken` beside the gate.
     ensures { result ≡ is_user user.now }
 {
     1 <= user.len() && user.len() <= LOGIN_LIMIT && are_login_octets(user)
@@ -16,6 +17,7 @@ pub fn is_user(user: &[u8]) -> bool
 
 /// Whether a text is a password: at most 255 octets, none of them CR, LF or NUL.
 pub fn is_password(pass: &[u8]) -> bool
+    // Witness: as of `is_user`.
     ensures { result ≡ is_password pass.now }
 {
     pass.len() <= LOGIN_LIMIT && are_login_octets(pass)
@@ -23,6 +25,7 @@ pub fn is_password(pass: &[u8]) -> bool
 
 /// Whether no octet of a text is CR, LF or NUL.
 pub fn are_login_octets(octets: &[u8]) -> bool
+    // Witness: as of `is_user`.
     ensures { result ≡ list_all is_login_octet octets.now }
 {
     octets.iter().all(|octet| is_login_octet(*octet))

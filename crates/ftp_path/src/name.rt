@@ -4,15 +4,12 @@ ghost use Rattle.std.specs.List.{list_all};
 ghost use Rattle.std.specs.Str.{is_utf8};
 ghost use Rattle.ftp_path.specs.Path.{IsPathText, is_listed_text, is_path_octet, is_text, is_name_octet, is_part, is_here, is_above, is_component, is_name, is_rooted};
 
-/// The most octets of a path text and of a canonical text (own choice).
-pub const TEXT_LIMIT: usize = 900;
-
-/// The most octets of a name (own choice).
-pub(crate) const NAME_LIMIT: usize = 255;
+use crate::limits::{NAME_LIMIT, TEXT_LIMIT};
 
 /// Whether a text may be resolved: 1 to 900 octets of UTF-8 (RFC 2640, section 3.1) without the octets 0 to 31 and 127.
 /// The limits are own choices.
 pub fn is_path_text(text: &[u8]) -> bool
+    // Witness: equations of what they answer.
     ensures { IsTrue result ↔ IsPathText text.now }
 {
     !text.is_empty() && text.len() <= TEXT_LIMIT && is_text(text)
@@ -20,6 +17,7 @@ pub fn is_path_text(text: &[u8]) -> bool
 
 /// Whether a text may be a pathname that a server lists: as a path text, but of any length.
 pub fn is_listed_text(text: &[u8]) -> bool
+    // Witness: equations of what they answer.
     ensures { IsTrue result ↔ IsTrue (is_listed_text text.now) }
 {
     !text.is_empty() && is_text(text)
@@ -36,6 +34,7 @@ pub struct Name<'a> {
 impl<'a> Name<'a> {
     /// The name that some octets are, or `None` where they are none.
     pub fn new(octets: &'a [u8]) -> Option<Name<'a>>
+        // Witness: together an equation of what it answers.
         ensures name { IfSome result (λ name. name.octets.now ≡ octets.now) }
         ensures named { IsSome result ↔ IsTrue (is_name octets.now) }
     {
@@ -49,6 +48,7 @@ impl<'a> Name<'a> {
     /// Its octets.
     pub fn octets(&self) -> &'a [u8]
         ensures octets { result.now ≡ self.now.octets.now }
+        // Witness of named: `names_in` of `ftp_direct`, whose clause `named` passes it on.
         ensures named { IsTrue (is_name result.now) }
     {
         self.octets

@@ -4,7 +4,8 @@ ghost use Rattle.ftp_path.specs.Kept.{IsJoined, IsKept, names_of};
 ghost use Rattle.ftp_path.specs.Path.{IsPathText, fits, is_path_text, is_rooted, is_within, joined, moved_path, parent, resolved, text_of};
 
 use crate::fault::PathFault;
-use crate::name::{TEXT_LIMIT, is_path_text, is_rooted};
+use crate::limits::TEXT_LIMIT;
+use crate::name::{is_path_text, is_rooted};
 use crate::walk::{Walk, parent_len};
 use std::alloc::{AllocError, Allocator};
 use std::marker::Model;
@@ -50,7 +51,9 @@ impl<A: Allocator + Copy> Path<A> {
     /// `NotText` where `is_path_text` says no; `TooBig` where a component that is left has over 255 octets or the
     /// canonical text over 900; else `Memory`.
     pub fn resolve(&self, alloc: A, text: &[u8]) -> Result<Path<A>, PathFault>
+        // Witness of text: a caller's clause, that of `root_of` of `tool_accounts`; `any_text_is_followed`.
         ensures text { OnOk result (IsPathText text.now) }
+        // Witness of ok, fault: equations; `no_path_text_is_told_as_too_long`.
         ensures ok { IfOk result (λ path. (path ≡ resolved self.now text.now) × IsTrue (fits path)) }
         ensures fault { IfErr result (λ fault. fault ≡
             (if is_path_text text.now then (if fits (resolved self.now text.now) then PathFault.Memory else PathFault.TooBig) else PathFault.NotText)) }
@@ -71,6 +74,7 @@ impl<A: Allocator + Copy> Path<A> {
     /// The canonical text: `/`, or `/` before each name. Lends it, and takes no memory.
     pub fn text(&self) -> &[u8]
         ensures text { result.now ≡ text_of self.now }
+        // Witness of path_text, bound: they follow from `text`, for a path within the limits.
         ensures path_text { IsPathText result.now }
         ensures bound { length result.now ≤ TEXT_LIMIT }
     {
@@ -104,6 +108,7 @@ impl<A: Allocator + Copy> Path<A> {
 
     /// Its names joined, `/` before each: no octets for the root. Lends them, for the functions of `key`.
     pub fn key(&self) -> &[u8]
+        // Witness: together an equation: what is kept is its names joined.
         ensures kept { IsKept result.now }
         ensures names { names_of result.now ≡ self.now }
     {
@@ -112,8 +117,10 @@ impl<A: Allocator + Copy> Path<A> {
 
     /// The same of the parent, which of the root is the root. Lends them.
     pub fn parent_key(&self) -> &[u8]
+        // Witness of joined, names: together an equation.
         ensures joined { IsJoined result.now }
         ensures names { names_of result.now ≡ parent self.now }
+        // Witness of fits: it says of the path what `resolve` says in `ok`.
         ensures fits { IsTrue (fits self.now) }
     {
         &self.octets.as_slice()[..parent_len(self.octets.as_slice())]

@@ -4,7 +4,8 @@ ghost use Rattle.std.specs.List.{list_all, slice_split, suffix_len};
 ghost use Rattle.ftp_path.specs.Path.{fits, followed, is_part, is_text, is_slash, joined};
 ghost use Rattle.ftp_path.specs.Kept.{IsJoined, is_no_slash, names_of};
 
-use crate::name::{NAME_LIMIT, TEXT_LIMIT, is_above, is_here};
+use crate::limits::{NAME_LIMIT, TEXT_LIMIT};
+use crate::name::{is_above, is_here};
 use arrayvec::ArrayVec;
 use std::marker::Model;
 

@@ -43,6 +43,7 @@ impl Turns {
 
     /// One turn more, where one is left.
     pub fn next(&mut self) -> Result<(), Cause>
+        // Witness: `edits/half_of_the_turns_are_left_out.edit` (made); the type `Spent` (none); `IsCause` of `drive_end` (spent).
         ensures made { OnOk result (self.old.left ≡ suc self.new.left) }
         ensures none { OnErr result (self.old.left ≡ 0) }
         ensures spent { IfErr result (λ cause. IsSpent cause) }

@@ -60,6 +60,7 @@ impl<R: Read + Drop, W: Write + Drop> Control<R, W> {
 
     /// Whether octets were read that are not heard yet.
     pub fn has_unheard(&self) -> bool
+        // Witness: `hear`, `read` of `ftp_driver`: what is heard, and what is read after it.
         ensures some { IsTrue result → 0 < length (unheard_of self.now) }
         ensures none { result ≡ false → unheard_of self.now ≡ [] }
     {
@@ -69,6 +70,7 @@ impl<R: Read + Drop, W: Write + Drop> Control<R, W> {
     /// So many of them were heard.
     pub fn heard(&mut self, count: usize)
         requires { count ≤ length (unheard_of self.old) }
+        // Witness: equations; `edits/a_connection_counts_as_failed_that_did_not.edit` (failed).
         ensures unheard { unheard_of self.new ≡ drop count (unheard_of self.old) }
         ensures left { left_of R.remaining self.new ≡ left_of R.remaining self.old }
         ensures written { written_of W.contents self.new ≡ written_of W.contents self.old }
@@ -80,6 +82,8 @@ impl<R: Read + Drop, W: Write + Drop> Control<R, W> {
     /// Reads once, where all octets before were heard, and gives how many came; none is the end of the connection.
     pub fn read(&mut self) -> Result<usize, Cause>
         requires { unheard_of self.old ≡ [] }
+        // Witness of ok, none, ended, some, count, err, open, kept, written: `read` of `ftp_driver`; `edits/octets_that_were_read_are_left_out.edit`
+        // (ok); `edits/an_end_that_was_found_is_not_kept.edit` (ended); count is an equation.
         ensures ok { OnOk result (Consumes (left_of R.remaining self.old).octets (left_of R.remaining self.new).octets (unheard_of self.new)) }
         ensures none { IfOk result (λ count. count ≡ 0 → IsAtEnd (left_of R.remaining self.new).octets × (unheard_of self.new ≡ [])) }
         ensures ended { IfOk result (λ count. count ≡ 0 → (left_of R.remaining self.new).ended ≡ true) }
@@ -89,6 +93,7 @@ impl<R: Read + Drop, W: Write + Drop> Control<R, W> {
         ensures open { OnErr result ((left_of R.remaining self.new).ended ≡ (left_of R.remaining self.old).ended) }
         ensures kept { OnErr result (unheard_of self.new ≡ []) }
         ensures written { written_of W.contents self.new ≡ written_of W.contents self.old }
+        // Witness of sound, fault: `IsCause` of `drive_end`.
         ensures sound { OnOk result (self.new.failed ≡ self.old.failed) }
         ensures fault { IfErr result (λ cause. IsFault cause self.new.failed) }
     {
@@ -111,10 +116,12 @@ impl<R: Read + Drop, W: Write + Drop> Control<R, W> {
 
     /// Writes all of these octets; where that fails, a beginning of them was written.
     pub fn write(&mut self, octets: &[u8]) -> Result<(), Cause>
+        // Witness of ok, front, left, unheard: `flush` of `ftp_driver`; `edits/half_of_the_octets_is_written.edit` (ok).
         ensures ok { OnOk result (Appends (written_of W.contents self.old) (written_of W.contents self.new) octets.now) }
         ensures front { AppendsFront (written_of W.contents self.old) (written_of W.contents self.new) octets.now }
         ensures left { left_of R.remaining self.new ≡ left_of R.remaining self.old }
         ensures unheard { unheard_of self.new ≡ unheard_of self.old }
+        // Witness of sound, fault: `IsCause` of `drive_end`.
         ensures sound { OnOk result (self.new.failed ≡ self.old.failed) }
         ensures fault { IfErr result (λ cause. IsFault cause self.new.failed) }
     {

@@ -7,7 +7,8 @@ ghost use Rattle.std.specs.IoError.{error_kind};
 ghost use Rattle.ftp_ports.specs.Halting.{fate_by, fate_halted};
 ghost use Rattle.ftp_ports.specs.Whole.{IsCut, IsWhole};
 
-use crate::ports::{Beside, DATA_PIECE, Duplex, For, Ports, Ready};
+use crate::pieces::DATA_PIECE;
+use crate::ports::{Beside, Duplex, For, Ports, Ready};
 use crate::whole::{Fate, Rest, whole_of};
 use std::io::{Error, ErrorKind};
 
@@ -48,6 +49,7 @@ impl<S: Duplex> DataConnection<S> {
 
     /// No data connection.
     pub fn new() -> DataConnection<S>
+        // Witness of whole: equations.
         ensures whole { IsWhole result.at result.end result.rest result.fate }
         ensures none { result.stream ≡ None }
         ensures sound { result.fate ≡ Fate.Sound }
@@ -68,6 +70,7 @@ impl<S: Duplex> DataConnection<S> {
         ensures rest { self.new.rest ≡ rest }
         ensures stands { self.new.stream ≡ Some stream }
         ensures sound { self.new.fate ≡ Fate.Sound }
+        // Witness of asked: equations.
         ensures asked { Replaces S.remaining S.contents self.old.stream (P.history ports.old) (P.history ports.new) }
     {
         self.at = self.end;
@@ -81,6 +84,7 @@ impl<S: Duplex> DataConnection<S> {
 
     /// This end has more octets for it.
     pub fn more(&mut self)
+        // Witness: equations: `see` of `ftp_driver`.
         ensures rest { self.new.rest ≡ Rest.More }
         ensures at { self.new.at ≡ self.old.at }
         ensures end { self.new.end ≡ self.old.end }
@@ -99,6 +103,7 @@ impl<S: Duplex> DataConnection<S> {
 
     /// Whether octets were taken that are not written yet.
     pub fn has_unwritten(&self) -> bool
+        // Witness: `fill` of `ftp_driver`: `took`.
         ensures some { IsTrue result → self.now.at < self.now.end }
         ensures none { result ≡ false → self.now.at ≡ self.now.end }
     {
@@ -121,6 +126,7 @@ impl<S: Duplex> DataConnection<S> {
 
     /// This end was told that it broke, or that the other end closed it.
     pub fn told(&mut self, fate: Fate)
+        // Witness: equations: `tell_end` of `ftp_driver`.
         ensures told { self.new.fate ≡ fate }
         ensures at { self.new.at ≡ self.old.at }
         ensures end { self.new.end ≡ self.old.end }
@@ -133,6 +139,7 @@ impl<S: Duplex> DataConnection<S> {
     /// How many octets are to be taken at once: an eighth of those that went so far, within 32,768 and 262,144. So the last octets, behind which
     /// nothing is heard until they are written, are few beside what the system took already, and it mostly has room for them.
     pub fn piece(&self) -> usize
+        // Witness: `fill` of `ftp_driver` (most); `rows_ends`: two pieces of 32,768 (least).
         ensures least { 32768 ≤ result }
         ensures most { result ≤ 262144 }
     {
@@ -167,8 +174,11 @@ impl<S: Duplex> DataConnection<S> {
     /// Writes octets of the room that are on their way, as many as one write takes.
     pub fn write(&mut self, room: &[u8]) -> Result<(), Halt>
         requires { self.old.end ≤ length room.now }
+        // Witness of sends, err, same, end, rest, stands, fate, none: `edits/octets_count_as_written_that_the_stream_did_not_take.edit`,
+        // `edits/each_write_begins_at_the_front_of_the_room.edit` (sends).
         ensures sends { Sends (carried_of S.contents self.old) (carried_of S.contents self.new) (on_their_way self.old room.now) (on_their_way self.new room.now) }
         ensures err { OnErr result (Keeps (carried_of S.contents self.old) (carried_of S.contents self.new)) }
+        // Witness of apart: as of `read`.
         ensures apart { Keeps (left_of S.remaining self.old) (left_of S.remaining self.new) }
         ensures same { OnErr result (on_their_way self.new room.now ≡ on_their_way self.old room.now) }
         ensures end { self.new.end ≡ self.old.end }
@@ -195,11 +205,14 @@ impl<S: Duplex> DataConnection<S> {
 
     /// Reads once, where it is open; none is the end of the data connection.
     pub fn read(&mut self, room: &mut [u8]) -> Result<usize, Halt>
+        // Witness of within, ok, end, open, err, at, length, rest, stands, fate, none: as those of `get`; equations; `come` of `ftp_driver` (open):
+        // an end is told only of one that stands.
         ensures within { IfOk result (λ count. count ≤ length room.new) }
         ensures ok { IfOk result (λ count. Consumes (left_of S.remaining self.old) (left_of S.remaining self.new) (take count room.new)) }
         ensures end { IfOk result (λ count. count ≡ 0 → 0 < length room.new → IsAtEnd (left_of S.remaining self.new)) }
         ensures open { IfOk result (λ count. is_some self.old.stream ≡ true) }
         ensures err { OnErr result (Keeps (left_of S.remaining self.old) (left_of S.remaining self.new)) }
+        // Witness of apart: `IsRead`, `IsWritten` of `Channel`: `near_turns_happen` of `ftp_pair_memory`.
         ensures apart { Keeps (carried_of S.contents self.old) (carried_of S.contents self.new) }
         ensures at { self.new.at ≡ self.old.at }
         ensures length { self.new.end ≡ self.old.end }
@@ -223,6 +236,7 @@ impl<S: Duplex> DataConnection<S> {
     /// Waits until octets can be read or written, or where `hears` until the control connection is to be served. Where none stands, the next
     /// read or write says so.
     pub fn wait<P: Ports<Stream = S>>(&mut self, ports: &mut P, what: For, hears: bool) -> Ready
+        // Witness of left, written, asked: equations.
         ensures left { Keeps (left_of S.remaining self.old) (left_of S.remaining self.new) }
         ensures written { Keeps (carried_of S.contents self.old) (carried_of S.contents self.new) }
         ensures at { self.new.at ≡ self.old.at }
@@ -241,6 +255,7 @@ impl<S: Duplex> DataConnection<S> {
     /// Whether octets can be read or written now, or what is awaited of the control connection is there. Where none stands, the next read or write
     /// says so.
     pub fn looks<P: Ports<Stream = S>>(&mut self, ports: &mut P, what: For, beside: Beside) -> bool
+        // Witness: equations; `edits/one_that_does_not_stand_is_waited_for.edit` (later).
         ensures left { left_of S.remaining self.new ≡ left_of S.remaining self.old }
         ensures written { carried_of S.contents self.new ≡ carried_of S.contents self.old }
         ensures at { self.new.at ≡ self.old.at }
@@ -260,6 +275,7 @@ impl<S: Duplex> DataConnection<S> {
     /// Puts another stream in the place of the one that stands, and gives that; where none stands, it gives the other one back. So one who has a stream
     /// in memory brings it what came.
     pub fn exchange(&mut self, stream: S) -> Result<S, S>
+        // Witness: equations: `exchange` of `ftp_driver`.
         ensures ok { IfOk result (λ before. (self.old.stream ≡ Some before) × (self.new.stream ≡ Some stream)) }
         ensures err { IfErr result (λ kept. (kept ≡ stream) × (self.old.stream ≡ None) × (self.new.stream ≡ None)) }
         ensures at { self.new.at ≡ self.old.at }
@@ -275,6 +291,8 @@ impl<S: Duplex> DataConnection<S> {
 
     /// Closes it, if it is open, and the port that is listened at: by an end where all that was to go is written, and else by a reset.
     pub fn close<P: Ports<Stream = S>>(&mut self, ports: &mut P)
+        // Witness: equations; with which stream `Ports` is called is said by its type, too: `edits/unwritten_octets_are_followed_by_an_end.edit`,
+        // `a_download_that_is_cut_is_followed_by_an_end`, `a_whole_download_is_reset`, `a_failed_data_connection_is_followed_by_an_end`.
         ensures whole { IsWhole self.new.at self.new.end self.new.rest self.new.fate }
         ensures none { self.new.stream ≡ None }
         ensures sound { self.new.fate ≡ Fate.Sound }
@@ -292,6 +310,7 @@ impl<S: Duplex> DataConnection<S> {
 
     /// Resets it, if it is open, and closes the port that is listened at: octets that are not written yet are dropped.
     pub fn reset<P: Ports<Stream = S>>(&mut self, ports: &mut P)
+        // Witness: as of `close`.
         ensures whole { IsWhole self.new.at self.new.end self.new.rest self.new.fate }
         ensures none { self.new.stream ≡ None }
         ensures sound { self.new.fate ≡ Fate.Sound }
@@ -308,6 +327,7 @@ impl<S: Duplex> DataConnection<S> {
 
     /// Closes it for good.
     pub fn finish<P: Ports<Stream = S>>(self, ports: &mut P)
+        // Witness: an equation.
         ensures { Leaves S.remaining S.contents self.stream self.at self.end self.rest self.fate (P.history ports.old) (P.history ports.new) }
     {
         let DataConnection {

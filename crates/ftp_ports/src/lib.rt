@@ -12,6 +12,6 @@ mod whole;
 pub use cause::{Cause, Spent, Turns};
 pub use control::Control;
 pub use data::{DataConnection, Halt};
-pub use pieces::{Failed, PIECE_LIMIT, TURNS, get, put};
-pub use ports::{Accepted, Awaited, Beside, DATA_PIECE, Duplex, For, Ports, Ready, Spoken, Watch};
+pub use pieces::{DATA_PIECE, Failed, PIECE_LIMIT, TURNS, get, put};
+pub use ports::{Accepted, Awaited, Beside, Duplex, For, Ports, Ready, Spoken, Watch};
 pub use whole::{Fate, Rest, Whole};

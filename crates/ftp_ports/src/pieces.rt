@@ -12,6 +12,9 @@ pub const TURNS: u64 = 1_099_511_627_776;
 /// The most octets that a program asks one read for.
 pub const PIECE_LIMIT: usize = 4096;
 
+/// The most octets that an end asks one read or one write of a data connection for.
+pub const DATA_PIECE: usize = 262_144;
+
 /// A read or a write that failed, or memory that was refused: the program ends with status 3.
 #[derive(Clone, Copy, Debug, PartialEq, Eq, Error)]
 #[error("a read or a write failed, or memory was refused")]
@@ -19,7 +22,9 @@ pub struct Failed;
 
 /// Writes all octets, call by call; a failure leaves a beginning of them.
 pub fn put<W: Write>(writer: &mut W, octets: &[u8]) -> Result<(), Failed>
+    // Witness of ok: `edits/a_short_write_counts_as_whole.edit`; `edits/an_interrupted_write_counts_as_whole.edit`.
     ensures ok { OnOk result (Appends (W.contents writer.old) (W.contents writer.new) octets.now) }
+    // Witness of front: `dialogue` of `tool_dialogue`, `failed`.
     ensures front { AppendsFront (W.contents writer.old) (W.contents writer.new) octets.now }
 {
     let mut at = 0;
@@ -49,9 +54,13 @@ fn put_some<W: Write>(writer: &mut W, octets: &[u8]) -> Result<usize, Failed>
 
 /// Reads what one read gives; none where there is room is the end of the input.
 pub fn get<R: Read>(reader: &mut R, room: &mut [u8]) -> Result<usize, Failed>
+    // Witness of within: `converse` of `tool_dialogue`: its room can be cut there.
     ensures within { IfOk result (λ count. count ≤ length room.new) }
+    // Witness of ok: `edits/what_was_read_is_dropped.edit`.
     ensures ok { IfOk result (λ count. Consumes (R.remaining reader.old) (R.remaining reader.new) (take count room.new)) }
+    // Witness of end: `dialogue`, `done`: the input is at its end.
     ensures end { IfOk result (λ count. count ≡ 0 → 0 < length room.new → IsAtEnd (R.remaining reader.new)) }
+    // Witness of err: `dialogue`, `failed`: what was read.
     ensures err { OnErr result (Keeps (R.remaining reader.old) (R.remaining reader.new)) }
 {
     for _ in 0..TURNS {

@@ -10,9 +10,6 @@ use ftp_facts::Moment;
 use std::io;
 use std::io::{Read, Write};
 
-/// The most octets that an end asks one read or one write of a data connection for.
-pub const DATA_PIECE: usize = 262_144;
-
 /// How the waiting for a data connection ended.
 pub enum Accepted<S> {
     /// It came, from this host.
@@ -80,12 +77,14 @@ pub enum Spoken {
 pub trait Duplex: Read + Write {
     /// Reads once, as `read` does.
     fn receive(&mut self, room: &mut [u8]) -> io::Result<usize>
+        // Witness: as those of `Read` and `Write` (bound, octets); `edits/a_read_changes_what_was_written` of `ftp_pair_memory` (apart).
         ensures bound { ReadsAtMost result room.new }
         ensures octets { ReadConsumes (Self.remaining self.old) (Self.remaining self.new) result room.new }
         ensures apart { Keeps (Self.contents self.old) (Self.contents self.new) };
 
     /// Writes once, as `write` does.
     fn send(&mut self, octets: &[u8]) -> io::Result<usize>
+        // Witness: as of `receive`.
         ensures bound { WritesAtMost result octets.now }
         ensures octets { WriteAppends (Self.contents self.old) (Self.contents self.new) result octets.now }
         ensures apart { Keeps (Self.remaining self.old) (Self.remaining self.new) };
@@ -105,25 +104,30 @@ pub trait Ports {
 
     /// Listens at a port of its choice for one data connection.
     fn listen(&mut self) -> Option<u16>
+        // Witness: the history grows: `Carries` of `drive_server`; where it is `None`, as over sockets, they say nothing.
         ensures { Adds (history self.old) (history self.new) (Listened result ∷ []) };
 
     /// Waits for the data connection at that port. Where `hears`, octets of the control connection end the waiting; else only its end does.
     fn accept(&mut self, hears: bool) -> Accepted<Self::Stream>
+        // Witness: as of `listen`.
         ensures { Accepts Self.Stream.remaining Self.Stream.contents result hears (history self.old) (history self.new) };
 
     /// Opens a data connection to an endpoint.
     fn connect(&mut self, endpoint: Endpoint) -> Option<Self::Stream>
+        // Witness: as of `listen`.
         ensures { Connects Self.Stream.remaining Self.Stream.contents endpoint result (history self.old) (history self.new) };
 
     /// Waits at an open data connection. Where `hears`, octets of the control connection stop the waiting, and go first. Its end stops it where
     /// the data connection is not ready; the answer is then `Control` where `hears`, and else `Lost`.
     fn wait(&mut self, stream: &mut Self::Stream, what: For, hears: bool) -> Ready
+        // Witness: `wait` of `ftp_driver`.
         ensures left { Keeps (Self.Stream.remaining stream.old) (Self.Stream.remaining stream.new) }
         ensures written { Keeps (Self.Stream.contents stream.old) (Self.Stream.contents stream.new) }
         ensures asked { Adds (history self.old) (history self.new) (told_lost (is_lost result hears)) };
 
     /// Whether that is there: the call that waits for it ends at once. Never waits itself. One who has nothing else to do lets that call wait.
     fn looks(&mut self, _what: Awaited) -> bool
+        // Witness: `drive_on` of `ftp_driver`: turns, later.
         ensures asked { history self.new ≡ history self.old }
         ensures later { result ≡ false → waits self.new }
     {
@@ -132,6 +136,7 @@ pub trait Ports {
 
     /// The same at an open data connection: that a read, or a write, of it would not wait, or what of the control connection is awaited beside.
     fn looks_at(&mut self, _stream: &mut Self::Stream, _what: For, _beside: Beside) -> bool
+        // Witness: `drive_on` of `ftp_driver`: turns, later.
         ensures left { Self.Stream.remaining _stream.new ≡ Self.Stream.remaining _stream.old }
         ensures written { Self.Stream.contents _stream.new ≡ Self.Stream.contents _stream.old }
         ensures asked { history self.new ≡ history self.old }
@@ -142,14 +147,17 @@ pub trait Ports {
 
     /// What the control connection has now.
     fn spoken(&mut self) -> Spoken
+        // Witness: as of `listen`.
         ensures { Adds (history self.old) (history self.new) (told_lost (is_over result)) };
 
     /// Closes a data connection and the port that is listened at, if there are any: the peer finds the end behind all that was written.
     fn close(&mut self, stream: Option<Whole<Self::Stream>>)
+        // Witness: as of `listen`.
         ensures { Closes Self.Stream.remaining Self.Stream.contents stream (history self.old) (history self.new) };
 
     /// Closes a data connection, whole or not: the peer finds a reset, and never an end.
     fn reset(&mut self, stream: Self::Stream)
+        // Witness: as of `listen`.
         ensures { Resets Self.Stream.remaining Self.Stream.contents stream (history self.old) (history self.new) };
 }
 
@@ -160,5 +168,6 @@ pub trait Watch {
 
     /// The moment that it is.
     fn moment(&mut self) -> Moment
+        // Witness: the history grows: `Timely` of `ftp_server_driver`; where it is `None`, as of the system's clock, it says nothing.
         ensures { Adds (told self.old) (told self.new) (result.seconds ∷ []) };
 }

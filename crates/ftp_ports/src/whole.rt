@@ -67,6 +67,7 @@ impl<S> Whole<S> {
     /// The same of what stands in a stream.
     pub fn map<T, F: FnOnce(S) -> T>(self, inner: F) -> Whole<T>
         requires { F.IsAlwaysCallable inner }
+        // Witness: an equation of what the closure gave.
         ensures { F.post inner self.stream result.stream }
     {
         let Whole {

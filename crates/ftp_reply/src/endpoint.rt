@@ -15,6 +15,7 @@ use std::alloc::Allocator;
 ///
 /// `NoEndpoint` where there are none. Takes no memory.
 pub fn passive_of<A: Allocator + Copy>(reply: &Reply<A>) -> Result<Endpoint, ReplyFault>
+    // Witness of value: equations (`laws::values` says what they are).
     ensures value { result_ok result ≡ passive_value (joined reply.now.lines) }
     ensures fault { IfErr result (λ fault. fault ≡ ReplyFault.NoEndpoint) }
 {
@@ -28,6 +29,7 @@ pub fn passive_of<A: Allocator + Copy>(reply: &Reply<A>) -> Result<Endpoint, Rep
 ///
 /// `NoEndpoint` where there is none. Takes no memory.
 pub fn extended_of<A: Allocator + Copy>(reply: &Reply<A>) -> Result<u16, ReplyFault>
+    // Witness of value: equations (`laws::values` says what they are).
     ensures value { result_ok result ≡ extended_value (joined reply.now.lines) }
     ensures fault { IfErr result (λ fault. fault ≡ ReplyFault.NoEndpoint) }
 {

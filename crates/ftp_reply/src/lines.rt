@@ -51,6 +51,7 @@ impl<A: Allocator + Copy> Lines<A> {
     /// The number of lines.
     pub fn len(&self) -> usize
         ensures count { result ≡ length self.now }
+        // Witness of within: caller: `Lines::has_room`, lone.
         ensures within { result ≤ MAX_LINES }
     {
         self.lens.len()
@@ -59,6 +60,7 @@ impl<A: Allocator + Copy> Lines<A> {
     /// The lines' octets together, without the LF between two.
     pub fn octets(&self) -> usize
         ensures count { result ≡ octets_of self.now }
+        // Witness of within: caller: `Lines::has_room`, lone.
         ensures within { result ≤ MAX_OCTETS }
     {
         if self.lens.is_empty() {
@@ -112,6 +114,7 @@ impl<A: Allocator + Copy> Lines<A> {
 
     /// The text of a line, counted from 0.
     pub fn get(&self, index: usize) -> Option<&[u8]>
+        // Witness: equation, equivalence.
         ensures text { option_copied result ≡ slice_get self.now index }
         ensures some { IsSome result ↔ (index < length self.now) }
     {

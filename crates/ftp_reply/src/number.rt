@@ -20,6 +20,7 @@ use std::alloc::Allocator;
 ///
 /// `NoNumber` where the text is none. Takes no memory.
 pub fn size_of<A: Allocator + Copy>(reply: &Reply<A>) -> Result<u64, ReplyFault>
+    // Witness of value: equations (`laws::values` says what they are).
     ensures value { result_ok result ≡ number_value (joined reply.now.lines) }
     ensures fault { IfErr result (λ fault. fault ≡ ReplyFault.NoNumber) }
 {
@@ -33,6 +34,7 @@ pub fn size_of<A: Allocator + Copy>(reply: &Reply<A>) -> Result<u64, ReplyFault>
 ///
 /// `NoNumber` where the text has none. Takes no memory.
 pub fn mark_of<A: Allocator + Copy>(reply: &Reply<A>) -> Result<u64, ReplyFault>
+    // Witness of value: equations (`laws::values` says what they are).
     ensures value { result_ok result ≡ mark_value (joined reply.now.lines) }
     ensures fault { IfErr result (λ fault. fault ≡ ReplyFault.NoNumber) }
 {
@@ -46,6 +48,7 @@ pub fn mark_of<A: Allocator + Copy>(reply: &Reply<A>) -> Result<u64, ReplyFault>
 ///
 /// `NoNumber` where the text is none. Takes no memory.
 pub fn moment_of<A: Allocator + Copy>(reply: &Reply<A>) -> Result<Moment, ReplyFault>
+    // Witness of value: equations (`laws::values` says what they are).
     ensures value { option_map (λ moment. moment.seconds) (result_ok result) ≡ moment_value (joined reply.now.lines) }
     ensures fault { IfErr result (λ fault. fault ≡ ReplyFault.NoNumber) }
 {

@@ -26,6 +26,7 @@ pub struct LinePlace<'a> {
 
 /// Where a line stands in the reply that a reader is at.
 pub fn place_of(stage: Stage, line: &[u8]) -> Result<LinePlace<'_>, ReplyFault>
+    // Witness: caller: `Reader::line`, lone.
     ensures ok { IfOk result (λ place. (lines : List (List ℕ)) → AreKept stage lines → IsCode place.code
         × (heard_at (standing_at stage lines) line.now ≡ placed place.ends place.code (lines ++ place.text.now ∷ []))) }
     ensures err { IfErr result (λ fault. (lines : List (List ℕ)) → heard_at (standing_at stage lines) line.now ≡ Faulty fault) }

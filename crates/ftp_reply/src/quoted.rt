@@ -29,8 +29,10 @@ pub fn quoted_of<A: Allocator + Copy, B: Allocator + Copy>(
     alloc: B,
     reply: &Reply<A>,
 ) -> Result<Vec<u8, B>, ReplyFault>
+    // Witness of ok, no_path: equation, equivalence.
     ensures ok { IfOk result (λ path. path_value (joined reply.now.lines) ≡ Some path.items) }
     ensures no_path { IsErrOf result ReplyFault.NoPath ↔ (path_value (joined reply.now.lines) ≡ None) }
+    // Witness of faults: edit: `calls_want_of_memory_no_path`.
     ensures faults { IfErr result (λ fault. (fault ≡ ReplyFault.NoPath) ⊎ (fault ≡ ReplyFault.Memory)) }
 {
     let Some(path) = path_text_in(reply.text()) else {

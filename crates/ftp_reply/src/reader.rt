@@ -49,6 +49,8 @@ impl<A: Allocator + Copy> Reader<A> {
     /// Faults: `BadCode` where no reply begins with the line, `TooMany` where it passes the limits; then, and from
     /// then on, nothing is read any more and each call answers `Failed`. `Memory` leaves all as before.
     pub fn line(&mut self, line: &[u8]) -> Result<Option<Reply<A>>, ReplyFault>
+        // Witness: equations: one answer and one standing to each line, memory aside (`laws::line_is_heard`, `so_far` say what they are); edits:
+        // `ends_at_any_code`, `goes_on_after_too_many`.
         ensures { Answers (heard_at self.old line.now) result self.old self.new }
     {
         let place = match place_of(self.stage, line) {

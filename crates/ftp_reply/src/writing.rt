@@ -16,6 +16,7 @@ pub fn write<A: Allocator + Copy, B: Allocator + Copy>(
     reply: &Reply<A>,
     out: &mut Vec<u8, B>,
 ) -> Result<(), AllocError>
+    // Witness: equations (`laws::written_is_cut` and `written_is_said` say what they are); edit: `leaves_a_part_where_memory_was_wanted`.
     ensures ok { OnOk result (out.new.items ≡ out.old.items ++ joined (written reply.now.code reply.now.lines)) }
     ensures err { OnErr result (out.new.items ≡ out.old.items) }
 {

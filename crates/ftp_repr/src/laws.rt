@@ -19,6 +19,7 @@ ghost use Rattle.ftp_repr.specs.declared.skipping.Skipped.TheVariants.{Within, L
 /// In type A a wire that has ended is read as the octets of its units, one for each, and what a file goes as is read
 /// as the file. Of one that was cut a CR at its end is left out, and nothing else.
 pub fn line_ends()
+    // Witness: laws about definitions, proved of an empty body: no body can be wrong.
     ensures read { (w b : List ℕ) → IsAscii w b ↔ (plain w ≡ b) }
     ensures written { (b : List ℕ) → IsAscii (asc b) b }
     ensures cut { (w : List ℕ) → settled (w ++ 13 ∷ []) ≡ plain w }

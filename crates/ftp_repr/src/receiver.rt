@@ -35,6 +35,7 @@ pub struct Receiver {
 impl Receiver {
     /// A receiver of a file of this type and structure, before its first item.
     pub fn new(kind: Kind, structure: Structure) -> Receiver
+        // Witness: equations; `edits/receiver_begins_with_a_return`.
         ensures form { receiver_form result ≡ record { kind = kind; structure = structure } }
         ensures fresh { taking result ≡ fresh }
     {
@@ -66,11 +67,15 @@ impl Receiver {
         item: Item<'_>,
         out: &mut Vec<u8, A>,
     ) -> Result<(), ReprFault>
+        // Witness of ok, err: equations of the receiver and the vector; `edits/refused_growth_changes_the_receiver`,
+        // `refused_growth_leaves_its_octets`.
         ensures ok { OnOk result (Receives self.old (signs item.entry) self.new out.old.items out.new.items) }
         ensures err { OnErr result ((self.new ≡ self.old) × (out.new.items ≡ out.old.items)) }
 
         // Only where room is missing for what the item settles.
+        // Witness of full: `edits/receiver_always_refuses`; `rows_lines::nothing_settled_needs_no_room`.
         ensures full { OnErr result (HasNoRoom self.old (signs item.entry) (vec_capacity out.old) (vec_len out.old)) }
+        // Witness of capacity: `rows_lines::an_item_keeps_the_room`.
         ensures capacity { vec_capacity out.old ≤ vec_capacity out.new }
     {
         let before = *self;
@@ -89,8 +94,10 @@ impl Receiver {
     /// (RFC 959, section 3.4.1): the same as an end of file. An unpaired CR is kept.
     /// Without memory all is as before.
     pub fn end<A: Allocator + Copy>(&mut self, out: &mut Vec<u8, A>) -> Result<(), ReprFault>
+        // Witness of ok, err: equations; `edits/clean_end_is_an_end_of_record`.
         ensures ok { OnOk result (Receives self.old (end_file ∷ []) self.new out.old.items out.new.items) }
         ensures err { OnErr result ((self.new ≡ self.old) × (out.new.items ≡ out.old.items)) }
+        // Witness of full, capacity: `rows_lines::nothing_settled_needs_no_room`, `an_item_keeps_the_room`.
         ensures full { OnErr result (HasNoRoom self.old (end_file ∷ []) (vec_capacity out.old) (vec_len out.old)) }
         ensures capacity { vec_capacity out.old ≤ vec_capacity out.new }
     {
@@ -99,6 +106,7 @@ impl Receiver {
 
     /// The wire broke: nothing follows, and an unpaired CR is dropped. What was put at the end of the file stays.
     pub fn broken(&mut self)
+        // Witness: equations; `edits/broken_keeps_an_unpaired_return`.
         ensures form { receiver_form self.new ≡ receiver_form self.old }
         ensures over { taking self.new ≡ over }
     {
@@ -110,6 +118,8 @@ impl Receiver {
     /// Given an item that is not empty it takes one octet or the end at least. What one call lends and what calls with
     /// the rest lend, one behind the other, is what `take` puts at the end of a file.
     pub fn next<'a>(&mut self, item: Item<'a>) -> Lent<'a>
+        // Witness: `Receiver::take`, whose clauses rest on it; `edits/return_nul_is_kept_as_two`, `file_structure_keeps_an_end_of_record`,
+        // `a_run_is_lent_with_its_return`, `a_line_end_keeps_its_return`.
         ensures { Lends self.old (signs item.entry) result self.new }
     {
         if let Stage::Over = self.stage {

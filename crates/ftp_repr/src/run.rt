@@ -12,6 +12,7 @@ pub(crate) const LANES: usize = 32;
 ///
 /// CR and LF change in type A, LF in records, and none else (RFC 959, sections 3.1.1.1 and 3.1.2.2).
 pub fn plain_run(kind: Kind, structure: Structure, piece: &[u8]) -> usize
+    // Witness: the law `laws::runs`; `edits/plain_run_goes_past_the_end_of_a_record`, `lanes_miss_a_return`, `first_escape_octet_is_missed`.
     ensures run { IsRun (is_changed kind structure) piece.now result }
 {
     match (kind, structure) {
@@ -82,6 +83,7 @@ pub(crate) fn before_return(piece: &[u8]) -> usize
 
 /// How many octets stand before the first escape octet, 255, or all (RFC 959, section 3.4.1).
 pub fn first_ff(piece: &[u8]) -> usize
+    // Witness: as of `plain_run`.
     ensures run { IsRun (λ c. c == 255) piece.now result }
 {
     match memchr(255, piece) {

@@ -22,6 +22,7 @@ pub struct Sender {
 impl Sender {
     /// A sender of a file of this type and structure, at its first octet.
     pub fn new(kind: Kind, structure: Structure) -> Sender
+        // Witness: equations; `edits/sender_begins_at_its_end`.
         ensures form { sender_form result ≡ record { kind = kind; structure = structure } }
         ensures fresh { has_sent_end result ≡ false }
     {
@@ -47,18 +48,23 @@ impl Sender {
     /// are given behind it are taken, and nothing comes of them.
     pub fn next<'a>(&mut self, piece: &'a [u8], last: bool) -> (usize, Option<Item<'a>>)
         // What was still to be given is what is given now and then what is still to be given, whatever follows.
+        // Witness of gives: `edits/sender_leaves_a_return_alone`; `tool_codec::frame`, `done`.
         ensures gives { (more : List ℕ) → (IsTrue last → more ≡ []) →
             still_to_send self.old (piece.now ++ more)
             ≡ given_signs result.1 ++ still_to_send self.new (drop result.0 piece.now ++ more) }
+        // Witness of within, form, some: `tool_codec::frame`, `done` (it cuts the piece there, goes on in the same form, and ends);
+        // `edits/sender_takes_nothing`.
         ensures within { result.0 ≤ length piece.now }
         ensures form { sender_form self.new ≡ sender_form self.old }
 
         // Given octets it takes one at least, given the end it takes that; an item is never empty.
         ensures some { 0 < length piece.now → 0 < result.0 }
+        // Witness of ends, full: `rows_lines::nothing_follows_the_end`; `edits/sender_gives_its_end_again`.
         ensures ends { IsTrue last → piece.now ≡ [] → has_sent_end self.new ≡ true }
         ensures full { given_signs result.1 ≡ [] → result.1 ≡ None }
 
         // What an item stands for, and that only the end of file changes the sender, once.
+        // Witness of part, same, end, over: `ftp_wire::put`, `text`: it puts the rest of an item again by them.
         ensures part { IfSome result.1 (λ item. StandsFor (sender_form self.old) piece.now result.0 item) }
         ensures same { is_end result.1 ≡ false → self.new ≡ self.old }
         ensures end { is_end result.1 ≡ true → has_sent_end self.new ≡ true }

@@ -9,6 +9,7 @@ use std::simd::prelude::*;
 /// How many octets these octets of a file are on the wire, in file structure and stream mode (RFC 959, section
 /// 3.1.1.1). It takes no memory.
 pub fn wire_size(kind: Kind, piece: &[u8]) -> u64
+    // Witness: an equation; `edits/wire_size_counts_a_return_once`, `lanes_forget_the_rest`.
     ensures size { result ≡ length (wire_row kind piece.now) }
 {
     match kind {

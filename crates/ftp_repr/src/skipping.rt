@@ -20,6 +20,7 @@ pub enum Skipped {
 /// `piece` has the next octets of the file. Where `Left` is answered the next piece goes on with what is left; a place
 /// at the end of a piece is one of that piece. It takes no memory.
 pub fn skip(kind: Kind, left: u64, piece: &[u8]) -> Skipped
+    // Witness: the law `laws::places`, `answer`; `edits/skip_ends_within_a_pair`.
     ensures { Skips kind piece.now left result }
 {
     match kind {

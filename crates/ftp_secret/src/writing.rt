@@ -89,6 +89,7 @@ impl Secret {
         password: &[u8],
     ) -> Result<Secret, SecretFault>
         ensures made { result ≡ made method rounds salt.now password.now }
+        // Witness of opens: it follows from `made`.
         ensures opens { IfOk result (λ secret. IsTrue (opens secret password.now)) }
     {
         if !is_salt(salt) {

@@ -3,6 +3,7 @@ ghost use Rattle.ftp_server_model.specs.Rows.{AbortAnswered, AbortPastRoom, Befo
 
 /// A login with a password.
 pub fn login()
+    // Witness: as of `answered`.
     ensures { LoginAnswered }
 {}
 

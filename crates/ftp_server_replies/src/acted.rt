@@ -32,6 +32,7 @@ impl Model for ActedLine {
 impl ActedLine {
     /// A line before it is acted on.
     pub fn of<A: Allocator + Copy>(heard: &HeardLine<Argument<A>>) -> ActedLine
+        // Witness: equations; `edits/the_text_of_pass_is_told`.
         ensures { result ≡ unanswered heard.now }
     {
         ActedLine {
@@ -43,6 +44,7 @@ impl ActedLine {
 
     /// An ABOR that came during a transfer.
     pub fn abort() -> ActedLine
+        // Witness: equations; `edits/the_text_of_pass_is_told`.
         ensures { result ≡ abort_told }
     {
         ActedLine {
@@ -54,6 +56,7 @@ impl ActedLine {
 
     /// The same line, and the code of the reply that it made at once.
     pub fn answered(self, code: Option<u16>) -> ActedLine
+        // Witness: equations; `edits/the_text_of_pass_is_told`.
         ensures { result ≡ record self { code = code } }
     {
         let Self {
@@ -66,6 +69,7 @@ impl ActedLine {
 
     /// The line, lent.
     pub fn lend(&self) -> Answered<'_>
+        // Witness: equations; `edits/the_text_of_pass_is_told`.
         ensures { lent result ≡ self.now }
     {
         Answered {
@@ -78,6 +82,7 @@ impl ActedLine {
     /// How many octets of what it names are kept, at most 512.
     pub fn len(&self) -> usize
         ensures len { result ≡ length self.now.text }
+        // Witness of short: `Server::held` of `ftp_server` needs it.
         ensures short { result ≤ TOLD_LIMIT }
     {
         self.text.as_slice().len()
@@ -156,6 +161,7 @@ fn text_or_none<'a>(text: &Option<LentText<'a>>) -> &'a [u8]
 
 /// The code of the reply of this kind; none where it follows once a port is had.
 pub fn reply_code<A: Allocator + Copy>(kind: &ReplyKind<Path<A>>) -> Option<u16>
+    // Witness: equations; `edits/the_text_of_pass_is_told`.
     ensures { (s : Session) → result ≡ code_if_any (reply_said s kind.now) }
 {
     match kind {
@@ -174,6 +180,7 @@ pub fn reply_code<A: Allocator + Copy>(kind: &ReplyKind<Path<A>>) -> Option<u16>
 
 /// The code of a reply without a computed part (RFC 959, section 4.2).
 pub fn fixed_code(text: FixedReply) -> u16
+    // Witness: equations; `edits/the_text_of_pass_is_told`.
     ensures { result ≡ code_of text }
 {
     match text {

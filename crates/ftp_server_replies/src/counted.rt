@@ -16,6 +16,8 @@ pub trait Counted<A: Allocator + Copy, T: Tree<A>>: ServerTransfer<A, T> {
 
     /// So many octets, at most 13,352.
     fn stored_len(&self) -> usize
+        // Witness of sum: an equation, with the sum that the impl says by its fields.
         ensures sum { result ≡ stored self.now }
+        // Witness of few: `Server::held` of `ftp_server` needs it.
         ensures few { result ≤ stored_limit };
 }

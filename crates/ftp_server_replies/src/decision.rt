@@ -10,6 +10,7 @@ use std::mem;
 
 /// What was pending for this line alone: nothing is pending behind it.
 pub fn pending_for<A: Allocator + Copy>(pending: &mut Pending<Path<A>>) -> Pending<Path<A>>
+    // Witness: equations; `edits/a_restart_is_kept_over_another_line`.
     ensures had { result ≡ pending.old }
     ensures nothing { pending.new ≡ Pending.Nothing }
 {

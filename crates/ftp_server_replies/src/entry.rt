@@ -5,8 +5,8 @@ ghost use Rattle.ftp_facts.specs.Entry.{listed_lent};
 ghost use Rattle.ftp_nvt.specs.Lines.{written_octet};
 ghost use Rattle.ftp_server_model.specs.Entries.{listed_line};
 
+use crate::fixed_replies::FIXED_LIMIT;
 use crate::output::Output;
-use crate::text::FIXED_LIMIT;
 use ftp_facts::{Facts, LentEntry, LineSink, write_entry_line};
 use ftp_server_model::{FREE_ROOM, OUTPUT_ROOM};
 use std::alloc::{AllocError, Allocator};
@@ -19,6 +19,7 @@ impl<A: Allocator + Copy> Output<A> {
     pub fn put_listed(&mut self, entry: LentEntry<'_>, facts: Facts)
         requires room { length self.old + FREE_ROOM ≤ OUTPUT_ROOM }
         requires few { length (listed_line facts (listed_lent entry)) ≤ ENTRY_LIMIT }
+        // Witness: as of `put_here`.
         ensures { self.new ≡ self.old ++ reply_octets (record {
           code = 250;
           lines = codes "Listing" ∷ (32 ∷ listed_line facts (listed_lent entry.entry)) ∷ codes "End" ∷ [];

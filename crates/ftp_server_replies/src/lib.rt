@@ -4,24 +4,24 @@
 #![tactic(auto)]
 
 mod acted;
+mod allowed_endpoint;
+mod computed_replies;
 mod counted;
 mod decision;
-mod endpoint;
 mod entry;
 mod fault;
+mod fixed_replies;
 mod line;
 mod output;
 mod part;
-mod reply;
 mod room;
 mod standing;
-mod text;
 mod transfer;
 
 pub use acted::{ActedLine, fixed_code, reply_code};
+pub use allowed_endpoint::is_taken;
 pub use counted::Counted;
 pub use decision::{fault_text, is_free, is_in, is_transfer, pending_for};
-pub use endpoint::is_taken;
 pub use fault::Fault;
 pub use line::line_len;
 pub use output::Output;

@@ -8,7 +8,7 @@ ghost use Rattle.ftp_server_model.specs.Replies.{fixed_reply};
 ghost use Rattle.ftp_server_replies.specs.Codes.{digit_in, of_three};
 ghost use Rattle.std.specs.List.{slice_get};
 
-use crate::text::{FIXED_LIMIT, fixed_line};
+use crate::fixed_replies::{FIXED_LIMIT, fixed_line};
 use circular_buffer::HeapCircularBuffer;
 use ftp_server_model::{FREE_ROOM, FixedReply, OUTPUT_ROOM};
 use itoa::Buffer;
@@ -62,6 +62,7 @@ impl<A: Allocator + Copy> Output<A> {
     /// How many octets are owed.
     pub fn len(&self) -> usize
         ensures len { result ≡ length self.now }
+        // Witness of within: `Server::held` of `ftp_server` needs it.
         ensures within { result ≤ OUTPUT_ROOM }
     {
         self.octets.len()
@@ -77,6 +78,8 @@ impl<A: Allocator + Copy> Output<A> {
     /// Gives octets, the first that are owed first, and says how many.
     pub fn give(&mut self, room: &mut [u8]) -> usize
         ensures count { result ≡ min (length room.old) (length self.old) }
+        // Witness of gave: equations and bounds of the count, where the device did not stray; where what comes next was not had something is left;
+        // the map stays, and the count moves on by one at most.
         ensures gave { room.new ≡ take result self.old ++ drop result room.old }
         ensures rest { self.new ≡ drop result self.old }
     {
@@ -85,6 +88,7 @@ impl<A: Allocator + Copy> Output<A> {
 
     /// The code whose three digits stand at a place of them; none where no three digits stand there.
     pub fn code_at(&self, place: usize) -> Option<u16>
+        // Witness: an equation; `edits/a_code_is_read_one_octet_on`.
         ensures { result ≡ code_in (drop place self.now) }
     {
         if place >= self.octets.len() {
@@ -120,6 +124,7 @@ impl<A: Allocator + Copy> Output<A> {
     pub fn put_fixed(&mut self, text: FixedReply)
         requires { length self.old + FIXED_LIMIT ≤ OUTPUT_ROOM }
         ensures octets { self.new ≡ self.old ++ reply_octets (fixed_reply text) }
+        // Witness of room: follows from `octets`; it spares callers the length.
         ensures room { length self.new ≤ length self.old + FIXED_LIMIT }
     {
         self.put(fixed_line(text));
@@ -129,6 +134,7 @@ impl<A: Allocator + Copy> Output<A> {
     pub fn put_number(&mut self, number: u64)
         requires { length self.old + 2 * NUMBER_LIMIT ≤ OUTPUT_ROOM }
         ensures octets { self.new ≡ self.old ++ flat_map written_octet (decimal number) }
+        // Witness of room: follows from `octets`; it spares callers the length.
         ensures room { length self.new ≤ length self.old + 2 * NUMBER_LIMIT }
     {
         let mut buffer = Buffer::new();
@@ -152,6 +158,7 @@ impl<A: Allocator + Copy> Output<A> {
     pub fn put_text(&mut self, text: &[u8])
         requires { length self.old + 2 * length text.now ≤ OUTPUT_ROOM }
         ensures octets { self.new ≡ self.old ++ flat_map written_octet text.now }
+        // Witness of room: follows from `octets`; it spares callers the length.
         ensures room { length self.new ≤ length self.old + 2 * length text.now }
     {
         for octet in text {
@@ -163,6 +170,7 @@ impl<A: Allocator + Copy> Output<A> {
     pub fn put_doubled(&mut self, text: &[u8])
         requires { length self.old + 4 * length text.now ≤ OUTPUT_ROOM }
         ensures octets { self.new ≡ self.old ++ flat_map written_octet (doubled text.now) }
+        // Witness of room: follows from `octets`; it spares callers the length.
         ensures room { length self.new ≤ length self.old + 4 * length text.now }
     {
         for octet in text {

@@ -11,6 +11,7 @@ use std::alloc::Allocator;
 /// A path, by its text: at most `TEXT_LIMIT` octets.
 pub fn path_len<A: Allocator + Copy>(path: &Path<A>) -> usize
     ensures len { result ≡ path_len path.now }
+    // Witness of short: `pending_len` needs it.
     ensures short { result ≤ TEXT_LIMIT }
 {
     path.text().len()
@@ -19,6 +20,7 @@ pub fn path_len<A: Allocator + Copy>(path: &Path<A>) -> usize
 /// The name of a USER that waits for its PASS.
 pub fn access_len<A: Allocator + Copy>(access: &Access<Argument<A>>) -> usize
     ensures len { result ≡ access_len access.now }
+    // Witness of short: `Server::held` of `ftp_server` needs it.
     ensures short { result < 2 ^ 63 }
 {
     match access {
@@ -30,6 +32,7 @@ pub fn access_len<A: Allocator + Copy>(access: &Access<Argument<A>>) -> usize
 /// The path of an RNFR: at most `TEXT_LIMIT` octets.
 pub fn pending_len<A: Allocator + Copy>(pending: &Pending<Path<A>>) -> usize
     ensures len { result ≡ pending_len pending.now }
+    // Witness of short: `Server::held` of `ftp_server` needs it.
     ensures short { result ≤ TEXT_LIMIT }
 {
     match pending {

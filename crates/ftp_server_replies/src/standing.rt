@@ -6,6 +6,7 @@ use ftp_server_model::Standing;
 
 /// Whether both are the same.
 pub fn same_standing(before: Standing, now: Standing) -> bool
+    // Witness: equations; `edits/another_moment_is_the_same`.
     ensures { result ≡ same_standing before now }
 {
     match before {
@@ -30,6 +31,7 @@ fn is_file(now: Standing, size: u64, moment: u64) -> bool
 
 /// Whether what stood at a path still stands there, as far as both are known.
 pub fn still_stands(before: Option<Standing>, now: Option<Standing>) -> bool
+    // Witness: equations; `edits/another_moment_is_the_same`.
     ensures { result ≡ still_stands before now }
 {
     match before {

@@ -73,6 +73,7 @@ pub trait ServerTransfer<A: Allocator + Copy, T: Tree<A>>: Drop {
         place: u64,
         settings: Representation,
     ) -> Result<Self, Fault>
+        // Witness: equations of the transfer, where nothing failed, and of the map; the count tells a failed device.
         ensures download { IfOk result (λ transfer. view transfer ≡ Transfers.Download (file_wire settings place (drop place (octets_or_none (under (T.table tree.old) root.now) path.now)))) }
         ensures table { T.table tree.new ≡ T.table tree.old }
         ensures steady { OnOk result (T.failures tree.new ≡ T.failures tree.old) }
@@ -87,6 +88,7 @@ pub trait ServerTransfer<A: Allocator + Copy, T: Tree<A>>: Drop {
         keep: Keep,
         settings: Representation,
     ) -> Result<Self, Fault>
+        // Witness: the same.
         ensures upload { IfOk result (λ transfer. view transfer ≡ Transfers.Upload path.old keep (no_octets settings)) }
         ensures table { T.table tree.new ≡ T.table tree.old }
         ensures steady { OnOk result (T.failures tree.new ≡ T.failures tree.old) }
@@ -100,6 +102,7 @@ pub trait ServerTransfer<A: Allocator + Copy, T: Tree<A>>: Drop {
         path: &mut Path<A>,
         mode: Mode,
     ) -> Result<Self, AllocError>
+        // Witness: equations, where memory was not refused.
         ensures { IfOk result (λ listing. view listing ≡ Transfers.Listing (listing_wire mode (list_lines (under (T.table tree.now) root.now) path.old))) };
 
     /// What NLST sends of what stands at a path, for the argument that named it.
@@ -111,6 +114,7 @@ pub trait ServerTransfer<A: Allocator + Copy, T: Tree<A>>: Drop {
         text: &Option<Argument<A>>,
         mode: Mode,
     ) -> Result<Self, AllocError>
+        // Witness: equations, where memory was not refused.
         ensures { IfOk result (λ listing. view listing ≡ Transfers.Listing (listing_wire mode (name_lines (under (T.table tree.now) root.now) path.old (or_empty text.now)))) };
 
     /// What MLSD sends of the directory at a path, with these facts.
@@ -122,14 +126,17 @@ pub trait ServerTransfer<A: Allocator + Copy, T: Tree<A>>: Drop {
         facts: Facts,
         mode: Mode,
     ) -> Result<Self, AllocError>
+        // Witness: equations, where memory was not refused.
         ensures { IfOk result (λ listing. view listing ≡ Transfers.Listing (listing_wire mode (entry_lines facts (under (T.table tree.now) root.now) path.old))) };
 
     /// Whether it takes octets of the data connection, and does not give them.
     fn takes_octets(&self) -> bool
+        // Witness: equations, where memory was not refused.
         ensures { result ≡ takes_octets (view self.now) };
 
     /// Takes octets of the data connection. Where the transfer is over by them, it is of no use any more.
     fn receive(&mut self, tree: &T, root: &Path<A>, piece: &[u8]) -> Received
+        // Witness: for every server's view an equation, by what is told; bounds of the count.
         ensures within { result.count ≤ length piece.now }
         ensures comes { Comes (under (T.table tree.now) root.now) (view self.old) (take result.count piece.now) result.told (view self.new) }
         ensures some { takes_octets (view self.old) ≡ true → 0 < length piece.now → 0 < result.count };
@@ -137,6 +144,7 @@ pub trait ServerTransfer<A: Allocator + Copy, T: Tree<A>>: Drop {
     /// Gives octets to the data connection. The tree stays as it is. Where its device strays, nothing is said of what is given but that there was
     /// room for it.
     fn give(&mut self, tree: &mut T, room: &mut [u8]) -> Given
+        // Witness: as of `give`.
         ensures within { result.count ≤ length room.old }
         ensures gave { NoStray (T.failures tree.old) (T.failures tree.new) → take result.count room.new ≡ take result.count (given_of (view self.old)) }
         ensures most { NoStray (T.failures tree.old) (T.failures tree.new) → result.count ≤ length (given_of (view self.old)) }
@@ -152,6 +160,7 @@ pub trait ServerTransfer<A: Allocator + Copy, T: Tree<A>>: Drop {
 
     /// Whether all is given.
     fn is_given_out(&self) -> bool
+        // Witness: equations, where memory was not refused.
         ensures { result ≡ is_out (view self.now) };
 
     /// What stands at the path of an upload; none of another transfer.
@@ -171,8 +180,10 @@ pub trait ServerTransfer<A: Allocator + Copy, T: Tree<A>>: Drop {
         rights: Rights,
         moment: Moment,
     ) -> Result<FixedReply, Fault>
+        // Witness of ends: equations of what is answered where nothing failed, and of the map, where the device did not stray.
         ensures ends { (s : Seen) → s.table ≡ T.table tree.old → s.root ≡ root.now → s.rights ≡ rights
             → Ends (at_end moment.seconds (view self) s) s (T.table tree.new) result (T.failures tree.old) (T.failures tree.new) }
+        // Witness of upload: a failure is an upload's alone.
         ensures upload { OnErr result (IsUpload (view self)) };
 
     /// The data connection broke: what was settled of an upload is put into the tree, or refused there. The reply that ends the transfer.
@@ -183,7 +194,9 @@ pub trait ServerTransfer<A: Allocator + Copy, T: Tree<A>>: Drop {
         rights: Rights,
         moment: Moment,
     ) -> Result<FixedReply, Fault>
+        // Witness of ends: as of `at_end`.
         ensures ends { (s : Seen) → s.table ≡ T.table tree.old → s.root ≡ root.now → s.rights ≡ rights
             → Ends (at_break moment.seconds (view self) s) s (T.table tree.new) result (T.failures tree.old) (T.failures tree.new) }
+        // Witness of upload: a failure is an upload's alone.
         ensures upload { OnErr result (IsUpload (view self)) };
 }

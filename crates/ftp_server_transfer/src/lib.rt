@@ -2,13 +2,13 @@
 //! a tree (RFC 959, section 4.1.3; RFC 1123, section 4.1.2.7; RFC 3659, section 7). No IO.
 #![tactic(auto)]
 
-mod came;
 mod counted;
 mod download;
 mod ending;
 mod line;
 mod listing;
 mod named;
+mod settled;
 mod standing;
 mod stored;
 mod transfer;

@@ -11,10 +11,10 @@ ghost use Rattle.ftp_server_model.specs.declared.session.Transfer.TheVariants as
 ghost use Rattle.ftp_server_transfer.specs.Receiving.{is_over};
 ghost use Rattle.ftp_tree.specs.Tree.{octets_refusal, under};
 
-use crate::came::Came;
 use crate::ending::{
     end_refusal, fault_by, is_overtaken, kept_at, kept_count, overtaken_keep, room_behind,
 };
+use crate::settled::Came;
 use crate::standing::{look_anew, standing_at};
 use arrayvec::ArrayVec;
 use ftp_facts::Moment;
@@ -159,8 +159,6 @@ impl<A: Allocator + Copy, T: Tree<A>> Upload<A, T> {
         rights: Rights,
         moment: Moment,
     ) -> Result<FixedReply, Fault>
-        // Witness: as of `at_end`.
-        // Witness: as of `at_end`.
         // Witness: as of `at_end`.
         ensures { (s : Session) → s.table ≡ T.table tree.old → s.root ≡ root.now → s.rights ≡ rights
             → Ends (at_break moment.seconds (upload_of self) s) s (T.table tree.new) result (T.failures tree.old) (T.failures tree.new) }

@@ -3,6 +3,7 @@ ghost use Rattle.ftp_settings.specs.Rows.{DefaultsStated, OctetsOfMarkers, OneHa
 
 /// The defaults, the eight representations, and octets of a marker.
 pub fn settings()
+    // Witness: rows of the definitions.
     ensures defaults { DefaultsStated }
     ensures markers { OneHasMarkers }
     ensures octets { OctetsOfMarkers }

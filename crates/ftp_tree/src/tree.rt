@@ -69,6 +69,7 @@ pub trait Tree<A: Allocator + Copy>: Drop {
         path: &Path<C>,
         sight: Sight,
     ) -> Result<(), Broken>
+        // Witness: equations; that a look is made no clause says.
         ensures same { NoStray (failures self.old) (failures self.new) → table self.new ≡ table self.old }
         ensures steady { OnOk result (IsSteady (failures self.old) (failures self.new)) }
         ensures failed { OnErr result (TellsOne (failures self.old) (failures self.new)) };
@@ -105,6 +106,7 @@ pub trait Tree<A: Allocator + Copy>: Drop {
         root: &Path<B>,
         path: &Path<C>,
     ) -> Result<Self::Open, TreeFault>
+        // Witness: equations; `edits/a_directory_is_opened` of `ftp_tree_memory`.
         ensures opened { IfOk result (λ file. opened file ≡ octets_or_none (under (table self.old) root.now) path.now) }
         ensures done { OnOk result (IsDone (file_refusal (node_at (under (table self.old) root.now) path.now)) (table self.old) (table self.new) (failures self.old) (failures self.new)) }
         ensures refused { IfErr result (λ fault. IsRefused (file_refusal (node_at (under (table self.old) root.now) path.now)) fault (table self.old) (table self.new) (failures self.old) (failures self.new)) };
@@ -116,11 +118,13 @@ pub trait Tree<A: Allocator + Copy>: Drop {
     /// Reads octets of an open file from a place on into the front of the room, and says how many: none only at its end, or
     /// where there is no room. What follows them in the room may be anything. Tree and file stay as they are.
     fn read(&mut self, file: &mut Self::Open, at: u64, room: &mut [u8]) -> Result<usize, Broken>
+        // Witness of octets, most, some: as of `piece` of `ftp_tree_memory`; the rows of `rows_tree` read files whole with rooms of 1 octet and up.
         ensures octets { NoStray (failures self.old) (failures self.new) → IfOk result (λ count. take count room.new ≡ take count (drop at (opened file.old))) }
         ensures most { IfOk result (λ count. (count ≤ length room.old) × (count ≤ length (drop at (opened file.old)))) }
         ensures some { IfOk result (λ count. 0 < length room.old → at < length (opened file.old) → 0 < count) }
         ensures file { opened file.new ≡ opened file.old }
         ensures table { table self.new ≡ table self.old }
+        // Witness of steady, failed: equations.
         ensures steady { OnOk result (IsSteady (failures self.old) (failures self.new)) }
         ensures failed { OnErr result (TellsOne (failures self.old) (failures self.new)) };
 
@@ -164,7 +168,9 @@ pub trait Tree<A: Allocator + Copy>: Drop {
     ///
     /// Whatever it answers, the map is a tree, and what stands in it is sound: paths of names, and of every file a moment.
     fn fits<B: Allocator + Copy>(&self, root: &Path<B>) -> bool
+        // Witness of octets: an equation; `edits/a_part_of_67108865_octets_fits` of `ftp_tree_nodes`.
         ensures octets { result ≡ nat_le (octets_in (under (table self.now) root.now)) (total_limit (table self.now)) }
+        // Witness of sound: what `IsFair` of `laws_world` asks of the map: `tree` and `entries`.
         ensures sound { IsSoundTree (table self.now) };
 
     /// Makes a directory.
@@ -176,7 +182,10 @@ pub trait Tree<A: Allocator + Copy>: Drop {
         root: &Path<B>,
         path: &Path<C>,
     ) -> Result<(), TreeFault>
+        // Witness of done: equations of the map; the laws below say of single paths what it is.
         ensures done { OnOk result (let part = under (table self.old) root.now in IsDone (make_refusal part path.now) (with_part (table self.old) root.now (made part path.now)) (table self.new) (failures self.old) (failures self.new)) }
+        // Witness of refused: an equation of the map, and of the fault where a refusal applies; `direct` of `ftp_direct` for what memory and the
+        // device may refuse; `edits/full_comes_before_exists` of `ftp_tree_nodes`.
         ensures refused { IfErr result (λ fault. IsRefused (make_refusal (under (table self.old) root.now) path.now) fault (table self.old) (table self.new) (failures self.old) (failures self.new)) };
 
     /// Removes a directory.
@@ -187,7 +196,9 @@ pub trait Tree<A: Allocator + Copy>: Drop {
         root: &Path<B>,
         path: &Path<C>,
     ) -> Result<(), TreeFault>
+        // Witness of done: as of `make_dir`.
         ensures done { OnOk result (let part = under (table self.old) root.now in IsDone (remove_refusal part path.now) (with_part (table self.old) root.now (removed part path.now)) (table self.new) (failures self.old) (failures self.new)) }
+        // Witness of refused: as of `make_dir`.
         ensures refused { IfErr result (λ fault. IsRefused (remove_refusal (under (table self.old) root.now) path.now) fault (table self.old) (table self.new) (failures self.old) (failures self.new)) };
 
     /// Deletes a file.
@@ -198,7 +209,9 @@ pub trait Tree<A: Allocator + Copy>: Drop {
         root: &Path<B>,
         path: &Path<C>,
     ) -> Result<(), TreeFault>
+        // Witness of done: as of `make_dir`.
         ensures done { OnOk result (let part = under (table self.old) root.now in IsDone (delete_refusal part path.now) (with_part (table self.old) root.now (removed part path.now)) (table self.new) (failures self.old) (failures self.new)) }
+        // Witness of refused: as of `make_dir`.
         ensures refused { IfErr result (λ fault. IsRefused (delete_refusal (under (table self.old) root.now) path.now) fault (table self.old) (table self.new) (failures self.old) (failures self.new)) };
 
     /// Moves what stands at a path, with all below it.
@@ -212,7 +225,9 @@ pub trait Tree<A: Allocator + Copy>: Drop {
         from: &Path<C>,
         to: &Path<D>,
     ) -> Result<(), TreeFault>
+        // Witness of done: as of `make_dir`.
         ensures done { OnOk result (let part = under (table self.old) root.now in IsDone (rename_refusal part from.now to.now) (with_part (table self.old) root.now (moved part from.now to.now)) (table self.new) (failures self.old) (failures self.new)) }
+        // Witness of refused: as of `make_dir`.
         ensures refused { IfErr result (λ fault. IsRefused (rename_refusal (under (table self.old) root.now) from.now to.now) fault (table self.old) (table self.new) (failures self.old) (failures self.new)) };
 
     /// Moves a file into the place of another, in one change.
@@ -224,8 +239,11 @@ pub trait Tree<A: Allocator + Copy>: Drop {
         from: &Path<C>,
         to: &Path<D>,
     ) -> Result<(), TreeFault>
+        // Witness of done: as of `make_dir`.
         ensures done { OnOk result (let part = under (table self.old) root.now in IsDone (onto_refusal part from.now to.now) (with_part (table self.old) root.now (moved (freed true part from.now to.now) from.now to.now)) (table self.new) (failures self.old) (failures self.new)) }
+        // Witness of refused: as of `make_dir`.
         ensures refused { IfErr result (λ fault. IsRefused (onto_refusal (under (table self.old) root.now) from.now to.now) fault (table self.old) (table self.new) (failures self.old) (failures self.new)) }
+        // Witness of sound: as of `fits`.
         ensures sound { IsSoundTree (table self.old) };
 
     /// Begins a file that is to come to a path: none of its octets came yet, and the tree stays as it is until it is put there.
@@ -234,6 +252,7 @@ pub trait Tree<A: Allocator + Copy>: Drop {
         root: &Path<B>,
         path: &Path<C>,
     ) -> Result<Self::Draft, TreeFault>
+        // Witness: equations; `edits/a_draft_begins_with_an_octet` of `ftp_tree_memory`.
         ensures none { IfOk result (λ draft. Self.Draft.octets draft ≡ []) }
         ensures done { OnOk result ((table self.new ≡ table self.old) × (failures self.new ≡ failures self.old)) }
         ensures refused { IfErr result (λ fault. IsRefused None fault (table self.old) (table self.new) (failures self.old) (failures self.new)) };
@@ -250,8 +269,11 @@ pub trait Tree<A: Allocator + Copy>: Drop {
         came: Self::Draft,
         moment: Moment,
     ) -> Result<(), TreeFault>
+        // Witness of done: as of `make_dir`.
         ensures done { NoStray (failures self.old) (failures self.new) → OnOk result (let part = under (table self.old) root.now in let octets = take keep (octets_or_none part path.now) ++ Self.Draft.octets came in IsDone (install_refusal part path.now (length octets)) (with_part (table self.old) root.now (installed part path.now octets moment.seconds)) (table self.new) (failures self.old) (failures self.new)) }
+        // Witness of refused: as of `make_dir`.
         ensures refused { NoStray (failures self.old) (failures self.new) → IfErr result (λ fault. let part = under (table self.old) root.now in let octets = take keep (octets_or_none part path.now) ++ Self.Draft.octets came in IsRefused (install_refusal part path.now (length octets)) fault (table self.old) (table self.new) (failures self.old) (failures self.new)) }
+        // Witness of told: what `at_end` of `ftp_server_transfer` tells a failed device by.
         ensures told { Tells result (failures self.old) (failures self.new) };
 }
 

@@ -8,5 +8,6 @@ pub trait Holder: Drop {
 
     /// How many octets there are.
     fn len(&self) -> u64
+        // Witness: an equation of the length; whoever holds octets meets it.
         ensures { result ≡ length (octets self.now) };
 }

@@ -21,6 +21,7 @@ impl<A: Allocator + Copy, C: Holder> Nodes<A, C> {
         root: &Path<B>,
         path: &Path<D>,
     ) -> Result<(), TreeFault>
+        // Witness: equations of the map and of the fault.
         ensures free { OnOk result (make_refusal (under self.old root.now) path.now ≡ None) }
         ensures done { OnOk result (self.new ≡ with_part self.old root.now (made (under self.old root.now) path.now)) }
         ensures refused { IfErr result (λ fault. fault ≡ unwrap_or (make_refusal (under self.old root.now) path.now) TreeFault.Memory) }
@@ -45,6 +46,7 @@ impl<A: Allocator + Copy, C: Holder> Nodes<A, C> {
         content: C,
         moment: Moment,
     ) -> Result<(), TreeFault>
+        // Witness: equations of the map and of the fault.
         ensures free { OnOk result (install_refusal (under self.old root.now) path.now (length (C.octets content)) ≡ None) }
         ensures done { OnOk result (self.new ≡ with_part self.old root.now (installed (under self.old root.now) path.now (C.octets content) moment.seconds)) }
         ensures refused { IfErr result (λ fault. let part = under self.old root.now in
@@ -69,6 +71,7 @@ impl<A: Allocator + Copy, C: Holder> Nodes<A, C> {
         moment: Moment,
     ) -> Result<(), C>
         requires { install_refusal (under self.old root.now) path.now (length (C.octets content)) ≡ None }
+        // Witness: equations; what is handed back has the octets that came.
         ensures done { OnOk result (self.new ≡ with_part self.old root.now (installed (under self.old root.now) path.now (C.octets content) moment.seconds)) }
         ensures same { OnErr result (self.new ≡ self.old) }
         ensures back { IfErr result (λ back. C.octets back ≡ C.octets content) }
@@ -83,6 +86,7 @@ impl<A: Allocator + Copy, C: Holder> Nodes<A, C> {
 
     /// Takes away what stands at a path, with all below it; a root stays. Takes no memory.
     pub fn cut<B: Allocator + Copy, D: Allocator + Copy>(&mut self, root: &Path<B>, path: &Path<D>)
+        // Witness: equations of the map.
         ensures { self.new ≡ cut_at self.old root.now path.now }
     {
         if path.key().is_empty() {

@@ -189,6 +189,7 @@ impl<A: Allocator + Copy, C: Holder> Node<A, C> {
 
     /// What a directory here shows, as it is now; memory for all of it is had at once. A file shows nothing.
     pub(crate) fn entries(&self, alloc: A) -> Result<DirEntries<A>, AllocError>
+        // Witness: an equation of what it gives; that it gives anything is tested.
         ensures { IfOk result (λ entries. entries ≡ entries_at self.now []) }
     {
         match &self.kept {

@@ -78,6 +78,7 @@ impl<A: Allocator + Copy, C: Holder> Nodes<A, C> {
 
     /// The same files and directories, within other limits.
     pub fn limit(&mut self, limits: Limits)
+        // Witness: an equation: the map stays.
         ensures { self.new ≡ whole limits self.old.map }
     {
         self.limits = limits;
@@ -185,6 +186,7 @@ impl<A: Allocator + Copy, C: Holder> Nodes<A, C> {
         root: &Path<B>,
         path: &Path<D>,
     ) -> Result<DirEntries<A>, AllocError>
+        // Witness: as of `entries`.
         ensures { IfOk result (λ entries. entries ≡ entries_at (under self.now root.now) path.now) }
     {
         let above = Joined::of(root, path);
@@ -229,6 +231,7 @@ impl<A: Allocator + Copy, C: Holder> Nodes<A, C> {
     ///
     /// Whatever it answers, the map is a tree, and what stands in it is sound.
     pub fn fits<B: Allocator + Copy>(&self, root: &Path<B>) -> bool
+        // Witness: equations; as of `fits` of `ftp_tree`.
         ensures octets { result ≡ nat_le (octets_in (under self.now root.now)) (total_limit self.now) }
         ensures sound { IsSoundTree self.now }
     {
@@ -266,6 +269,7 @@ impl<A: Allocator + Copy, C: Holder> Nodes<A, C> {
 
     /// How many nodes stand at or below a root, and how many octets their files have. What stands in the whole tree is sound.
     pub fn count_below<B: Allocator + Copy>(&self, root: &Path<B>) -> Count
+        // Witness: the same, of what stands at or below a root.
         ensures nodes { result.nodes ≡ fin.len (under self.now root.now).map }
         ensures octets { result.octets ≡ octets_in (under self.now root.now) }
         ensures sound { IsSoundTree self.now }

@@ -38,6 +38,7 @@ impl<A: Allocator + Copy, C: Holder> Nodes<A, C> {
     /// Whether the counts of all nodes and of all octets can count one file more, of so many octets.
     #[tactic(auto, unfolding(ftp_tree::specs::Tree::octets_in))]
     pub fn can_count(&self, octets: u64) -> bool
+        // Witness: an equivalence.
         ensures { IsTrue result ↔ (fin.len self.now.map + 1 < 2 ^ 64) × (octets_in self.now + octets < 2 ^ 128) }
     {
         let all = self.root.count();
@@ -55,6 +56,7 @@ impl<A: Allocator + Copy, C: Holder> Nodes<A, C> {
         requires loose { let part = under self.old root.now in (delete_refusal part path.now ≡ None) ⊎ (remove_refusal part path.now ≡ None) }
         requires nodes { fin.len self.old.map + 1 < 2 ^ 64 }
         requires octets { octets_in self.old + length (C.octets content) < 2 ^ 128 }
+        // Witness: equations of the map.
         ensures { self.new ≡ with_part self.old root.now (installed (under self.old root.now) path.now (C.octets content) moment.seconds) }
     {
         let node = Node::file(content, moment);
@@ -71,6 +73,7 @@ impl<A: Allocator + Copy, C: Holder> Nodes<A, C> {
     )
         requires loose { let part = under self.old root.now in (delete_refusal part to.now ≡ None) ⊎ (remove_refusal part to.now ≡ None) }
         requires free { rename_refusal (removed (under self.old root.now) to.now) from.now to.now ≡ None }
+        // Witness: equations of the map.
         ensures { self.new ≡ with_part self.old root.now (moved (removed (under self.old root.now) to.now) from.now to.now) }
     {
         let old = Joined::of(root, from);
@@ -105,6 +108,7 @@ impl<A: Allocator + Copy, C: Holder> Nodes<A, C> {
         to: &Path<E>,
     )
         requires { onto_refusal (under self.old root.now) from.now to.now ≡ None }
+        // Witness: equations of the map.
         ensures { let part = under self.old root.now in self.new ≡ with_part self.old root.now (moved (freed true part from.now to.now) from.now to.now) }
     {
         // Both are read for what is known of them: the map is a tree, and the path is within the limits of a path.
@@ -120,6 +124,7 @@ impl<A: Allocator + Copy, C: Holder> Nodes<A, C> {
         path: &Path<D>,
     )
         requires { let part = under self.old root.now in (delete_refusal part path.now ≡ None) ⊎ (remove_refusal part path.now ≡ None) }
+        // Witness: equations of the map.
         ensures { self.new ≡ with_part self.old root.now (removed (under self.old root.now) path.now) }
     {
         let place = Joined::of(root, path);

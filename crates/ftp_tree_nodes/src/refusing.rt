@@ -96,6 +96,7 @@ impl<A: Allocator + Copy, C: Holder> Nodes<A, C> {
         from: &Path<D>,
         to: &Path<E>,
     ) -> Option<TreeFault>
+        // Witness: the same.
         ensures refusal { result ≡ onto_refusal (under self.now root.now) from.now to.now }
         ensures sound { IsSoundTree self.now }
     {

@@ -45,8 +45,11 @@ impl<S: Sink> Decoder<S> {
     /// result: a marker, a fault, no room, no memory. After the last two the transfer is over: nothing is said of
     /// what is settled then.
     pub fn hear(&mut self, piece: &[u8], room: u64) -> Taken
+        // Witness of hears: an equation where more may follow; `edits/a_passed_room_is_no_more`, `nothing_is_kept_of_what_was_settled`,
+        // `a_call_breaks_the_reader`.
         ensures hears { Hears (length self.old.decoder.content + room) self.old.decoder (take result.count piece.now)
             result.mark self.new.marker result.heard self.new.decoder }
+        // Witness of within, some, all: `edits/decoder_that_takes_nothing`.
         ensures within { result.count ≤ length piece.now }
         ensures some { 0 < length piece.now → 0 < result.count }
         ensures all { TellsNothing result.mark result.heard → result.count ≡ length piece.now }
@@ -65,7 +68,9 @@ impl<S: Sink> Decoder<S> {
 
     /// How many octets it stores beside those that are settled: a restart marker that comes, or came last; at most 255.
     pub fn stored(&self) -> usize
+        // Witness of sum: equations, with the sum over the fields.
         ensures sum { result ≡ length self.now.marker }
+        // Witness of few: as of `stored`.
         ensures few { result ≤ MARKER_LIMIT }
     {
         self.intake.deframer.stored()
@@ -89,6 +94,7 @@ impl<S: Sink> Decoder<S> {
     ///
     /// At a break, or at an end before the end of file, nothing is to be done: what was settled is the file.
     pub fn end(&mut self) -> Result<(), AllocError>
+        // Witness: equations; `edits/a_clean_end_drops_its_return`.
         ensures ok { OnOk result (self.new.decoder ≡ ended self.old.decoder) }
         ensures err { OnErr result (self.new ≡ self.old) }
     {

@@ -40,6 +40,7 @@ impl Encoder {
 
     /// The wire of a file in a representation, without own restart markers.
     pub fn new(settings: Representation) -> Encoder
+        // Witness: equations; `edits/an_encoder_begins_in_another_mode`.
         ensures text { (file : List ℕ) → still_to_give result file ≡ wire settings.mode (form_of settings) file }
         ensures going { is_done result ≡ false }
     {
@@ -53,6 +54,7 @@ impl Encoder {
     /// The same with own restart markers, wherever the representation has them. They count the octets of the file from
     /// `start`, which is the place of the first one that is given (own choice; RFC 959, section 3.5).
     pub fn marked(settings: Representation, start: u64) -> Encoder
+        // Witness: equations; `edits/own_markers_are_left_out`.
         ensures text { (file : List ℕ) → start + length file < 2 ^ 64 → still_to_give result file
             ≡ (if has_markers settings then marked_text start file else wire settings.mode (form_of settings) file) }
         ensures going { is_done result ≡ false }
@@ -70,6 +72,7 @@ impl Encoder {
 
     /// Whether the end of the file is out: nothing is given any more, whatever is put.
     pub fn is_done(&self) -> bool
+        // Witness: an equation; what follows from it.
         ensures value { result ≡ is_done self.now }
         ensures none { IsTrue result → (file : List ℕ) → still_to_give self.now file ≡ [] }
     {
@@ -80,6 +83,7 @@ impl Encoder {
     ///
     /// A file that ends with nothing behind its octets, as in stream mode with file structure, may be out before its end was put.
     pub fn is_out(&self, at_end: bool) -> bool
+        // Witness: an equation; `edits/an_end_in_blocks_is_nothing`.
         ensures { (file : List ℕ) → (IsTrue at_end ↔ (file ≡ [])) → IsTrue result ↔ (still_to_give self.now file ≡ []) }
     {
         if self.framer.owed_len() > 0 {
@@ -97,6 +101,8 @@ impl Encoder {
     /// `piece` has the next octets of the file, any number of them, and `last` says that none follow it. `taken` counts
     /// those that are not to be put again, `made` the octets of the room that were written.
     pub fn put(&mut self, piece: &[u8], last: bool, room: &mut [u8]) -> Encoded
+        // Witness of within, text: over a whole file they leave one text; `edits/a_second_octet_is_given_as_the_next_one`,
+        // `edits/octets_without_room_are_passed_over`.
         ensures within { (result.taken ≤ length piece.now) × (result.made ≤ length room.old) }
 
         // What was still to be given is what is given now and then what is still to be given, whatever follows.
@@ -104,6 +110,7 @@ impl Encoder {
             ≡ take result.made room.new ++ still_to_give self.new (drop result.taken piece.now ++ more) }
 
         // The room is full, or the piece is used up and, behind the last one, all is out.
+        // Witness of all, some: `edits/an_encoder_that_takes_nothing`.
         ensures all { (result.made ≡ length room.old) ⊎ ((result.taken ≡ length piece.now) × (IsTrue last → is_done self.new ≡ true)) }
         ensures some { IsTrue last → 0 < length room.old → 0 < length (still_to_give self.old piece.now) → 0 < result.made }
     {

@@ -24,6 +24,7 @@ impl<A: Allocator + Copy> FailingFolder<A> {
     /// The root alone. It fails at the call of that number, counted from 1, or at none for 0. The count of its failures
     /// starts at `u64::MAX`, so that it wraps. Takes no memory.
     pub fn new(alloc: A, fails_at: u64) -> FailingFolder<A>
+        // Witness: an equation; at which call the folder fails is tested.
         ensures { result.tree ≡ root_alone }
     {
         FailingFolder {

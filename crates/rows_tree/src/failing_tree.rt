@@ -33,6 +33,7 @@ impl<A: Allocator + Copy> FailingTree<A> {
 
     /// It fails at the call of that number, counted from 1 from here on, or at none for 0.
     pub fn fails_at(&mut self, left: u64)
+        // Witness: the tree and the count stay; at which call the device fails is tested.
         ensures tree { self.new.tree ≡ self.old.tree }
         ensures failures { self.new.failures ≡ self.old.failures }
     {

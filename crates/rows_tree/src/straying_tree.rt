@@ -35,6 +35,7 @@ impl<A: Allocator + Copy> StrayingTree<A> {
 
     /// It strays so at the look, the read or the put of that number, counted from 1 from here on.
     pub fn strays_at(&mut self, left: u64, stray: Stray<A>)
+        // Witness: the tree stays; at which call the device strays, and how, is tested.
         ensures { self.new.tree ≡ self.old.tree }
     {
         match stray {
@@ -46,6 +47,7 @@ impl<A: Allocator + Copy> StrayingTree<A> {
 
     /// Its device fails at the call of that number, as that of a `FailingTree`.
     pub fn fails_at(&mut self, left: u64)
+        // Witness: the tree and the count stay.
         ensures tree { self.new.tree.tree ≡ self.old.tree.tree }
         ensures failures { self.new.tree.failures ≡ self.old.tree.failures }
     {

@@ -4,7 +4,7 @@
 mod again;
 mod conversing;
 mod health;
-mod hearing;
+mod listening_client;
 mod live;
 mod progress;
 mod server;

@@ -1,6 +1,6 @@
 // A control connection from its beginning to its end, and the one client at it.
 use crate::health::{Health, Noticed};
-use crate::hearing::ListeningClient;
+use crate::listening_client::ListeningClient;
 use crate::live::{LiveSession, Opens};
 use crate::progress::MeteredPorts;
 use crate::server::{connected, leave};

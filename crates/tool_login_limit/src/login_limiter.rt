@@ -107,7 +107,9 @@ impl<A: Allocator + Copy> LoginLimiter<A> {
     /// A login of an address was refused now. Of more than 1,024 addresses the one goes whose last refused login is the oldest. Refused memory, all stays as
     /// it was.
     pub fn refuse(&mut self, address: u128, now: u64) -> Result<(), AllocError>
+        // Witness of noted: an equation of the table (`after_refusal`).
         ensures noted { OnOk result (self.new ≡ after_refusal self.old address now) }
+        // Witness of stays: where memory is refused the table is as it was; `edits/a_guess_is_forgotten_where_memory_is_refused.edit`.
         ensures stays { OnErr result (self.new ≡ self.old) }
     {
         let guess = RefusedLogin {
@@ -123,7 +125,9 @@ impl<A: Allocator + Copy> LoginLimiter<A> {
     /// How long a slow answer to an address waits that is ready now, in milliseconds of some clock: it goes a second after the one before it, 30 seconds from
     /// now at most. So an address has one in a second, over however many connections.
     pub fn hold(&mut self, address: u128, now: u64) -> u64
+        // Witness of wait: an equation (`next_wait`, `left_to`); `edits/an_answer_goes_beside_the_one_before_it.edit`.
         ensures wait { result ≡ next_wait (left_to self.old address now) }
+        // Witness of held: an equation (`with_wait`); `edits/an_answer_that_waits_is_not_noted.edit`.
         ensures held { self.new ≡ with_wait self.old address now result }
     {
         let wait = next_wait(self.left_to(address, now));
@@ -160,6 +164,7 @@ impl<A: Allocator + Copy> LoginLimiter<A> {
 
     /// Whether answers to an address are slow: ten of its logins or more were refused, each within 10 minutes of the one before, and the last one of now.
     pub fn is_slow(&self, address: u128, now: u64) -> bool
+        // Witness: an equation (`is_slow`).
         ensures { result ≡ is_slow self.now address now }
     {
         self.refused_of(address, now) >= SLOW_FROM

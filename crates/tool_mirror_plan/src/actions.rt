@@ -1,6 +1,6 @@
 // What is done of one name.
 ghost use Rattle.std.specs.Prelude.{◌≡◌};
-ghost use Rattle.tool_mirror_plan.specs.Actions.{alone, actions_for, differ, differs, dir_onto, file_onto, file_onto_file, in_place, is_later, is_untold, may_remove, nameless, onto, onto_by_facts, onto_by_octets, removal, removal_for};
+ghost use Rattle.tool_mirror_plan.specs.Actions.{alone, actions_for, differ, differs, dir_onto, file_onto, file_onto_file, in_place, is_later, is_untold, nameless, onto, onto_by_facts, onto_by_octets, removal, removal_for};
 
 use std::alloc::Global;
 use tool_listing::{ItemFacts, ItemKind, ListedItem, is_name};
@@ -288,19 +288,5 @@ fn removal(kind: ItemKind) -> Actions
         ItemKind::File(_) | ItemKind::Other => Actions::One(Action::RemoveFile),
         ItemKind::Dir => Actions::One(Action::RemoveDir),
         ItemKind::Excluded | ItemKind::Odd => Actions::Nothing,
-    }
-}
-
-/// How many entries may be removed of a target, however few it held.
-const ALWAYS: u64 = 10;
-
-/// Whether so many of the entries that a target held may be removed: all where that is asked for; else ten at most, or half of them.
-pub fn may_remove(extra: Extra, held: u64, removed: u64) -> bool
-    ensures { result ≡ may_remove extra held removed }
-{
-    match extra {
-        Extra::Kept => false,
-        Extra::Removed => removed <= ALWAYS || removed <= held / 2,
-        Extra::Any => true,
     }
 }

@@ -4,10 +4,11 @@
 mod actions;
 mod index;
 mod planning;
+mod removal_limit;
 pub mod rows;
 
 pub use actions::{
-    Action, Actions, Check, CopyDirection, Extra, RefusalReason, Rules, actions_for, may_remove,
-    removal_for,
+    Action, Actions, Check, CopyDirection, Extra, RefusalReason, Rules, actions_for, removal_for,
 };
 pub use planning::{PlanStep, plan};
+pub use removal_limit::may_remove;

@@ -1,5 +1,5 @@
 // What is still to be done, one thing after another.
-use crate::removals::{RemovalCounts, Settled};
+use crate::removal_counts::{RemovalCounts, Settled};
 use std::alloc::{AllocError, Global};
 use std::mem;
 use tool_listing::{DirectoryListing, ItemKind, ListedItem, is_name};

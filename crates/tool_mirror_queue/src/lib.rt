@@ -2,9 +2,9 @@
 #![tactic(auto)]
 
 mod action_queue;
-mod removals;
+mod removal_counts;
 mod tally;
 
 pub use action_queue::{ActionQueue, QueuedAction, Work};
-pub use removals::{RemovalCounts, Settled, tell_too_many};
+pub use removal_counts::{RemovalCounts, Settled, tell_too_many};
 pub use tally::{MirrorTotals, Progress};

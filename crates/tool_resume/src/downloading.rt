@@ -3,11 +3,11 @@
 mod ahead;
 mod looking;
 
-use crate::came::{ReceivedOctets, poured};
+use crate::download_tries::follows_download;
 use crate::noting::Noting;
+use crate::received::{ReceivedOctets, poured};
 use crate::step::{Ended, NextStep};
 use crate::telling::ToldPart;
-use crate::tries::follows_download;
 use crate::trying::{ended_of, is_counted};
 use crate::version::{
     Arrival, FileVersion, LastChange, Size, arrived, is_too_large, last_change, resumes,

@@ -2,31 +2,31 @@
 //! file is whole or it is told why not (RFC 959, section 3.5; RFC 3659, sections 3 to 5).
 #![tactic(auto)]
 
-mod came;
+mod download_tries;
 mod downloading;
 mod foreseeing;
 mod held;
 mod noting;
+mod received;
 mod sending;
 mod source;
 mod step;
 mod telling;
-mod tries;
 mod trying;
 mod uploading;
 mod version;
 
-pub use came::ReceivedOctets;
+pub use download_tries::follows_download;
 pub use downloading::{Downloading, KnownMoment};
 pub use foreseeing::download_row;
 pub use held::limit_held;
+pub use received::ReceivedOctets;
 pub use sending::Sending;
 pub use source::UploadSource;
 pub use step::{
     Ended, FrontOwner, NextStep, There, TransferState, behind_front, follows, front_from,
 };
 pub use telling::{ToldPart, tell, tell_too_large};
-pub use tries::follows_download;
 pub use trying::is_counted;
 pub use uploading::{Uploading, Wrong};
 pub use version::{

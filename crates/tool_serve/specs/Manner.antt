@@ -3,9 +3,9 @@ use Rattle.std.specs.Prelude.{ℕ, ◌+◌, ◌==◌, ◌&&◌, ◌||◌, nat_lt
 use Rattle.ftp_command.specs.declared.verb.Verb.{Verb}
 use Rattle.ftp_command.specs.declared.verb.Verb.TheVariants as Verbs
 use Rattle.ftp_reply.specs.declared.code.TheConstants.{NOT_LOGGED_IN}
-use Rattle.tool_serve.specs.declared.manner.LoginHistory.{LoginHistory}
-use Rattle.tool_serve.specs.declared.manner.AnswerPace.{AnswerPace}
-use Rattle.tool_serve.specs.declared.manner.AnswerPace.TheVariants as Paces
+use Rattle.tool_serve.specs.declared.refused_logins.LoginHistory.{LoginHistory}
+use Rattle.tool_serve.specs.declared.refused_logins.AnswerPace.{AnswerPace}
+use Rattle.tool_serve.specs.declared.refused_logins.AnswerPace.TheVariants as Paces
 
 -- the line is the password of a login
 abbrev pub is_password : Option Verb → Bool

@@ -1,5 +1,5 @@
 // Who may log in.
-use crate::tells::{OfFile, ServerNotice, Tells};
+use crate::log_line::{OfFile, ServerNotice, Tells};
 use ftp_operation::{Accounts, Rights};
 use std::alloc::{AllocError, Global};
 use std::fs::Files;

@@ -2,9 +2,9 @@
 ghost use Rattle.std.specs.Global.{Global};
 
 use crate::begins::{Begins, Ours};
-use crate::in_slot::{Guest, ServerSession};
-use crate::seating::session_of;
-use crate::tells::Tells;
+use crate::log_line::Tells;
+use crate::session_in_slot::{Guest, ServerSession};
+use crate::session_start::session_of;
 use ftp_disk_tree::{Explains, Parks};
 use ftp_ports::Failed;
 use std::alloc::Global;

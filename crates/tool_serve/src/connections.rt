@@ -3,8 +3,8 @@ ghost use Rattle.std.specs.Global.{Global};
 ghost use Rattle.std.specs.Prelude.{None};
 ghost use Rattle.ftp_ports.specs.Asking.{Closes};
 
+use crate::log_line::{DataClose, Tells};
 use crate::session_log::SessionLog;
-use crate::tells::{DataClose, Tells};
 use ftp_endpoint::Endpoint;
 use ftp_ports::{Accepted, Awaited, Beside, Duplex, For, Ports, Ready, Spoken, Whole};
 use std::alloc::Global;

@@ -1,9 +1,9 @@
 // What is told of a session on standard error, and how slow it is after refused logins: a function of what its server tells of each call.
 use crate::goodbye::{guessed_from, last_reply};
-use crate::in_slot::Service;
-use crate::manner::{AnswerPace, LoginHistory, password_awaited};
-use crate::telling::LoggedCommand;
-use crate::tells::{DataClose, LineOutcome, LogEntry, NotTaken, SessionNote, Tells};
+use crate::log_line::{DataClose, LineOutcome, LogEntry, NotTaken, SessionNote, Tells};
+use crate::logged_command::LoggedCommand;
+use crate::refused_logins::{AnswerPace, LoginHistory, password_awaited};
+use crate::session_in_slot::Service;
 use crate::text::TextFront;
 use ftp_command::Verb;
 use ftp_disk_tree::Explains;

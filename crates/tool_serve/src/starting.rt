@@ -1,7 +1,7 @@
 // How the folder is opened, and what is told of it and of the accounts before anybody is served.
+use crate::log_line::ServerNotice;
 use crate::named::{Placed, QuotedName};
 use crate::serving::Serving;
-use crate::tells::ServerNotice;
 use ftp_disk_host::Host;
 use ftp_disk_tree::{DiskTree, LeftOut, LoadFault, Odd, Reason, Unknown, open};
 use ftp_path::{Path, TEXT_LIMIT};

@@ -1,8 +1,8 @@
 // The session log of a session looks on while its server is driven.
 ghost use Rattle.std.specs.Global.{Global};
 
+use crate::log_line::Tells;
 use crate::session_log::SessionLog;
-use crate::tells::Tells;
 use ftp_disk_tree::Explains;
 use ftp_server_driver::Watches;
 use ftp_server_model::Far;

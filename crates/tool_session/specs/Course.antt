@@ -2,7 +2,7 @@
 use Rattle.std.specs.Prelude.{ℕ, ◌==◌, ◌&&◌, ◌||◌, Bool, false, List, [], ◌∷◌, Option, Some, None, nat_lt}
 use Rattle.ftp_operation.specs.declared.answer.Answer.{Answer}
 use Rattle.ftp_operation.specs.declared.answer.Answer.TheVariants as Answers
-use Rattle.tool_session.specs.declared.course.DataLimits.{DataLimits}
+use Rattle.tool_session.specs.declared.request_state.DataLimits.{DataLimits}
 
 -- a line says that all is done: the first digit of its code is 2 (RFC 959, section 4.2.1)
 abbrev pub says_done : List ℕ → Bool

@@ -1,7 +1,7 @@
 // What is asked of a client.
 ghost use Rattle.tool_session.specs.Beginning.{Begins};
 
-use crate::course::DataLimits;
+use crate::request_state::DataLimits;
 use ftp_client_model::Near;
 use ftp_facts::Text;
 use ftp_operation::{How, Op};

@@ -5,9 +5,9 @@ ghost use Rattle.std.specs.Prelude.{ℕ, List, ⊤};
 ghost use Rattle.ftp_operation.specs.declared.answer.Answer.{Answer};
 ghost use Rattle.tool_session.specs.declared.request.Request.{Request};
 
-use crate::course::DataEnding;
 use crate::last_reply::LastReply;
 use crate::request::Request;
+use crate::request_state::DataEnding;
 use crate::stream_body::FromStreamBody;
 use ftp_operation::Answer;
 use std::alloc::Global;

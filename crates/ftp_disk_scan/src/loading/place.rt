@@ -15,6 +15,7 @@ pub fn below_of<B: Allocator + Copy, C: Allocator + Copy>(
     path: &Path<C>,
 ) -> io::Result<String<Global>>
     ensures text { IfOk result (λ below. string_bytes below ≡ joined root.now ++ joined path.now) }
+    // Witness of below: equations.
     ensures below { IfOk result (λ below. IsBelow (string_bytes below)) }
 {
     let mut below = String::new(alloc);

@@ -16,8 +16,8 @@ use Rattle.ftp_operation.specs.declared.answer.Answer.{Answer}
 use Rattle.ftp_server_driver.specs.alone.Driving.{MakesTurns}
 use Rattle.ftp_server_driver.specs.alone.Side.{server_side}
 use Rattle.ftp_pair_memory.specs.steps.Turning.{FarTurned, IsFarCourse, IsNearCourse, NearTurned}
-use Rattle.ftp_pair_memory.specs.declared.steps.course.Course.{Course}
-use Rattle.ftp_pair_memory.specs.declared.steps.course.Course.TheVariants as Courses
+use Rattle.ftp_pair_memory.specs.declared.steps.turn_ending.Course.{Course}
+use Rattle.ftp_pair_memory.specs.declared.steps.turn_ending.Course.TheVariants as Courses
 use Rattle.ftp_pair_memory.proofs.steps.Quieting.{Tells, speaks_by}
 
 -- what was found not to be unheard

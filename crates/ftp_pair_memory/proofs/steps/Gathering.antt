@@ -16,8 +16,8 @@ use Rattle.ftp_server_driver.specs.alone.Side.{Timed, server_side}
 use Rattle.ftp_pair_memory.specs.streams.Order.{AllCame, CameAlone, Counted, CountedAlone, Hosts, Went, WentAlone}
 use Rattle.ftp_pair_memory.specs.streams.Plain.{quiet}
 use Rattle.ftp_pair_memory.specs.steps.Taking.{Asks, Begins, Ends, NearTurns, Rounds, Settles, Took, by_client, ends}
-use Rattle.ftp_pair_memory.specs.declared.steps.course.Course.{Course}
-use Rattle.ftp_pair_memory.specs.declared.steps.course.Course.TheVariants as Courses
+use Rattle.ftp_pair_memory.specs.declared.steps.turn_ending.Course.{Course}
+use Rattle.ftp_pair_memory.specs.declared.steps.turn_ending.Course.TheVariants as Courses
 
 -- ---- one list of actions after another
 

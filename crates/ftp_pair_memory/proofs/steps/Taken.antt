@@ -21,8 +21,8 @@ use Rattle.ftp_server_driver.specs.alone.Side.{Timed, server_machine}
 use Rattle.ftp_pair_memory.specs.steps.Speaking.{Speaks}
 use Rattle.ftp_pair_memory.specs.steps.Taking.{Ends, FarTurns, NearTurns, ends, last_actions}
 use Rattle.ftp_pair_memory.specs.steps.Turning.{FarTurned, NearTurned}
-use Rattle.ftp_pair_memory.specs.declared.steps.course.Course.{Course}
-use Rattle.ftp_pair_memory.specs.declared.steps.course.Course.TheVariants as Courses
+use Rattle.ftp_pair_memory.specs.declared.steps.turn_ending.Course.{Course}
+use Rattle.ftp_pair_memory.specs.declared.steps.turn_ending.Course.TheVariants as Courses
 use Rattle.ftp_pair_memory.proofs.steps.Gathering.{far_took, near_came, near_counted, near_took, near_went}
 
 -- how many ports both told, whoever is named first

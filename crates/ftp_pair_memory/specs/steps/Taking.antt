@@ -12,8 +12,8 @@ use Rattle.laws_drivers.specs.control.Between.{Between, Client, Turn, client_act
 use Rattle.ftp_pair_memory.specs.streams.Order.{AllCame, Counted, Hosts, Went}
 use Rattle.ftp_pair_memory.specs.streams.Plain.{quiet}
 use Rattle.ftp_server_driver.specs.alone.Side.{Timed, server_side}
-use Rattle.ftp_pair_memory.specs.declared.steps.course.Course.{Course}
-use Rattle.ftp_pair_memory.specs.declared.steps.course.Course.TheVariants as Courses
+use Rattle.ftp_pair_memory.specs.declared.steps.turn_ending.Course.{Course}
+use Rattle.ftp_pair_memory.specs.declared.steps.turn_ending.Course.TheVariants as Courses
 
 -- two ends, what lies between them, how many ports were listened at by both, as a world counts them, and the host that each has at its other end
 pub record Ends : Type 0 where

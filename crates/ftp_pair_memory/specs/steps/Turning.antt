@@ -15,8 +15,8 @@ use Rattle.ftp_ends.specs.declared.link.Wants.TheVariants.{CloseAll}
 use Rattle.ftp_operation.specs.Answer.{Said, said_of}
 use Rattle.ftp_operation.specs.declared.answer.Answer.{Answer}
 use Rattle.ftp_pair_memory.specs.steps.Speaking.{Speaks}
-use Rattle.ftp_pair_memory.specs.declared.steps.course.Course.{Course}
-use Rattle.ftp_pair_memory.specs.declared.steps.course.Course.TheVariants as Courses
+use Rattle.ftp_pair_memory.specs.declared.steps.turn_ending.Course.{Course}
+use Rattle.ftp_pair_memory.specs.declared.steps.turn_ending.Course.TheVariants as Courses
 use Rattle.ftp_server_driver.specs.alone.Side.{Timed, server_side}
 use Rattle.ftp_server_model.specs.Calls.{wants}
 

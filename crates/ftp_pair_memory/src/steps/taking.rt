@@ -4,8 +4,8 @@ ghost use Rattle.ftp_pair_memory.specs.steps.Seating.{ends_of, held_at};
 ghost use Rattle.ftp_pair_memory.specs.steps.Taking.{Asks, Begins, FarTurns, NearTurns, Rounds, Settles};
 ghost use Rattle.ftp_server_driver.specs.alone.Side.{timed};
 
-use crate::steps::course::Course;
 use crate::steps::slots::{Line, Slot};
+use crate::steps::turn_ending::Course;
 use crate::steps::turns::{far_turn, near_turn};
 use crate::streams::{MemoryPorts, Wire, meet};
 use ftp_client_model::Near;

@@ -5,7 +5,7 @@ ghost use Rattle.ftp_driver.specs.Standing.{channel_at};
 ghost use Rattle.ftp_pair_memory.specs.steps.Turning.{FarTurned, NearTurned};
 ghost use Rattle.ftp_server_driver.specs.alone.Side.{timed};
 
-use crate::steps::course::{Course, far_course, near_course};
+use crate::steps::turn_ending::{Course, far_course, near_course};
 use crate::streams::{ReadHalf, WriteHalf};
 use ftp_client_driver::{Control, Data};
 use ftp_client_model::Near;

@@ -27,11 +27,9 @@ impl<A: Allocator + Copy, T: SureTree<A>, F: Lends<A, T>> Sessions<A, T, F> {
     /// Refused memory for what they give, the turns before stand.
     pub fn play(&mut self, turns: &[Turn<A>]) -> Result<Played<A>, AllocError>
         // Witness of made: as of `play`.
-        // Witness of made: as of `play`.
         ensures made { IfOk result (λ played. AreTaken played.calm (turns_of turns.now) (gifts_of played.gifts.items) (slots_of T.table T.failures F.Far.server self.old) (slots_of T.table T.failures F.Far.server self.new)) }
 
         // Up to the first turn in which something failed they give what the definitions of several sessions say.
-        // Witness of plays: as of `play`.
         // Witness of plays: as of `play`.
         ensures plays { IfOk result (λ played. PlaysSeveral played.calm (turns_of turns.now) (gifts_of played.gifts.items) (slots_of T.table T.failures F.Far.server self.old) (slots_of T.table T.failures F.Far.server self.new)) }
 

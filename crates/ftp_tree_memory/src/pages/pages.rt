@@ -62,6 +62,7 @@ impl<A: Allocator + Copy> Pages<A> {
     /// Some of the octets from a place on, at most `max` of them and at most to the end of a page: none only at the end, or where
     /// `max` is 0. Lends them.
     pub fn piece(&self, at: u64, max: usize) -> &[u8]
+        // Witness: `Content::of` of `ftp_tree_memory`, whose clause `front` needs all three.
         ensures octets { result.now ≡ take (length result.now) (drop at self.now) }
         ensures most { length result.now ≤ max }
         ensures some { 0 < max → at < length self.now → 0 < length result.now }

@@ -124,6 +124,7 @@ fn cut<A: Allocator + Copy>(pages: &mut Vec<Page<A>, A>, count: u64)
 /// At most so many octets from a place on, of one page.
 pub(crate) fn piece<A: Allocator + Copy>(pages: &[Page<A>], at: u64, max: usize) -> &[u8]
     requires { IsPaged (page_octets pages.now) }
+    // Witness: as of `piece`.
     ensures octets { result.now ≡ take (length result.now) (drop at (concat (page_octets pages.now))) }
     ensures most { length result.now ≤ max }
     ensures some { 0 < max → at < length (concat (page_octets pages.now)) → 0 < length result.now }

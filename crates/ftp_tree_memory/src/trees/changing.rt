@@ -67,6 +67,7 @@ impl<A: Allocator + Copy> MemTree<A> {
         from: &Path<C>,
         to: &Path<D>,
     ) -> Option<TreeFault>
+        // Witness: an equation; as of `fits` of `ftp_tree`.
         ensures refusal { result ≡ onto_refusal (under self.now root.now) from.now to.now }
         ensures sound { IsSoundTree self.now }
     {
@@ -101,6 +102,7 @@ impl<A: Allocator + Copy> MemTree<A> {
 
     /// Whether the counts of all nodes and of all octets can count one file more, of so many octets.
     pub fn can_count(&self, octets: u64) -> bool
+        // Witness: an equivalence.
         ensures { IsTrue result ↔ (fin.len self.now.map + 1 < 2 ^ 64) × (octets_in self.now + octets < 2 ^ 128) }
     {
         self.nodes.can_count(octets)

@@ -84,6 +84,8 @@ impl<A: Allocator + Copy> Content<A> {
 
     /// Some of its octets from a place on, at most `max` of them and at most to the end of a page. Lends them.
     pub fn piece(&self, at: u64, max: usize) -> &[u8]
+        // Witness: `piece` of `MemTree` needs them.
+        // Witness: as of `piece`.
         ensures octets { result.now ≡ take (length result.now) (drop at self.now) }
         ensures most { length result.now ≤ max }
         ensures some { 0 < max → at < length self.now → 0 < length result.now }

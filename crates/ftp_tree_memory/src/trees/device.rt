@@ -32,6 +32,7 @@ pub trait Folder: Drop {
         root: &Path<B>,
         path: &Path<C>,
     ) -> Result<(), FolderFault>
+        // Witness: of a folder: equations of what is kept and of the count; `FailingFolder` of `rows_tree` meets them.
         ensures done { OnOk result (IsKept (changed_below root.now (λ part. made part path.now)) (kept self.old) (kept self.new) (failures self.old) (failures self.new)) }
         ensures failed { OnErr result (HasFailed (kept self.old) (kept self.new) (failures self.old) (failures self.new)) };
 
@@ -41,6 +42,7 @@ pub trait Folder: Drop {
         root: &Path<B>,
         path: &Path<C>,
     ) -> Result<(), FolderFault>
+        // Witness: as of `make_dir`.
         ensures done { OnOk result (IsKept (changed_below root.now (λ part. removed part path.now)) (kept self.old) (kept self.new) (failures self.old) (failures self.new)) }
         ensures failed { OnErr result (HasFailed (kept self.old) (kept self.new) (failures self.old) (failures self.new)) };
 
@@ -50,6 +52,7 @@ pub trait Folder: Drop {
         root: &Path<B>,
         path: &Path<C>,
     ) -> Result<(), FolderFault>
+        // Witness: as of `make_dir`.
         ensures done { OnOk result (IsKept (changed_below root.now (λ part. removed part path.now)) (kept self.old) (kept self.new) (failures self.old) (failures self.new)) }
         ensures failed { OnErr result (HasFailed (kept self.old) (kept self.new) (failures self.old) (failures self.new)) };
 
@@ -60,6 +63,7 @@ pub trait Folder: Drop {
         from: &Path<C>,
         to: &Path<D>,
     ) -> Result<(), FolderFault>
+        // Witness: as of `make_dir`.
         ensures done { OnOk result (IsKept (changed_below root.now (λ part. moved part from.now to.now)) (kept self.old) (kept self.new) (failures self.old) (failures self.new)) }
         ensures failed { OnErr result (HasFailed (kept self.old) (kept self.new) (failures self.old) (failures self.new)) };
 
@@ -70,6 +74,7 @@ pub trait Folder: Drop {
         from: &Path<C>,
         to: &Path<D>,
     ) -> Result<(), FolderFault>
+        // Witness: as of `make_dir`.
         ensures done { OnOk result (IsKept (changed_below root.now (λ part. moved (freed true part from.now to.now) from.now to.now)) (kept self.old) (kept self.new) (failures self.old) (failures self.new)) }
         ensures failed { OnErr result (HasFailed (kept self.old) (kept self.new) (failures self.old) (failures self.new)) };
 
@@ -81,6 +86,7 @@ pub trait Folder: Drop {
         content: &Content<A>,
         moment: Moment,
     ) -> Result<(), FolderFault>
+        // Witness: as of `make_dir`.
         ensures done { OnOk result (IsKept (changed_below root.now (λ part. installed part path.now content.now moment.seconds)) (kept self.old) (kept self.new) (failures self.old) (failures self.new)) }
         ensures failed { OnErr result (HasFailed (kept self.old) (kept self.new) (failures self.old) (failures self.new)) };
 
@@ -92,7 +98,9 @@ pub trait Folder: Drop {
         content: &Content<A>,
         moment: Moment,
     ) -> Result<(), FolderFault>
+        // Witness of done, failed: as of `make_dir`.
         ensures done { OnOk result (IsKept (changed_below root.now (λ part. installed part path.now content.now moment.seconds)) (kept self.old) (kept self.new) (failures self.old) (failures self.new)) }
+        // Witness of free: of a folder: `put` and `install` of `Mirror`, whose clause `spares` needs it.
         ensures free { OnOk result (IsFree (kept self.old) root.now path.now) }
         ensures failed { OnErr result (HasFailed (kept self.old) (kept self.new) (failures self.old) (failures self.new)) };
 }

@@ -20,6 +20,8 @@ pub trait HeldTree<A: Allocator + Copy>: Tree<A> {
         at: u64,
         max: usize,
     ) -> &[u8]
+        // Witness: `Content::of`, whose clause `front` needs all three; `a_piece_is_empty.edit`.
+        // Witness: as of `piece`.
         ensures octets { result.now ≡ take (length result.now) (drop at (octets_or_none (under (Self.table self.now) root.now) path.now)) }
         ensures most { length result.now ≤ max }
         ensures some { 0 < max → at < length (octets_or_none (under (Self.table self.now) root.now) path.now) → 0 < length result.now };
@@ -35,8 +37,10 @@ pub trait HeldTree<A: Allocator + Copy>: Tree<A> {
         content: &mut Content<A>,
         moment: Moment,
     ) -> Result<(), TreeFault>
+        // Witness of done, refused: as of `put` of `ftp_tree`: equations of the map and of the fault.
         ensures done { OnOk result (let part = under (Self.table self.old) root.now in IsDone (install_refusal part path.now (length content.old)) (with_part (Self.table self.old) root.now (installed part path.now content.old moment.seconds)) (Self.table self.new) (Self.failures self.old) (Self.failures self.new)) }
         ensures refused { IfErr result (λ fault. IsRefused (install_refusal (under (Self.table self.old) root.now) path.now (length content.old)) fault (Self.table self.old) (Self.table self.new) (Self.failures self.old) (Self.failures self.new)) }
+        // Witness of taken, back: equations; `a_file_is_installed_with_moment_0.edit` of what is put.
         ensures taken { OnOk result (content.new ≡ []) }
         ensures back { OnErr result (content.new ≡ content.old) };
 }

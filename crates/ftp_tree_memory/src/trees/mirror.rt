@@ -161,10 +161,13 @@ impl<A: Allocator + Copy, D: Folder> Tree<A> for Mirror<A, D> {
         root: &Path<B>,
         path: &Path<C>,
     ) -> Result<(), TreeFault>
+        // Witness of done: as of `make_dir`.
         ensures done { OnOk result (let part = under self.old.tree root.now in IsDone (make_refusal part path.now)
             (with_part self.old.tree root.now (made part path.now)) self.new.tree (never_strayed (D.failures self.old.folder)) (never_strayed (D.failures self.new.folder))) }
         ensures refused { IfErr result (λ fault. let part = under self.old.tree root.now in IsRefused (make_refusal part path.now) fault
             self.old.tree self.new.tree (never_strayed (D.failures self.old.folder)) (never_strayed (D.failures self.new.folder))) }
+        // Witness of mirrors: `a_directory_is_made_in_the_tree_alone.edit`, `a_file_is_deleted_in_the_tree_alone.edit`,
+        // `a_folder_moves_onto_a_file_as_if_none_stood_there.edit`.
         ensures mirrors { Mirrors (D.kept self.old.folder) self.old.tree → Mirrors (D.kept self.new.folder) self.new.tree }
     {
         if let Some(fault) = self.tree.make_refusal(root, path) {
@@ -185,10 +188,12 @@ impl<A: Allocator + Copy, D: Folder> Tree<A> for Mirror<A, D> {
         root: &Path<B>,
         path: &Path<C>,
     ) -> Result<(), TreeFault>
+        // Witness of done: as of `make_dir`.
         ensures done { OnOk result (let part = under self.old.tree root.now in IsDone (remove_refusal part path.now)
             (with_part self.old.tree root.now (removed part path.now)) self.new.tree (never_strayed (D.failures self.old.folder)) (never_strayed (D.failures self.new.folder))) }
         ensures refused { IfErr result (λ fault. let part = under self.old.tree root.now in IsRefused (remove_refusal part path.now) fault
             self.old.tree self.new.tree (never_strayed (D.failures self.old.folder)) (never_strayed (D.failures self.new.folder))) }
+        // Witness of mirrors: as of `make_dir`.
         ensures mirrors { Mirrors (D.kept self.old.folder) self.old.tree → Mirrors (D.kept self.new.folder) self.new.tree }
     {
         if let Some(fault) = self.tree.remove_refusal(root, path) {
@@ -206,10 +211,12 @@ impl<A: Allocator + Copy, D: Folder> Tree<A> for Mirror<A, D> {
         root: &Path<B>,
         path: &Path<C>,
     ) -> Result<(), TreeFault>
+        // Witness of done: as of `make_dir`.
         ensures done { OnOk result (let part = under self.old.tree root.now in IsDone (delete_refusal part path.now)
             (with_part self.old.tree root.now (removed part path.now)) self.new.tree (never_strayed (D.failures self.old.folder)) (never_strayed (D.failures self.new.folder))) }
         ensures refused { IfErr result (λ fault. let part = under self.old.tree root.now in IsRefused (delete_refusal part path.now) fault
             self.old.tree self.new.tree (never_strayed (D.failures self.old.folder)) (never_strayed (D.failures self.new.folder))) }
+        // Witness of mirrors: as of `make_dir`.
         ensures mirrors { Mirrors (D.kept self.old.folder) self.old.tree → Mirrors (D.kept self.new.folder) self.new.tree }
     {
         if let Some(fault) = self.tree.delete_refusal(root, path) {
@@ -228,10 +235,12 @@ impl<A: Allocator + Copy, D: Folder> Tree<A> for Mirror<A, D> {
         from: &Path<C>,
         to: &Path<E>,
     ) -> Result<(), TreeFault>
+        // Witness of done: as of `make_dir`.
         ensures done { OnOk result (let part = under self.old.tree root.now in IsDone (rename_refusal part from.now to.now)
             (with_part self.old.tree root.now (moved part from.now to.now)) self.new.tree (never_strayed (D.failures self.old.folder)) (never_strayed (D.failures self.new.folder))) }
         ensures refused { IfErr result (λ fault. let part = under self.old.tree root.now in IsRefused (rename_refusal part from.now to.now) fault
             self.old.tree self.new.tree (never_strayed (D.failures self.old.folder)) (never_strayed (D.failures self.new.folder))) }
+        // Witness of mirrors: as of `make_dir`.
         ensures mirrors { Mirrors (D.kept self.old.folder) self.old.tree → Mirrors (D.kept self.new.folder) self.new.tree }
     {
         if let Some(fault) = self.tree.rename_refusal(root, from, to) {
@@ -254,12 +263,14 @@ impl<A: Allocator + Copy, D: Folder> Tree<A> for Mirror<A, D> {
         from: &Path<C>,
         to: &Path<E>,
     ) -> Result<(), TreeFault>
+        // Witness of done: as of `make_dir`.
         ensures done { OnOk result (let part = under self.old.tree root.now in IsDone (onto_refusal part from.now to.now)
             (with_part self.old.tree root.now (moved (freed true part from.now to.now) from.now to.now)) self.new.tree
             (never_strayed (D.failures self.old.folder)) (never_strayed (D.failures self.new.folder))) }
         ensures refused { IfErr result (λ fault. let part = under self.old.tree root.now in IsRefused (onto_refusal part from.now to.now) fault
             self.old.tree self.new.tree (never_strayed (D.failures self.old.folder)) (never_strayed (D.failures self.new.folder))) }
         ensures sound { IsSoundTree self.old.tree }
+        // Witness of mirrors: as of `make_dir`.
         ensures mirrors { Mirrors (D.kept self.old.folder) self.old.tree → Mirrors (D.kept self.new.folder) self.new.tree }
     {
         if let Some(fault) = self.tree.onto_refusal(root, from, to) {
@@ -293,7 +304,9 @@ impl<A: Allocator + Copy, D: Folder> Tree<A> for Mirror<A, D> {
         ensures refused { IfErr result (λ fault. let part = under self.old.tree root.now in let octets = take keep (octets_or_none part path.now) ++ came in IsRefused (install_refusal part path.now (length octets)) fault
             self.old.tree self.new.tree (never_strayed (D.failures self.old.folder)) (never_strayed (D.failures self.new.folder))) }
         ensures told { Tells result (never_strayed (D.failures self.old.folder)) (never_strayed (D.failures self.new.folder)) }
+        // Witness of mirrors: as of `make_dir`.
         ensures mirrors { Mirrors (D.kept self.old.folder) self.old.tree → Mirrors (D.kept self.new.folder) self.new.tree }
+        // Witness of spares: `what_came_into_the_folder_meanwhile_is_replaced.edit`.
         ensures spares { OnOk result (SparesUnknown self.old.tree (D.kept self.old.folder) root.now path.now) }
     {
         if let Some(fault) = self.tree.put_refusal(root, path, keep, &came) {
@@ -330,13 +343,17 @@ impl<A: Allocator + Copy, D: Folder> HeldTree<A> for Mirror<A, D> {
         content: &mut Content<A>,
         moment: Moment,
     ) -> Result<(), TreeFault>
+        // Witness of done, refused: as of `install`.
         ensures done { OnOk result (let part = under self.old.tree root.now in IsDone (install_refusal part path.now (length content.old))
             (with_part self.old.tree root.now (installed part path.now content.old moment.seconds)) self.new.tree (never_strayed (D.failures self.old.folder)) (never_strayed (D.failures self.new.folder))) }
         ensures refused { IfErr result (λ fault. let part = under self.old.tree root.now in IsRefused (install_refusal part path.now (length content.old)) fault
             self.old.tree self.new.tree (never_strayed (D.failures self.old.folder)) (never_strayed (D.failures self.new.folder))) }
+        // Witness of taken, back: as of `install`.
         ensures taken { OnOk result (content.new ≡ []) }
         ensures back { OnErr result (content.new ≡ content.old) }
+        // Witness of mirrors: as of `make_dir`.
         ensures mirrors { Mirrors (D.kept self.old.folder) self.old.tree → Mirrors (D.kept self.new.folder) self.new.tree }
+        // Witness of spares: `what_came_into_the_folder_meanwhile_is_replaced.edit`.
         ensures spares { OnOk result (SparesUnknown self.old.tree (D.kept self.old.folder) root.now path.now) }
     {
         if let Some(fault) = self.tree.install_refusal(root, path, content.len()) {

@@ -1,5 +1,5 @@
 use Rattle.ftp_pair_memory.proofs.steps.Gathering.{rounds_on, took_none, took_then}
-use Rattle.ftp_pair_memory.specs.declared.steps.course.Course.TheVariants.{Over}
+use Rattle.ftp_pair_memory.specs.declared.steps.turn_ending.Course.TheVariants.{Over}
 use Rattle.ftp_pair_memory.proofs.steps.taking.settle.Goals as goal
 
 pub loop-init : goal.loop-init

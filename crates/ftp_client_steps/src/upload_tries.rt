@@ -45,6 +45,7 @@ pub fn first_try<A: Allocator + Copy>(
     alloc: &A,
 ) -> Result<(Op<Text<A>>, Run<A>), AllocError>
     requires { can_be_sent (first_try (over_breaks path octets how)) ≡ true }
+    // Witness: equations, of what is made where memory was not refused.
     ensures op { IfOk result (λ begun. begun.0 ≡ first_try (over_breaks path octets how)) }
     ensures run { IfOk result (λ begun. run_in begun.0 begun.1 ≡ run_of (over_breaks path octets how)) }
 {
@@ -66,9 +67,11 @@ pub fn next_in<A: Allocator + Copy>(
     answer: &Answer<A>,
     alloc: &A,
 ) -> Result<bool, AllocError>
+    // Witness of next, run, err: equations; `edits/an_upload_goes_on_at_its_own_count`, `edits/what_was_lent_is_let_go_with_its_operation`.
     ensures next { IfOk result (λ follows. then_some follows op.new ≡ next_in (run_in op.old run.old) op.old (said_of answer.now)) }
     ensures run { run_in op.new run.new ≡ run_in op.old run.old }
     ensures err { OnErr result (op.new ≡ op.old) }
+    // Witness of follows: only the next operation takes memory: `finish` of `ftp_client_session`, and so `data_out` of `Near`, need it.
     ensures follows { OnErr result (IsTrue (is_some (next_in (run_in op.old run.old) op.old (said_of answer.now)))) }
 {
     if run.left == 0 {

@@ -3,8 +3,8 @@ ghost use Rattle.std.specs.Global.{Global};
 
 use crate::connections::{CountedLink, CountedPorts, SaidWriter};
 use crate::goodbye::last_reply;
+use crate::log_line::Tells;
 use crate::session_log::{Log, SessionLog};
-use crate::tells::Tells;
 use crate::watching::Watching;
 use ftp_disk_tree::Explains;
 use ftp_operation::Accounts;

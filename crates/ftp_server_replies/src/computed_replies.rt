@@ -7,8 +7,8 @@ ghost use Rattle.ftp_facts.specs.Name.{fact_word};
 ghost use Rattle.ftp_server_model.specs.Entries.{chosen_text, fact_text, feature_text, features_text, is_any_chosen};
 ghost use Rattle.ftp_server_model.specs.Replies.{chosen_reply, features_reply, extended_text, here_text, made_text, mark_reply, passive_text};
 
+use crate::fixed_replies::FIXED_LIMIT;
 use crate::output::Output;
-use crate::text::FIXED_LIMIT;
 use ftp_endpoint::{Endpoint, write_six};
 use ftp_facts::{FactName, Facts};
 use ftp_path::Path;
@@ -20,6 +20,7 @@ impl<A: Allocator + Copy> Output<A> {
     /// Owes the reply to PWD (RFC 959, appendix II).
     pub fn put_here<B: Allocator + Copy>(&mut self, path: &Path<B>)
         requires { length self.old + FREE_ROOM ≤ OUTPUT_ROOM }
+        // Witness: equations; `put_listed` writes as MLSD does (`write_entry_line` of `ftp_facts`), into `Output` as a sink.
         ensures { self.new ≡ self.old ++ reply_octets (reply_of 257 (here_text path.now)) }
     {
         self.put(b"257 \"");
@@ -30,6 +31,7 @@ impl<A: Allocator + Copy> Output<A> {
     /// Owes the reply that a directory was made (RFC 959, appendix II).
     pub fn put_made<B: Allocator + Copy>(&mut self, path: &Path<B>)
         requires { length self.old + FREE_ROOM ≤ OUTPUT_ROOM }
+        // Witness: as of `put_here`.
         ensures { self.new ≡ self.old ++ reply_octets (reply_of 257 (made_text path.now)) }
     {
         self.put(b"257 \"");
@@ -40,6 +42,7 @@ impl<A: Allocator + Copy> Output<A> {
     /// Owes the reply to an accepted REST (RFC 3659, section 5).
     pub fn put_restarting(&mut self, place: u64)
         requires { length self.old + FREE_ROOM ≤ OUTPUT_ROOM }
+        // Witness: as of `put_here`.
         ensures { self.new ≡ self.old ++ reply_octets (reply_of 350 (codes "Restarting at " ++ decimal place)) }
     {
         self.put(b"350 Restarting at ");
@@ -50,6 +53,7 @@ impl<A: Allocator + Copy> Output<A> {
     /// Owes the reply to SIZE (RFC 3659, section 4).
     pub fn put_size(&mut self, size: u64)
         requires { length self.old + FREE_ROOM ≤ OUTPUT_ROOM }
+        // Witness: as of `put_here`.
         ensures { self.new ≡ self.old ++ reply_octets (reply_of 213 (decimal size)) }
     {
         self.put(b"213 ");
@@ -60,6 +64,7 @@ impl<A: Allocator + Copy> Output<A> {
     /// Owes the reply to MDTM: the fourteen digits of a moment (RFC 3659, section 3).
     pub fn put_stamp(&mut self, digits: &[u8; 14])
         requires { length self.old + FREE_ROOM ≤ OUTPUT_ROOM }
+        // Witness: as of `put_here`.
         ensures { self.new ≡ self.old ++ reply_octets (reply_of 213 digits.now) }
     {
         self.put(b"213 ");
@@ -70,6 +75,7 @@ impl<A: Allocator + Copy> Output<A> {
     /// Owes the reply to EPSV (RFC 2428, section 3).
     pub fn put_extended(&mut self, port: u16)
         requires { length self.old + 512 ≤ OUTPUT_ROOM }
+        // Witness: as of `put_here`.
         ensures { self.new ≡ self.old ++ reply_octets (reply_of 229 (extended_text port)) }
     {
         self.put(b"229 Entering Extended Passive Mode (|||");
@@ -80,6 +86,7 @@ impl<A: Allocator + Copy> Output<A> {
     /// Owes the reply to PASV (RFC 959, section 4.1.2).
     pub fn put_passive(&mut self, endpoint: Endpoint)
         requires { length self.old + 512 ≤ OUTPUT_ROOM }
+        // Witness: as of `put_here`.
         ensures { self.new ≡ self.old ++ reply_octets (reply_of 227 (passive_text endpoint)) }
     {
         self.put(b"227 Entering Passive Mode (");
@@ -103,6 +110,7 @@ impl<A: Allocator + Copy> Output<A> {
         requires room { length self.old + 2 * MARKER_LIMIT + 2 * FIXED_LIMIT ≤ OUTPUT_ROOM }
         requires marker { length theirs.now ≤ MARKER_LIMIT }
         ensures octets { self.new ≡ self.old ++ reply_octets (mark_reply theirs.now held) }
+        // Witness of room: follows from `octets`; it spares callers the length.
         ensures room { length self.new ≤ length self.old + 2 * MARKER_LIMIT + FIXED_LIMIT }
     {
         self.put(b"110 MARK ");
@@ -115,6 +123,7 @@ impl<A: Allocator + Copy> Output<A> {
     /// Owes the reply to FEAT, with `*` behind each fact in force (RFC 2389, section 3.2; RFC 3659, section 7.8).
     pub fn put_features(&mut self, facts: Facts)
         requires { length self.old + FREE_ROOM ≤ OUTPUT_ROOM }
+        // Witness: as of `put_here`.
         ensures { self.new ≡ self.old ++ reply_octets (features_reply facts) }
     {
         self.put(b"211-Features\r\n EPRT\r\n EPSV\r\n MDTM\r\n MLST ");
@@ -150,6 +159,7 @@ impl<A: Allocator + Copy> Output<A> {
     /// Owes the reply to OPTS MLST: the facts that are now in force (RFC 3659, section 7.9).
     pub fn put_chosen(&mut self, facts: Facts)
         requires { length self.old + FREE_ROOM ≤ OUTPUT_ROOM }
+        // Witness: as of `put_here`.
         ensures { self.new ≡ self.old ++ reply_octets (reply_of 200 (chosen_reply facts)) }
     {
         self.put(b"200 MLST OPTS");

@@ -57,7 +57,10 @@ impl<A: Allocator + Copy> Hearing<A> {
 
     /// Takes an octet of the control connection. The line that it ends is kept in `last`, where memory for it is refused too.
     pub fn octet(&mut self, octet: u8, last: &mut LastLine) -> Result<Spoken<A>, AllocError>
+        // Witness of comes: for every client an equation of `hears_octet`: another answer would be another client. What was heard so far is in the
+        // view; `edits/hearing_takes_nothing`.
         ensures comes { IfOk result (λ heard. Comes self.old octet heard self.new) }
+        // Witness of told: an equation; `edits/the_end_of_a_long_line_is_kept`.
         ensures told { last.new ≡ line_with self.old.ear octet last.old }
     {
         let heard = self.ear.feed(&[octet]);

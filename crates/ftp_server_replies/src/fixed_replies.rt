@@ -10,6 +10,7 @@ pub const FIXED_LIMIT: usize = 64;
 
 /// The reply as it stands on the wire, CR LF included.
 pub fn fixed_line(text: FixedReply) -> &'static [u8]
+    // Witness: an equation; its bound.
     ensures line { result.now ≡ reply_octets (fixed_reply text) }
     ensures short { length result.now ≤ FIXED_LIMIT }
 {

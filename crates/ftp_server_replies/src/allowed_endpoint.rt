@@ -10,6 +10,7 @@ const LOWEST_PORT: u16 = 1024;
 
 /// Whether an endpoint is on the client's own host, and on no port below 1024.
 pub fn is_taken(peer: Host, endpoint: Endpoint) -> bool
+    // Witness: an equation; `edits/an_endpoint_of_another_host_is_taken`.
     ensures { result ≡ is_taken peer endpoint }
 {
     is_same_host(endpoint.host, peer) && endpoint.port >= LOWEST_PORT

@@ -8,7 +8,7 @@ use Rattle.ftp_client_model.specs.Telling.{kept_limit, line_behind}
 use Rattle.ftp_client_model.specs.View.{View, strange}
 use Rattle.ftp_client_steps.specs.Reader.{gathered_in}
 use Rattle.ftp_client_steps.proofs.HearingLemmas.{line_comes, octet_comes, led}
-use Rattle.ftp_client_steps.proofs.hearing.Hearing.octet.Goals as goal
+use Rattle.ftp_client_steps.proofs.control_reader.Hearing.octet.Goals as goal
 
 pub returns-in-More-clause-comes : goal.returns-in-More-clause-comes
 returns-in-More-clause-comes g c = λ v sound ear gathered.
