@@ -4,9 +4,9 @@ ghost use Rattle.ftp_operation.specs.Answer.{said_of};
 ghost use Rattle.ftp_operation.specs.declared.op.Op.{Op as AnyOp};
 ghost use Rattle.ftp_ends.specs.Limits.{held_limit};
 ghost use Rattle.ftp_ends.specs.Octets.{has_octets};
-ghost use Rattle.ftp_client_model.specs.Calls.{control_end, data_closed, data_end, data_fault, data_opened, data_refused, gives_control, gives_data, handed_back, is_busy, listen_refused, listening, may_hear, may_receive, report_of, reports, starts, to_give, uploads, wants};
+ghost use Rattle.ftp_client_model.specs.Calls.{control_end, data_closed, data_end, data_fault, data_opened, data_refused, gives_control, gives_data, handed_back, is_busy, listen_refused, may_hear, may_receive, port_told, report_of, reports, starts, to_give, uploads, wants};
 ghost use Rattle.ftp_client_model.specs.Counting.{CountsOn};
-ghost use Rattle.ftp_client_model.specs.Failing.{HearsIfRoom, Holds, HoldsIfRoom, ReceivesIfRoom, data_end_short, data_fault_short, data_opened_short, data_refused_short, listen_refused_short, listening_short, short, starts_short, uploads_short};
+ghost use Rattle.ftp_client_model.specs.Failing.{HearsIfRoom, Holds, HoldsIfRoom, ReceivesIfRoom, data_end_short, data_fault_short, data_opened_short, data_refused_short, listen_refused_short, port_told_short, short, starts_short, uploads_short};
 ghost use Rattle.ftp_client_model.specs.Growing.{giving_grows};
 ghost use Rattle.ftp_client_model.specs.Held.{stored_limit, talk_len};
 ghost use Rattle.ftp_client_model.specs.Most.{IsMostHeard, IsMostReceived};
@@ -152,12 +152,16 @@ impl<A: Allocator + Copy, F: ClientTransfer<A>> Counted<A, F> {
         self.dialogue.lose()
     }
 
-    /// A port is listened at.
+    /// A port is listened at. Nobody can be told to come to port 0: it is as no port.
     pub(crate) fn listening(&mut self, port: u16)
         ensures moved { HoldsIfRoom (counted_of F.flow self.old) (counted_of F.flow self.new)
-            (listening port (counted_of F.flow self.old).view) (listening_short port (counted_of F.flow self.old).view) }
+            (port_told port (counted_of F.flow self.old).view) (port_told_short port (counted_of F.flow self.old).view) }
         ensures counted { CountsOn self.old.refusals self.new.refusals }
     {
+        if port == 0 {
+            self.listen_refused();
+            return;
+        }
         if listening(&mut self.dialogue, port).is_err() {
             self.shorten();
         }

@@ -8,10 +8,10 @@ use Rattle.ftp_ends.specs.declared.link.Wants.TheVariants as Want
 use Rattle.ftp_operation.specs.Answer as Answers
 use Rattle.ftp_operation.specs.declared.op.Op.{Op}
 use Rattle.ftp_client_model.specs.Tries.{OverBreaks}
-use Rattle.ftp_client_model.specs.Calls.{control_end, data_closed, data_end, data_fault, data_opened, data_refused, gives_control, gives_data, is_busy, is_sound, listen_refused, listening, may_hear, may_receive, report_of, reports, starts, to_give, uploads, wants}
+use Rattle.ftp_client_model.specs.Calls.{control_end, data_closed, data_end, data_fault, data_opened, data_refused, gives_control, gives_data, is_busy, is_sound, listen_refused, may_hear, may_receive, port_told, report_of, reports, starts, to_give, uploads, wants}
 use Rattle.ftp_client_model.specs.Counting.{CountsOn}
 use Rattle.ftp_client_model.specs.View.{Job, Idle, Waiting, Doing, Transferring, Told}
-use Rattle.ftp_client_model.specs.Failing.{Client, HearsIfRoom, Holds, HoldsIfRoom, ReceivesIfRoom, data_end_short, data_fault_short, data_opened_short, data_refused_short, listen_refused_short, listening_short, short, starts_short, uploads_short}
+use Rattle.ftp_client_model.specs.Failing.{Client, HearsIfRoom, Holds, HoldsIfRoom, ReceivesIfRoom, data_end_short, data_fault_short, data_opened_short, data_refused_short, listen_refused_short, port_told_short, short, starts_short, uploads_short}
 
 -- its calls that the other end does not have: it is asked for its report; an operation is begun, or an upload that goes on after breaks
 pub data Own : Type 0 where
@@ -63,7 +63,7 @@ client_machine = record {
   IsCut = λ old new. Holds old new (control_end old.view);
   Own = Own;
   Owns = IsOwn;
-  Listening = λ port old new. Counted (HoldsIfRoom old new (listening port old.view) (listening_short port old.view)) old new;
+  Listening = λ port old new. Counted (HoldsIfRoom old new (port_told port old.view) (port_told_short port old.view)) old new;
   Opened = λ host old new. Counted (HoldsIfRoom old new (data_opened host old.view) (data_opened_short old.view)) old new;
   Received = λ octets count old new. Counted (ReceivesIfRoom old new octets count) old new;
   Gave = λ count octets rest old new.

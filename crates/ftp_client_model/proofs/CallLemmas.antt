@@ -15,7 +15,7 @@ use Rattle.ftp_reply.specs.Lines.{Text, are_within, octets_of}
 use Rattle.ftp_reply.specs.Reader.{Gathered, Between, Begun, Heard, GoesOn, Says, Faulty, code_in_front, first_heard, is_last, line_heard, next_heard, opened, placed}
 use Rattle.ftp_reply.specs.Reply.{hyphen, space}
 use Rattle.ftp_reply.specs.declared.fault.ReplyFault.TheVariants as Faults
-use Rattle.ftp_client_model.specs.Calls.{accepted, begun, connected, data_closed, data_end, data_fault, data_opened, data_refused, ending_of, event_taken, events_taken, gives_control, gives_data, goes_by, heard_by, heard_flow, hears_octet, is_busy_job, is_sound, line_taken, listen_refused, listening, listening_by, may_hear, no_port_by, opened_by, over_by, receives_octet, reply_limit, reported_by, reports, started_by, unless_closing, unopened_by, unsendable_by, went}
+use Rattle.ftp_client_model.specs.Calls.{accepted, begun, connected, data_closed, data_end, data_fault, data_opened, data_refused, ending_of, event_taken, events_taken, gives_control, gives_data, goes_by, heard_by, heard_flow, hears_octet, is_busy_job, is_sound, line_taken, listen_refused, listening, listening_by, may_hear, no_port_by, opened_by, over_by, port_told, receives_octet, reply_limit, reported_by, reports, started_by, unless_closing, unopened_by, unsendable_by, went}
 use Rattle.ftp_client_model.specs.Dialogue.{carries_on}
 use Rattle.ftp_client_model.specs.Held.{gathered_len, texts_len}
 use Rattle.ftp_client_model.specs.Plan.{next_step}
@@ -221,7 +221,7 @@ listening_fits (Data.Accepting other) job port v is small k = k
 listening_fits Data.Open job port v is small k = k
 listening_fits (Data.Over ending) job port v is small k = k
 
-pub listened_fits : (port : ℕ) (v : View) → port < 65536 → IsFit v → IsFit (listening port v)
+listened_fits : (port : ℕ) (v : View) → port < 65536 → IsFit v → IsFit (listening port v)
 unfolding listening
 listened_fits port v small k = unless_fits (λ v. listening_by v.connection v.job port v) v k (listening_fits v.connection v.job port v refl small k)
 
@@ -270,6 +270,10 @@ no_port_fits (Data.Over ending) v is k = k
 pub refused_port_fits : (v : View) → IsFit v → IsFit (listen_refused v)
 unfolding listen_refused
 refused_port_fits v k = unless_fits (λ v. no_port_by v.connection v) v k (no_port_fits v.connection v refl k)
+
+-- a client that is told a port stays fit, of port 0 too
+pub port_told_fits : (port : ℕ) (v : View) → port < 65536 → IsFit v → IsFit (port_told port v)
+port_told_fits port v small k = cond_both (port == 0) (listen_refused v) (listening port v) IsFit (λ is. refused_port_fits v k) (λ is. listened_fits port v small k)
 
 connect_step : (step : Step) (op : Op (List ℕ)) (v : View) → v.job ≡ Doing op step → IsFit v → IsFit (connected (Doing op step) v)
 connect_step Steps.Connect op v is k =

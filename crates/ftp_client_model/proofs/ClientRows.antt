@@ -95,7 +95,7 @@ broken_upload = (refl, refl, refl, refl)
 
 pub not_opened : NotOpened
 unfolding answered starts passive_value data_opened data_refused listen_refused wants path_on_literals
-not_opened = (refl, refl, refl, refl)
+not_opened = (refl, refl, refl, refl, refl)
 
 pub other_hosts : OtherHosts
 unfolding answered starts passive_value listening data_opened wants path_on_literals

@@ -2,8 +2,8 @@
 use Rattle.std.proofs.Common.{◌≡◌, ◌≢◌, ℕ, zero, suc, ◌⊎◌, inl, inr, List, [], ◌∷◌, sym, subst, ◌∙◌, arith, take, eqb-true, eq-eqb, true≢false}
 use Rattle.std.specs.Prelude.{◌==◌}
 use Rattle.ftp_nvt.proofs.CutLemmas.{decided as is_so}
-use Rattle.ftp_client_model.specs.Calls.{MayHear, MayReceive, control_end, data_closed, data_end, data_fault, data_opened, data_refused, gives_control, gives_data, hears, hears_octet, listen_refused, listening, receives, receives_octet, reports, starts, uploads}
-use Rattle.ftp_client_model.specs.Failing.{data_fault_short, data_refused_short, listen_refused_short, no_port_short, over_short, short, unopened_short, Client, HearsIfRoom, Holds, HoldsIfRoom, ReceivesIfRoom, data_end_short, data_opened_short, listening_short, starts_short, uploads_short}
+use Rattle.ftp_client_model.specs.Calls.{MayHear, MayReceive, control_end, data_closed, data_end, data_fault, data_opened, data_refused, gives_control, gives_data, hears, hears_octet, listen_refused, port_told, receives, receives_octet, reports, starts, uploads}
+use Rattle.ftp_client_model.specs.Failing.{data_fault_short, data_refused_short, listen_refused_short, over_short, short, unopened_short, Client, HearsIfRoom, Holds, HoldsIfRoom, ReceivesIfRoom, data_end_short, data_opened_short, port_told_short, starts_short, uploads_short}
 use Rattle.ftp_client_model.specs.Held.{Listening, DataOpened, DataEnd}
 use Rattle.ftp_client_model.specs.Tries.{first_try}
 use Rattle.ftp_client_model.specs.View.{View}
@@ -12,9 +12,9 @@ use Rattle.ftp_client_model.specs.declared.client.ClientLink.TheVariants as Data
 use Rattle.ftp_client_model.specs.declared.client.Failure.TheVariants as Failures
 use Rattle.ftp_client_model.specs.Fit.{IsFit}
 use Rattle.ftp_client_model.specs.Losses.{NearStaysFit}
-use Rattle.ftp_client_model.proofs.CallLemmas.{broke_fits, closed_fits, control_fits, ended_fits, gives_fits, hears_fits, listened_fits, opened_fits, receives_fits, refused_fits, refused_port_fits, reports_fits, unless_fits}
+use Rattle.ftp_client_model.proofs.CallLemmas.{broke_fits, closed_fits, control_fits, ended_fits, gives_fits, hears_fits, opened_fits, port_told_fits, receives_fits, refused_fits, refused_port_fits, reports_fits, unless_fits}
 use Rattle.ftp_client_model.proofs.DialogueLemmas.{fails_fits}
-use Rattle.ftp_client_model.proofs.Theorems.{begun_short_fits, failed_fits, first_path, over_short_fits, starts_fits, uploads_fits}
+use Rattle.ftp_client_model.proofs.Theorems.{begun_short_fits, failed_fits, first_path, no_port_lost, over_short_fits, starts_fits, uploads_fits}
 
 same_number : (m n : ℕ) → (m ≡ n) ⊎ (m ≢ n)
 same_number m n =
@@ -35,18 +35,6 @@ room_fits old new view lost k its holds =
     ]
 
 -- ---- where the next command of a run could not be made
-
-no_port_by : (connection : ClientLink) (v : View) → IsFit v → IsFit (no_port_short connection v)
-no_port_by Data.ListenWanted v k = fails_fits Failures.Memory v k
-no_port_by Data.Free v k = k
-no_port_by (Data.Listening port) v k = k
-no_port_by (Data.Connecting endpoint) v k = k
-no_port_by (Data.Accepting port) v k = k
-no_port_by Data.Open v k = k
-no_port_by (Data.Over ending) v k = k
-
-no_port_lost : (v : View) → IsFit v → IsFit (listen_refused_short v)
-no_port_lost v k = unless_fits (λ v. no_port_short v.connection v) v k (no_port_by v.connection v k)
 
 unopened_by : (connection : ClientLink) (v : View) → IsFit v → IsFit (unopened_short connection v)
 unopened_by (Data.Connecting endpoint) v k = fails_fits Failures.Memory v k
@@ -101,7 +89,7 @@ near_stays_fit old new k =
       hear = λ piece count heard. heard_fits old new piece count k heard;
       control_out = λ count holds. holds_fits old new (gives_control count v) (control_fits count v k) holds;
       control_ended = λ holds. holds_fits old new (control_end v) (fails_fits Failures.Lost v k) holds;
-      listens = λ port small holds. room_fits old new (listening port v) (listening_short port v) (listened_fits port v small k) (failed_fits (Listening port) v small k) holds;
+      listens = λ port small holds. room_fits old new (port_told port v) (port_told_short port v) (port_told_fits port v small k) (failed_fits (Listening port) v small k) holds;
       no_port = λ holds. room_fits old new (listen_refused v) (listen_refused_short v) (refused_port_fits v k) (no_port_lost v k) holds;
       opened = λ host holds. room_fits old new (data_opened host v) (data_opened_short v) (opened_fits host v k) (failed_fits (DataOpened host) v tt k) holds;
       refused = λ holds. room_fits old new (data_refused v) (data_refused_short v) (refused_fits v k) (unopened_lost v k) holds;

@@ -1,13 +1,13 @@
 -- A client is fit at the start and after every call, and so it never holds much.
 use Rattle.std.proofs.Common.{◌≡◌, ℕ, ◌<◌, List, [], ◌∷◌, Bool, true, false, ◌&&◌, Option, Some, None, sym, arith, length, true≢false}
-use Rattle.std.specs.Prelude.{nat_le, if◌then◌else◌}
+use Rattle.std.specs.Prelude.{◌==◌, nat_le, if◌then◌else◌}
 use Rattle.std.proofs.lemmas.Bool.{and_parts, cond_both, leb-true}
 use Rattle.ftp_operation.specs.Operation.{can_be_sent}
 use Rattle.ftp_operation.specs.declared.op.Op.{Op}
 use Rattle.ftp_operation.specs.declared.op.Op.TheVariants as Ops
 use Rattle.ftp_path.specs.Path.{is_path_text}
 use Rattle.ftp_client_model.specs.Calls.{begun, control_end, hears_octet, is_busy, is_sound, may_hear, may_receive, receives_octet, reply_limit, starts, uploads}
-use Rattle.ftp_client_model.specs.Failing.{begun_short, opened_short, over_short, port_short, short, starts_short, uploads_short}
+use Rattle.ftp_client_model.specs.Failing.{begun_short, listen_refused_short, listening_short, no_port_short, opened_short, over_short, port_short, short, starts_short, uploads_short}
 use Rattle.ftp_client_model.specs.Held.{Call, Start, BeginUpload, Hear, DataHear, ControlOut, DataOut, Listening, DataOpened, Report, ControlEnd, ListenRefused, DataRefused, DataEnd, DataFault, DataClosed, Failing, ClientHoldsLittle, AreTypedCalls, IsTypedCall, called, called_all, failed_call}
 use Rattle.ftp_client_model.specs.Tries.{OverBreaks, Run, counts_as_file, first_try, run_of, whole_put}
 use Rattle.ftp_client_model.specs.View.{Waiting, View}
@@ -17,7 +17,7 @@ use Rattle.ftp_client_model.specs.declared.client.Ending.TheVariants as Endings
 use Rattle.ftp_client_model.specs.declared.client.Failure.TheVariants as Failures
 use Rattle.ftp_client_model.specs.Fit.{IsFit, IsSendableRun}
 use Rattle.ftp_client_model.specs.Laws.{CallsStayFit, FitHoldsLittle, StartIsFit}
-use Rattle.ftp_client_model.proofs.CallLemmas.{begun_fits, broke_fits, closed_fits, connected_fits, control_fits, ended_fits, gives_fits, hears_fits, idle_of, listened_fits, opened_fits, receives_fits, refused_fits, refused_port_fits, reports_fits, unless_fits, waits_fits}
+use Rattle.ftp_client_model.proofs.CallLemmas.{begun_fits, broke_fits, closed_fits, connected_fits, control_fits, ended_fits, gives_fits, hears_fits, idle_of, opened_fits, port_told_fits, receives_fits, refused_fits, refused_port_fits, reports_fits, unless_fits, waits_fits}
 use Rattle.ftp_client_model.proofs.DialogueLemmas.{fails_fits}
 use Rattle.ftp_ends.proofs.ReadLemmas.{none_short}
 
@@ -59,6 +59,19 @@ port_short_fits (Data.Accepting other) port v small k = k
 port_short_fits Data.Open port v small k = k
 port_short_fits (Data.Over ending) port v small k = k
 
+no_port_short_fits : (connection : ClientLink) (v : View) → IsFit v → IsFit (no_port_short connection v)
+no_port_short_fits Data.ListenWanted v k = short_fits v k
+no_port_short_fits Data.Free v k = k
+no_port_short_fits (Data.Listening port) v k = k
+no_port_short_fits (Data.Connecting endpoint) v k = k
+no_port_short_fits (Data.Accepting port) v k = k
+no_port_short_fits Data.Open v k = k
+no_port_short_fits (Data.Over ending) v k = k
+
+-- a client that is short of memory as it is told of no port stays fit
+pub no_port_lost : (v : View) → IsFit v → IsFit (listen_refused_short v)
+no_port_lost v k = unless_fits (λ v. no_port_short v.connection v) v k (no_port_short_fits v.connection v k)
+
 opened_short_fits : (connection : ClientLink) (v : View) → IsFit v → IsFit (opened_short connection v)
 opened_short_fits (Data.Connecting endpoint) v k = short_fits (record v { connection = Data.Open }) (connected_fits Data.Open v tt tt k)
 opened_short_fits (Data.Accepting port) v k = short_fits (record v { connection = Data.Open }) (connected_fits Data.Open v tt tt k)
@@ -80,7 +93,8 @@ over_short_fits (Data.Over ending) v k = k
 pub failed_fits : (call : Call) (v : View) → IsTypedCall call → IsFit v → IsFit (failed_call call v)
 failed_fits (Start op) v typed k = cond_both (is_busy v) v (starts_short op v) IsFit (λ busy. k) (λ idle. begun_short_fits None op v idle (λ can. tt) k)
 failed_fits (BeginUpload u) v typed k = cond_both (is_busy v) v (uploads_short u v) IsFit (λ busy. k) (λ idle. begun_short_fits (Some (run_of u)) (first_try u) v idle (first_path u) k)
-failed_fits (Listening port) v typed k = unless_fits (λ v. port_short v.connection port v) v k (port_short_fits v.connection port v typed k)
+failed_fits (Listening port) v typed k = cond_both (port == 0) (listen_refused_short v) (listening_short port v) IsFit (λ is. no_port_lost v k)
+    (λ is. unless_fits (λ v. port_short v.connection port v) v k (port_short_fits v.connection port v typed k))
 failed_fits (DataOpened host) v typed k = unless_fits (λ v. opened_short v.connection v) v k (opened_short_fits v.connection v k)
 failed_fits DataEnd v typed k = unless_fits (λ v. over_short v.connection v) v k (over_short_fits v.connection v k)
 failed_fits (Hear octet) v typed k = short_fits v k
@@ -105,7 +119,7 @@ calls_stay_fit (Hear octet) v typed k = cond_both (may_hear v) (hears_octet v oc
 calls_stay_fit (DataHear octet) v typed k = cond_both (may_receive v) (receives_octet v octet) v IsFit (λ may. receives_fits v octet k) (λ may. k)
 calls_stay_fit (ControlOut count) v typed k = control_fits count v k
 calls_stay_fit (DataOut count) v typed k = gives_fits count v k
-calls_stay_fit (Listening port) v typed k = listened_fits port v typed k
+calls_stay_fit (Listening port) v typed k = port_told_fits port v typed k
 calls_stay_fit (DataOpened host) v typed k = opened_fits host v k
 calls_stay_fit Report v typed k = reports_fits v k
 calls_stay_fit ControlEnd v typed k = fails_fits Failures.Lost v k

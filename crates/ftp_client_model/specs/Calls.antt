@@ -1,5 +1,5 @@
 -- Each call of a client as a function of what it holds, and when an octet may be taken (RFC 959, sections 2.3 and 5.4).
-use Rattle.std.specs.Prelude.{ℕ, ◌<◌, ◌&&◌, Bool, true, false, nat_le, List, [], ◌∷◌, ◌++◌, length, take, drop, Option, Some, None, IsTrue, if◌then◌else◌}
+use Rattle.std.specs.Prelude.{ℕ, ◌<◌, ◌==◌, ◌&&◌, Bool, true, false, nat_le, List, [], ◌∷◌, ◌++◌, length, take, drop, Option, Some, None, IsTrue, if◌then◌else◌}
 use Rattle.ftp_endpoint.specs.declared.host.Host.{Host}
 use Rattle.ftp_operation.specs.Answer.{Said, BadOperation, Unopened}
 use Rattle.ftp_operation.specs.Operation.{can_be_sent}
@@ -152,6 +152,10 @@ no_port_by connection v = v
 -- no port is there
 unfoldable pub listen_refused : View → View
 listen_refused v = unless_closing (λ v. no_port_by v.connection v) v
+
+-- a port is told: nobody can be told to come to port 0, so it is as no port
+abbrev pub port_told : ℕ → View → View
+port_told port v = if port == 0 then listen_refused v else listening port v
 
 -- the link that the client opened is there, and the next command is sent
 abbrev pub connected : Job → View → View

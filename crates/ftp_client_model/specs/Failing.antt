@@ -1,7 +1,7 @@
 -- What stands after a call in which a growth was refused: the answer Memory for the operation under way and for every later one.
 -- Each relation holds in the place of the call's function where the count of refused growths changed in the call (the count moves
 -- on by wrapping). After that every later call is the call's function again.
-use Rattle.std.specs.Prelude.{◌≡◌, ◌≢◌, ◌&&◌, ℕ, ◌+◌, ◌≤◌, List, take, Option, Some, None, if◌then◌else◌}
+use Rattle.std.specs.Prelude.{◌≡◌, ◌≢◌, ◌==◌, ◌&&◌, ℕ, ◌+◌, ◌≤◌, List, take, Option, Some, None, if◌then◌else◌}
 use Rattle.ftp_operation.specs.Operation.{can_be_sent}
 use Rattle.ftp_operation.specs.declared.op.Op.{Op}
 use Rattle.ftp_client_model.specs.Calls.{hears, receives, begun, is_sound, unless_closing, MayHear, MayReceive}
@@ -87,6 +87,10 @@ no_port_short connection v = v
 -- of `listen_refused`
 abbrev pub listen_refused_short : View → View
 listen_refused_short v = unless_closing (λ v. no_port_short v.connection v) v
+
+-- of `port_told`
+abbrev pub port_told_short : ℕ → View → View
+port_told_short port v = if port == 0 then listen_refused_short v else listening_short port v
 
 -- of a link that was dialled or awaited
 abbrev pub unopened_short : ClientLink → View → View

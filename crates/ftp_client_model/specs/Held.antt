@@ -10,9 +10,9 @@ use Rattle.ftp_ends.specs.Limits.{held_limit}
 use Rattle.ftp_wire.specs.Stored.{encoder_limit}
 use Rattle.ftp_reply.specs.Lines.{Text}
 use Rattle.ftp_reply.specs.Reader.{Gathered, Between, Begun}
-use Rattle.ftp_client_model.specs.Calls.{starts, uploads, is_busy, reports, hears_octet, may_hear, gives_control, control_end, listening}
+use Rattle.ftp_client_model.specs.Calls.{starts, uploads, is_busy, reports, hears_octet, may_hear, gives_control, control_end, port_told}
 use Rattle.ftp_client_model.specs.Calls.{listen_refused, data_opened, data_refused, data_end, data_fault, data_closed, receives_octet, may_receive, gives_data}
-use Rattle.ftp_client_model.specs.Failing.{short, starts_short, uploads_short, listening_short, data_opened_short, data_end_short}
+use Rattle.ftp_client_model.specs.Failing.{short, starts_short, uploads_short, port_told_short, data_opened_short, data_end_short}
 use Rattle.ftp_client_model.specs.Telling.{kept_limit}
 use Rattle.ftp_client_model.specs.Tries.{OverBreaks}
 use Rattle.ftp_client_model.specs.View.{View, client}
@@ -56,7 +56,7 @@ pub data Call : Type 0 where
 abbrev pub failed_call : Call → View → View
 failed_call (Start op) v = if is_busy v then v else starts_short op v
 failed_call (BeginUpload upload) v = if is_busy v then v else uploads_short upload v
-failed_call (Listening port) v = listening_short port v
+failed_call (Listening port) v = port_told_short port v
 failed_call (DataOpened host) v = data_opened_short v
 failed_call DataEnd v = data_end_short v
 failed_call (Hear octet) v = short v
@@ -71,7 +71,7 @@ called (Hear octet) v = if may_hear v then hears_octet v octet else v
 called (DataHear octet) v = if may_receive v then receives_octet v octet else v
 called (ControlOut count) v = gives_control count v
 called (DataOut count) v = gives_data count v
-called (Listening port) v = listening port v
+called (Listening port) v = port_told port v
 called (DataOpened host) v = data_opened host v
 called Report v = reports v
 called ControlEnd v = control_end v

@@ -13,7 +13,7 @@ use Rattle.ftp_settings.specs.declared.representation.Mode.TheVariants as Modes
 use Rattle.ftp_settings.specs.declared.representation.Kind.TheVariants as Kinds
 use Rattle.ftp_settings.specs.declared.representation.Structure.TheVariants as Structures
 use Rattle.ftp_ends.specs.RowWords.{here, elsewhere, lines}
-use Rattle.ftp_client_model.specs.Calls.{starts, uploads, report_of, hears, listening, listen_refused, data_opened}
+use Rattle.ftp_client_model.specs.Calls.{starts, uploads, report_of, hears, port_told, listen_refused, data_opened}
 use Rattle.ftp_client_model.specs.Calls.{data_refused, data_end, data_fault, receives, gives_data, to_give, wants}
 use Rattle.ftp_client_model.specs.Dialogue.{answered}
 use Rattle.ftp_facts.specs.Listing.{names_value}
@@ -47,7 +47,7 @@ abbrev pub happens : Happening → View → View
 happens (asks op) v = starts op v
 happens (tries upload) v = uploads upload v
 happens (replied code text) v = answered code (text ∷ []) v
-happens (port number) v = listening number v
+happens (port number) v = port_told number v
 happens no_port v = listen_refused v
 happens (opened host) v = data_opened host v
 happens refused v = data_refused v
@@ -301,11 +301,12 @@ BrokenUpload =
     × (reported (lines_up ++ given 2 ∷ broken ∷ []) ≡ None)
     × (reported (lines_up ++ given 2 ∷ broken ∷ broken_off ∷ []) ≡ Some (Broken [] None))
 
--- a link or a port that is refused, and a 425, leave the operation undone; what stands is closed
+-- a link or a port that is refused, port 0, and a 425, leave the operation undone; what stands is closed
 abbrev pub NotOpened : Type 0
 NotOpened =
     (reported (get plain ∷ set ∷ entering ∷ refused ∷ []) ≡ Some Unopened)
     × (reported (get active ∷ set ∷ no_port ∷ []) ≡ Some Unopened)
+    × (reported (get active ∷ set ∷ port 0 ∷ []) ≡ Some Unopened)
     × (reported (get plain ∷ set ∷ entering ∷ opened here ∷ unopened ∷ []) ≡ Some Unopened)
     × (wanted (get plain ∷ set ∷ entering ∷ opened here ∷ unopened ∷ []) ≡ Want.CloseData)
 

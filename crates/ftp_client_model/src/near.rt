@@ -2,9 +2,9 @@
 ghost use Rattle.std.specs.Prelude.{◌≡◌, ◌<◌, ◌≤◌, ℕ, List, Some, None, IfErr, IsTrue, OnErr, OnOk, false, is_err, length, min, take};
 ghost use Rattle.ftp_operation.specs.declared.op.Op.{Op};
 ghost use Rattle.ftp_operation.specs.Answer.{said_of};
-ghost use Rattle.ftp_client_model.specs.Calls.{starts, uploads, is_busy, handed_back, report_of, reports, gives_control, may_hear, control_end, listening, listen_refused, data_opened, data_refused, data_end, data_fault, data_closed, gives_data, to_give, may_receive, wants};
+ghost use Rattle.ftp_client_model.specs.Calls.{starts, uploads, is_busy, handed_back, report_of, reports, gives_control, may_hear, control_end, listen_refused, port_told, data_opened, data_refused, data_end, data_fault, data_closed, gives_data, to_give, may_receive, wants};
 ghost use Rattle.ftp_client_model.specs.Counting.{CountsOn};
-ghost use Rattle.ftp_client_model.specs.Failing.{Client, Holds, HoldsIfRoom, HearsIfRoom, ReceivesIfRoom, starts_short, uploads_short, short, listening_short, listen_refused_short, data_opened_short, data_refused_short, data_end_short, data_fault_short};
+ghost use Rattle.ftp_client_model.specs.Failing.{Client, Holds, HoldsIfRoom, HearsIfRoom, ReceivesIfRoom, starts_short, uploads_short, short, listen_refused_short, port_told_short, data_opened_short, data_refused_short, data_end_short, data_fault_short};
 ghost use Rattle.ftp_client_model.specs.Growing.{giving_grows};
 ghost use Rattle.ftp_client_model.specs.Most.{IsMostHeard, IsMostReceived};
 ghost use Rattle.ftp_client_model.specs.Telling.{Told, anew, begins_told, ends_told, hears_told};
@@ -104,10 +104,11 @@ pub trait Near<A: Allocator + Copy>: Drop {
         // Witness of told: as of `begin`.
         ensures told { told self.new ≡ ends_told (client self.old).view (told self.old) };
 
-    /// A port is listened at.
+    /// A port is listened at. Nobody can be told to come to port 0: it is as no port (own choice).
     fn listening(&mut self, port: u16)
-        // Witness of moved: the same, or short of memory.
-        ensures moved { HoldsIfRoom (client self.old) (client self.new) (listening port (client self.old).view) (listening_short port (client self.old).view) }
+        // Witness of moved: the same of the port that is told, of which 0 is as no port, or short of memory;
+        // `port_0_is_taken_as_any_other` of `ftp_client`.
+        ensures moved { HoldsIfRoom (client self.old) (client self.new) (port_told port (client self.old).view) (port_told_short port (client self.old).view) }
         // Witness of told: as of `begin`.
         ensures told { told self.new ≡ told self.old }
         // Witness of counted: as of `begin`.

@@ -10,7 +10,7 @@ use Rattle.ftp_ends.specs.Ear.{ear}
 use Rattle.ftp_ends.specs.Link.{same_host}
 use Rattle.ftp_ends.specs.Reply.{reply_limit}
 use Rattle.ftp_nvt.specs.Lines.{NvtEvent, line, too_long, owed}
-use Rattle.ftp_operation.specs.Answer.{Foreign, Refused, Said}
+use Rattle.ftp_operation.specs.Answer.{Foreign, Refused, Said, Unopened}
 use Rattle.ftp_operation.specs.Operation.{can_be_sent}
 use Rattle.ftp_operation.specs.declared.op.Op.{Op}
 use Rattle.ftp_reply.specs.Lines.{Text, joined}
@@ -419,8 +419,8 @@ module _ (Kept : Op (List ℕ) → Transfer → Type 0) (keeps : IsKept Kept) wh
       by (Doing op step) some = record { job = some; run = p.run }
       by (Transferring op transfer) some = record { job = some; run = p.run }
 
-  -- a port is told
-  pub listening_kept : (port : ℕ) (n : Near) → IsKeeping Kept n → IsKeeping Kept (near.listening port n)
+  -- a port is there
+  listening_kept : (port : ℕ) (n : Near) → IsKeeping Kept n → IsKeeping Kept (near.listening port n)
   unfolding near.listening
   listening_kept port n p = by n.closing n.connection n.job p.job
     where
@@ -429,6 +429,24 @@ module _ (Kept : Op (List ℕ) → Transfer → Type 0) (keeps : IsKept Kept) wh
       by true link job some = p
       by false Data.ListenWanted (Doing op Steps.Listen) some = goes_kept op Steps.Listen (record n { connection = Data.Listening port }) some p.run
       by false link job some = p
+
+  -- no port is there
+  no_port_kept : (n : Near) → IsKeeping Kept n → IsKeeping Kept (near.listen_refused n)
+  unfolding near.listen_refused
+  no_port_kept n p = by n.closing n.connection
+    where
+      by : (closing : Bool) (link : ClientLink) → IsKeeping Kept (if closing then n else near.no_port_by link n)
+      by true link = p
+      by false Data.ListenWanted = finished_kept Unopened n p
+      by false link = p
+
+  -- a port is told
+  pub port_told_kept : (port : ℕ) (n : Near) → IsKeeping Kept n → IsKeeping Kept (near.port_told port n)
+  port_told_kept port n p = by (port == 0)
+    where
+      by : (none : Bool) → IsKeeping Kept (if none then near.listen_refused n else near.listening port n)
+      by true = no_port_kept n p
+      by false = listening_kept port n p
 
 -- ---- octets of a data connection
 

@@ -9,7 +9,7 @@ use Rattle.ftp_client_driver.specs.Side.{client_side}
 use Rattle.ftp_client_model.specs.Calls as near
 use Rattle.ftp_client_model.specs.Calls.{is_sound as is_sound_at}
 use Rattle.laws_drivers.proofs.events.Stands.{wants_port}
-use Rattle.ftp_client_model.specs.Calls.{accepted, data_closed, is_busy, listening, report_of}
+use Rattle.ftp_client_model.specs.Calls.{accepted, data_closed, is_busy, listening, port_told, report_of}
 use Rattle.ftp_client_model.specs.View.{Doing, View as Near}
 use Rattle.ftp_client_model.specs.declared.client.ClientLink.TheVariants as Data
 use Rattle.ftp_client_model.specs.declared.client.Step.TheVariants as Steps
@@ -19,6 +19,7 @@ use Rattle.ftp_server_driver.specs.alone.Side.{server_side}
 use Rattle.ftp_server_model.specs.Machine.{Reading}
 use Rattle.laws_world.specs.Agreement.{Order}
 use Rattle.laws_world.specs.World.{Gone, World, next_listen, port_at}
+use Rattle.laws_world.proofs.PortLemmas.{told_port_at}
 use Rattle.laws_dialogues.specs.Fetches.{busy}
 use Rattle.laws_agreement.proofs.Chunks.{both_empty}
 use Rattle.laws_drivers.specs.control.Alone.{ClientIsCalm}
@@ -134,7 +135,9 @@ module _ (read : Reading) (begun : List Order) (server : Stand server_side) (old
   }
     where
       is : u ≡ led_by (Told port) v
-      is = did.0.0.0.0 calm ∙ ap (λ p. listening p v) (same ∙ sym so.1) ∙ ap (listening port) (sym (unclosed v open_now))
+      is =
+          did.0.0.0.0 calm ∙ ap (λ p. port_told p v) same ∙ told_port_at told v ∙ ap (λ p. listening p v) (sym so.1)
+          ∙ ap (listening port) (sym (unclosed v open_now))
 
       form : led_by (Told port) v ≡ listening port (busy (Doing so.0.op Steps.Listen) Data.ListenWanted v)
       form = ap (listening port) so.0.view

@@ -32,7 +32,7 @@ use Rattle.laws_transfers.proofs.Called.{BreaksNone}
 use Rattle.laws_active.specs.Actions.{ClientTransfers}
 use Rattle.laws_active.proofs.Accepting.{few_unsettled}
 use Rattle.laws_active.proofs.Calls.{carried_some}
-use Rattle.laws_active.proofs.Keeping.{IsCarrying, IsKeeping, IsKeepingJob, IsKept, ended_kept, gives_kept, hears_kept, listening_kept, opened_kept, received_kept, starts_kept, taken_kept, whatever_kept}
+use Rattle.laws_active.proofs.Keeping.{IsCarrying, IsKeeping, IsKeepingJob, IsKept, ended_kept, gives_kept, hears_kept, opened_kept, port_told_kept, received_kept, starts_kept, taken_kept, whatever_kept}
 
 -- ---- no ABOR
 
@@ -95,7 +95,7 @@ module _ (Kept : Op (List ℕ) → Transfer → Type 0) (keeps : IsKept Kept)
       is_now _ (did.0.0.1.0 ∙ reports_is old.owner.end.view) (taken_kept Kept keeps old.owner.end.view p)
   action_kept takes (Other (Aside (Starting op))) unbroken is did p =
       is_now _ (did.0.0.1.0.0 is.1) (starts_kept Kept keeps op old.owner.end.view (carried_some op is.0.0) p)
-  action_kept takes (Other (Listening port)) unbroken is did p = is_now _ (did.0.0.0.0 is.1) (listening_kept Kept keeps port old.owner.end.view p)
+  action_kept takes (Other (Listening port)) unbroken is did p = is_now _ (did.0.0.0.0 is.1) (port_told_kept Kept keeps port old.owner.end.view p)
   action_kept takes (Other (Opened host (Came from left written ∷ []) at_first so_far rest)) unbroken is did p =
       is_now _ (did.0.0.0.0.0 is.1) (opened_kept Kept keeps host old.owner.end.view p)
   action_kept takes (Other (Opened host (Connected endpoint left written ∷ []) at_first so_far rest)) unbroken is did p =

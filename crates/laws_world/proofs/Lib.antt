@@ -4,3 +4,4 @@ pub mod WorldRows
 pub mod TriesLemmas
 pub mod DoneLemmas
 pub mod StillLemmas
+pub mod PortLemmas

@@ -1,14 +1,16 @@
 -- Room for a report: no call of the client but those that begin something makes it busy, also where it is short of memory.
-use Rattle.std.proofs.Common.{◌≡◌, ℕ, List, take, Some, refl, sym, subst, inl, inr, arith}
+use Rattle.std.proofs.Common.{◌≡◌, ℕ, List, take, Some, refl, sym, ap, ◌∙◌, subst, inl, inr, arith}
 use Rattle.std.proofs.lemmas.Bool.{cases_lt}
 use Rattle.std.specs.Prelude.{false, ◌≢◌}
 use Rattle.ftp_endpoint.specs.declared.host.Host.{Host}
 use Rattle.ftp_client_model.specs.Busy.{BusyBefore}
-use Rattle.ftp_client_model.specs.Calls.{is_busy, report_of, report_of_job, reports, reported_by, gives_control, control_end, listening, data_opened, data_end, data_fault, data_closed, gives_data}
-use Rattle.ftp_client_model.specs.Failing.{Client, Holds, HoldsIfRoom, HearsIfRoom, ReceivesIfRoom, listening_short, data_opened_short, data_end_short, data_fault_short, short}
+use Rattle.ftp_client_model.specs.Calls.{is_busy, report_of, report_of_job, reports, reported_by, gives_control, control_end, listening, port_told, data_opened, data_end, data_fault, data_closed, gives_data}
+use Rattle.ftp_client_model.specs.Failing.{Client, Holds, HoldsIfRoom, HearsIfRoom, ReceivesIfRoom, listening_short, port_told_short, data_opened_short, data_end_short, data_fault_short, short}
 use Rattle.ftp_client_model.specs.View.{View, Job, Idle, Waiting, Doing, Transferring, Told}
 use Rattle.ftp_client_model.proofs.BusyLemmas.{only_begins_busy}
 use Rattle.ftp_operation.specs.Answer.{Said}
+use Rattle.laws_world.proofs.PortLemmas.{short_port_at, told_port_at}
+use Rattle.laws_world.specs.World.{port_at}
 
 -- a client that is another is busy where that one is
 as_busy : (old : View) (new view : View) → new ≡ view → BusyBefore old view → BusyBefore old new
@@ -44,10 +46,20 @@ control_end_busy old new holds = holds_busy old new (control_end old.view) holds
 pub data_closed_busy : (old new : Client) → Holds old new (data_closed old.view) → BusyBefore old.view new.view
 data_closed_busy old new holds = holds_busy old new (data_closed old.view) holds (only_begins_busy old.view).calls.closed
 
-pub listening_busy : (old new : Client) (port : ℕ) → HoldsIfRoom old new (listening port old.view) (listening_short port old.view) → BusyBefore old.view new.view
-listening_busy old new port holds =
+-- a client that is told a port of the pair is told that it is there
+pub listening_moves : (old new : Client) (port k : ℕ) → port ≡ port_at k → HoldsIfRoom old new (port_told port old.view) (port_told_short port old.view)
+    → HoldsIfRoom old new (listening (port_at k) old.view) (listening_short (port_at k) old.view)
+listening_moves old new port k is holds = (
+  λ same. holds.0 same ∙ ap (λ p. port_told p old.view) is ∙ told_port_at k old.view,
+  λ other. holds.1 other ∙ ap (λ p. port_told_short p old.view) is ∙ short_port_at k old.view,
+)
+
+pub listening_busy : (old new : Client) (port k : ℕ) → port ≡ port_at k → HoldsIfRoom old new (port_told port old.view) (port_told_short port old.view)
+    → BusyBefore old.view new.view
+listening_busy old new port k is holds =
     let v = only_begins_busy old.view in
-    room_busy old new (listening port old.view) (listening_short port old.view) holds (v.calls.told_port port) (v.short_calls.told_port port)
+    room_busy old new (listening (port_at k) old.view) (listening_short (port_at k) old.view) (listening_moves old new port k is holds)
+    (v.calls.told_port (port_at k)) (v.short_calls.told_port (port_at k))
 
 pub data_opened_busy : (old new : Client) (host : Host) → HoldsIfRoom old new (data_opened host old.view) (data_opened_short old.view) → BusyBefore old.view new.view
 data_opened_busy old new host holds =

@@ -63,7 +63,7 @@ impl<A: Allocator + Copy, T: Tree<A>, N: Near<A>, F: SureFar<A, T>> Parts<A, T, 
         }
     }
 
-    #[tactic(auto, using(crate::proofs::events::Busy::listening_busy))]
+    #[tactic(auto, using(crate::proofs::events::Busy::listening_busy, crate::proofs::events::Busy::listening_moves))]
     fn near_listens(&mut self)
         ensures moved { Calmly self.old self.new (shown N.client F.server self.new ≡ near_listens (shown N.client F.server self.old)) }
         ensures report { HasRoom N.client self.old → HasRoom N.client self.new }

@@ -26,7 +26,7 @@ abbrev pub one_more : Channel
 one_more = record (one_stands [] []) { rest = Rests.More }
 
 -- the client is told a port
-pub near_listens : (port : ℕ) (n new : Near) → near.wants n ≡ Want.Listen → n.owed ≡ [] → new ≡ near.listening port n
+pub near_listens : (port : ℕ) (n new : Near) → near.wants n ≡ Want.Listen → n.owed ≡ [] → new ≡ near.port_told port n
     → Done (Other (Listening port)) (near_in none_yet n []) (near_in none_yet new [])
 near_listens port n new wants owed is = (((((λ calm. is), (λ moved. absurd (moved refl))), inl refl), (tt, refl), (wants, owed)), refl)
 

@@ -1,9 +1,10 @@
 -- The peers that a server and a client have stay all along; so who comes from there is the peer of either.
-use Rattle.std.proofs.Common.{◌≡◌, ◌∙◌, ℕ, Bool, true, false, List, [], ◌∷◌, None, sym, refl, ap, subst, length, take}
+use Rattle.std.proofs.Common.{◌≡◌, ◌∙◌, ℕ, ◌==◌, Bool, true, false, List, [], ◌∷◌, None, sym, refl, ap, subst, length, take}
 use Rattle.ftp_endpoint.specs.declared.host.Host.{Host}
 use Rattle.ftp_ends.specs.Ear.{ear}
 use Rattle.ftp_ends.specs.Link.{same_host}
 use Rattle.ftp_nvt.specs.Lines.{NvtEvent, line, owed, too_long}
+use Rattle.ftp_operation.specs.Answer.{Unopened}
 use Rattle.ftp_operation.specs.Operation.{can_be_sent}
 use Rattle.ftp_operation.specs.declared.op.Op.{Op}
 use Rattle.ftp_reply.specs.Reader.{Between, Faulty, GoesOn, Heard as Hearing, Says as Reads, line_heard}
@@ -11,7 +12,7 @@ use Rattle.ftp_ports.specs.Asking.{Came, Connected}
 use Rattle.ftp_ports.specs.Actions.{Action, Done, Heard, Led, Other, Read, Said as Says, Stand}
 use Rattle.ftp_ports.specs.Machine.{Aside, Break, Closed, End, Failed, Gave, Got, Held, Left, LetGo, Listening, Opened, Received, Refused, Waited, Wrote}
 use Rattle.ftp_client_driver.specs.Side.{Begun, Reporting, Starting, client_side}
-use Rattle.ftp_client_model.specs.Calls.{connected, ending_of, event_taken, events_taken, gives_data, goes_by, heard_by, heard_flow, hears, hears_octet, accepted, line_taken, listening, listening_by, data_end, data_fault, data_opened, opened_by, over_by, receives, receives_octet, reply_limit, reported_by, started_by, starts, unless_closing, unsendable_by, went}
+use Rattle.ftp_client_model.specs.Calls.{connected, ending_of, event_taken, events_taken, gives_data, goes_by, heard_by, heard_flow, hears, hears_octet, accepted, line_taken, listen_refused, listening, listening_by, data_end, data_fault, data_opened, no_port_by, opened_by, over_by, port_told, receives, receives_octet, reply_limit, reported_by, started_by, starts, unless_closing, unsendable_by, went}
 use Rattle.ftp_client_model.specs.Failing.{Client as NearEnd}
 use Rattle.ftp_client_model.specs.View.{Doing, Job, Told, Transfer, Transferring, View}
 use Rattle.ftp_client_model.specs.declared.client.ClientLink.{ClientLink}
@@ -32,7 +33,7 @@ use Rattle.ftp_pair_memory.specs.streams.Order.{AllCame, ComesFrom, Hosts}
 use Rattle.laws_sessions.specs.passive.Kinds.{Does}
 use Rattle.laws_sessions.proofs.passive.Peers.{came_from, action_peer, left_comes, opened_same, peer_of, peer_serves, server_comes, step_peer}
 use Rattle.laws_sessions.specs.either.Either.{IsAskingAny, IsServingAny}
-use Rattle.laws_sessions.proofs.either.Replying.{HasPeer, Stays, aborts_once_peer, answered_peer, begins_peer, carries_on_peer, goes_on_peer, if_peer, strange_peer}
+use Rattle.laws_sessions.proofs.either.Replying.{HasPeer, Stays, aborts_once_peer, answered_peer, begins_peer, carries_on_peer, finishes_peer, goes_on_peer, if_peer, strange_peer}
 
 -- ---- each call of a client leaves its peer
 
@@ -86,6 +87,17 @@ module _ (host : Host) where
   listening_peer : (port : ℕ) (v : View) → Stays host v (listening port)
   unfolding listening
   listening_peer port v = unless_peer (λ v. listening_by v.connection v.job port v) v (listening_by_peer v.connection v.job port v)
+
+  no_port_by_peer : (connection : ClientLink) (v : View) → Stays host v (no_port_by connection)
+  no_port_by_peer Data.ListenWanted v r = finishes_peer host Unopened v r
+  no_port_by_peer connection v r = r
+
+  no_port_peer : (v : View) → Stays host v listen_refused
+  unfolding listen_refused
+  no_port_peer v = unless_peer (λ v. no_port_by v.connection v) v (no_port_by_peer v.connection v)
+
+  port_told_peer : (port : ℕ) (v : View) → Stays host v (port_told port)
+  port_told_peer port v r = if_peer host (port == 0) (listen_refused v) (listening port v) (no_port_peer v r) (listening_peer port v r)
 
   connected_peer : (job : Job) (v : View) → Stays host v (connected job)
   connected_peer (Doing op Steps.Connect) v r = goes_on_peer host op Steps.Connect (record v { connection = Data.Open }) r
@@ -154,7 +166,7 @@ client_peer (Other (Aside (Reporting said))) old new is calm did =
     let v = old.owner.end.view in ap (λ v. v.peer) did.0.0.1.0 ∙ reported_peer v.peer v.job v refl
 client_peer (Other (Aside (Starting op))) old new is calm did = begins_keeps op old new calm did
 client_peer (Other (Listening port)) old new is calm did =
-    let v = old.owner.end.view in ap (λ v. v.peer) (did.0.0.0.0 calm) ∙ listening_peer v.peer port v refl
+    let v = old.owner.end.view in ap (λ v. v.peer) (did.0.0.0.0 calm) ∙ port_told_peer v.peer port v refl
 client_peer (Other (Opened host (Came from left written ∷ []) at_first so_far rest)) old new is calm did =
     let v = old.owner.end.view in ap (λ v. v.peer) (did.0.0.0.0.0 calm) ∙ opened_peer v.peer host v refl
 client_peer (Other (Opened host (Connected endpoint left written ∷ []) at_first so_far rest)) old new is calm did =

@@ -75,7 +75,7 @@ module _ (host : Host) where
   finishes_by_peer None answer v r = r
   finishes_by_peer (Some op) answer v r = begins_peer op (record (dropped v) { run = option_map (run_at op) v.run }) r
 
-  finishes_peer : (answer : Said) (v : View) → Stays v (finishes answer)
+  pub finishes_peer : (answer : Said) (v : View) → Stays v (finishes answer)
   finishes_peer answer v r = finishes_by_peer (next_job v.run v.job answer) answer v r
 
   finishes_read_peer : (answer : Option Said) (v : View) → Stays v (finishes_read answer)
