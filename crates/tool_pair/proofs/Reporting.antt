@@ -1,5 +1,6 @@
 -- Reports that are written after a text, and the reports of a world.
-use Rattle.std.proofs.Common.{◌≡◌, ◌∙◌, ◌++◌, ℕ, Bool, true, List, [], Option, Result, Ok, Err, OnOk, IfOk, map, flat_map, inl, inr, ap, subst}
+use Rattle.std.proofs.Common.{◌≡◌, ◌∙◌, ◌+◌, ◌++◌, ℕ, Bool, true, false, List, [], Option, Result, Ok, Err, OnOk, IfOk, length, map, flat_map, inl, inr, sym, ap, subst, arith}
+use Rattle.std.specs.Prelude.{if◌then◌else◌}
 use Rattle.std.specs.Io.KnownBytes.{Appends}
 use Rattle.std.proofs.KnownBytes.{Appends-trans}
 use Rattle.ftp_operation.specs.Answer.{said_of}
@@ -14,6 +15,7 @@ use Rattle.tool_script.specs.Status.{status_without, worst_of}
 use Rattle.tool_script.specs.declared.reading.NoScript.{NoScript}
 use Rattle.tool_script.specs.declared.reading.NoScript.TheVariants as Nones
 use Rattle.tool_terminal.specs.declared.status.Status.{Status}
+use Rattle.tool_terminal.specs.declared.status.Status.TheVariants.{Refused}
 use Rattle.tool_pair.specs.Leading.{LeadsTaking, LeadsTo, Led, Rests, first_second, orders_at}
 use Rattle.tool_pair.specs.Making.{own_beginning}
 use Rattle.tool_pair.specs.Played.{Plays, PlaysIn, Tells}
@@ -24,14 +26,15 @@ use Rattle.tool_pair.specs.declared.transcript.Transcript.{Transcript}
 -- the text of a transcript and then reports, where orders led from one world to another
 pub reported : {A : Type 0} (B : Type 0) (wanted : Bool) (orders : List (Order (List ℕ))) (first last : Seen) (notes later : Transcript A) (old mid new : Option (List ℕ)) (text : List ℕ)
     (answers : List (Answer B)) (status : Status) → LeadsTelling (orders_at first_second orders) first last notes later → is_wanted notes ≡ wanted → HasTold notes []
-    → text ≡ text_of later → Appends old mid text → Appends mid new (flat_map report answers) → map said_of answers ≡ last.world.reports → status ≡ worst_of answers
-    → PlaysIn B wanted orders first last old new status
-reported B wanted orders first last notes later old mid new text answers status leads is none same one other said worst =
+    → text ≡ text_of later → Appends old mid text → Appends mid new (flat_map report answers) → map said_of answers ≡ last.world.reports
+    → length last.world.reports ≡ length first.world.reports + length orders → status ≡ (if last.calm then worst_of answers else Refused) → PlaysIn B wanted orders first last old new status
+reported B wanted orders first last notes later old mid new text answers status leads is none same one other said each worst =
     let front : text ≡ transcript wanted leads.0 =
     same ∙ (leads.2.told [] none).lines ∙ ap (λ b. transcript b leads.0) (leads.2.wanted ∙ is) in
     record {
       took = leads.0;
       leads = leads.1;
+      each = each;
       reports = record {
         answers = answers;
         same = said;
@@ -39,6 +42,14 @@ reported B wanted orders first last notes later old mid new text answers status 
         worst = worst;
       };
     }
+
+-- where an end was refused memory the status is 1
+pub short_status : (calm : Bool) (worst : Status) → calm ≡ false → Refused ≡ (if calm then worst else Refused)
+short_status calm worst short = ap (λ b. if b then worst else Refused) (sym short)
+
+-- where none was it is the worst
+pub calm_status : (calm : Bool) (status worst : Status) → calm ≡ true → status ≡ worst → status ≡ (if calm then worst else Refused)
+calm_status calm status worst is same = same ∙ ap (λ b. if b then worst else Refused) (sym is)
 
 -- what holds anyhow
 pub anyhow_ok : {T E : Type 0} (r : Result T E) (P : Type 0) → P → OnOk r P
@@ -60,17 +71,22 @@ led from orders took old new fair is leads rests calm = record {
   rests = rests calm from fair is;
 }
 
+-- none and so many
+none_more : (none more : ℕ) → none ≡ 0 → none + more ≡ more
+none_more none more is = omega (arith, is)
+
 -- the reports of a world that was reached so
 pub played : {E : Type 0} (A : Type 0) (wanted : Bool) (from : Beginning) (orders : List (Order (List ℕ))) (first w : Seen) (old new : Option (List ℕ)) (r : Result Status E)
     → IsFair from → first.world ≡ world_of from → IfOk r (λ status. PlaysIn A wanted orders first w old new status) → OnOk r (Rests (orders_at first_second orders) first w)
-    → OnOk r (w.calm ≡ true) → IfOk r (λ status. Plays A wanted from orders old new status)
-played A wanted from orders first w old new (Ok status) fair is plays rests calm = record {
+    → IfOk r (λ status. Plays A wanted from orders old new status)
+played A wanted from orders first w old new (Ok status) fair is plays rests = record {
   took = plays.took;
-  world = w.world;
-  led = led from orders plays.took first w fair is plays.leads rests calm;
+  last = w;
+  led = led from orders plays.took first w fair is plays.leads rests;
+  each = plays.each ∙ none_more (length first.world.reports) (length orders) (ap (λ w. length w.reports) is);
   reports = plays.reports;
 }
-played A wanted from orders first w old new (Err error) fair is plays rests calm = tt
+played A wanted from orders first w old new (Err error) fair is plays rests = tt
 
 -- the same from an equal beginning
 pub plays_from : {E : Type 0} (A : Type 0) (wanted : Bool) (from own : Beginning) (orders : List (Order (List ℕ))) (old new : Option (List ℕ)) (r : Result Status E) → from ≡ own

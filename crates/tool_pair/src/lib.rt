@@ -14,5 +14,5 @@ mod typed;
 pub use beginning::{Beginning, Unfair};
 pub use ends::{Ends, world_of};
 pub use making::beginning_of;
-pub use playing::{PairSettings, pair};
+pub use playing::{PairSettings, pair, play_in};
 pub use transcript::Transcript;

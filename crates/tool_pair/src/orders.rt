@@ -1,5 +1,5 @@
 // The orders of a script, one after another.
-ghost use Rattle.std.specs.Prelude.{◌≡◌, ◌+◌, ◌∷◌, [], true, IfOk, OnOk};
+ghost use Rattle.std.specs.Prelude.{◌≡◌, ◌+◌, ◌∷◌, [], true, IfOk, OnOk, length};
 ghost use Rattle.laws_world.specs.Events.{IsQuiet};
 ghost use Rattle.tool_pair.specs.Leading.{LeadsTo, Rests, first_second, order_at, orders_at};
 ghost use Rattle.tool_pair.specs.Telling.{LeadsTelling};
@@ -32,7 +32,9 @@ where
     S: SureFar<A, T>,
     ensures leads { OnOk result (LeadsTelling (orders_at first_second orders.items) world.old world.new transcript.old transcript.new) }
     ensures rests { OnOk result (Rests (orders_at first_second orders.items) world.old world.new) }
+    ensures each { OnOk result (length world.new.world.reports ≡ length world.old.world.reports + length orders.items) }
 {
+    let wanted = reports_wanted(world, &orders)?;
     let mut number = 0u64;
     for order in orders {
         until_finished(world, piece, transcript)?;
@@ -42,19 +44,62 @@ where
         number = number.saturating_add(1);
     }
     until_still(world, piece, transcript)?;
-    at_rest(world)
+    at_rest(world, wanted)
 }
 
-/// Fails where something is in flight, or not all that was ordered has its report.
-fn at_rest<A, T, N, S>(world: &World<A, T, N, S>) -> io::Result<()>
+/// How many reports there are.
+fn report_count<A, T, N, S>(world: &World<A, T, N, S>) -> usize
+where
+    A: Allocator + Copy,
+    T: Tree<A>,
+    N: Near<A>,
+    S: SureFar<A, T>,
+    ensures { result ≡ length world.now.world.reports }
+{
+    world.reports().len()
+}
+
+/// How many reports there are once each of these orders has its own.
+fn reports_wanted<A, T, N, S>(
+    world: &World<A, T, N, S>,
+    orders: &Vec<Order<Text<A>>, A>,
+) -> io::Result<usize>
+where
+    A: Allocator + Copy,
+    T: Tree<A>,
+    N: Near<A>,
+    S: SureFar<A, T>,
+    ensures { IfOk result (λ count. count ≡ length world.now.world.reports + length orders.now.items) }
+{
+    match report_count(world).checked_add(orders.len()) {
+        Some(count) => Ok(count),
+        None => Err(unreported()),
+    }
+}
+
+/// Whether there are so many reports.
+fn has_reports<A, T, N, S>(world: &World<A, T, N, S>, wanted: usize) -> bool
+where
+    A: Allocator + Copy,
+    T: Tree<A>,
+    N: Near<A>,
+    S: SureFar<A, T>,
+    ensures { result ≡ true → length world.now.world.reports ≡ wanted }
+{
+    report_count(world) == wanted
+}
+
+/// Fails where something is in flight, or there are not so many reports.
+fn at_rest<A, T, N, S>(world: &World<A, T, N, S>, wanted: usize) -> io::Result<()>
 where
     A: Allocator + Copy,
     T: Tree<A>,
     N: Near<A>,
     S: SureFar<A, T>,
     ensures quiet { OnOk result (IsQuiet world.now.world) }
+    ensures each { OnOk result (length world.now.world.reports ≡ wanted) }
 {
-    if world.is_quiet() && world.finished() {
+    if world.is_quiet() && has_reports(world, wanted) {
         Ok(())
     } else {
         Err(unreported())

@@ -1,7 +1,7 @@
 // A script between a reader and a writer.
 ghost use Rattle.std.specs.Prelude.{◌≡◌, true, IfOk, OnOk};
 ghost use Rattle.tool_pair.specs.Begun.{begun};
-ghost use Rattle.tool_terminal.specs.declared.status.Status.TheVariants.{Failed};
+ghost use Rattle.tool_terminal.specs.declared.status.Status.TheVariants.{Done, Failed};
 ghost use Rattle.tool_pair.specs.Leading.{Rests, first_second, orders_at};
 ghost use Rattle.tool_pair.specs.Making.{own_beginning};
 ghost use Rattle.tool_script.specs.Status.{status_without};
@@ -24,7 +24,7 @@ use ftp_tree::Tree;
 use ftp_tree_memory::MemTree;
 use std::alloc::Allocator;
 use std::io;
-use std::io::{Error, ErrorKind, Read, Write};
+use std::io::{Error, Read, Write};
 use tool_script::{NoScript, Order, Script, read_script, write_reports};
 use tool_terminal::Status;
 
@@ -43,8 +43,9 @@ pub struct PairSettings {
 ///
 /// The ends are `ftp_client` and `ftp_server` over a new tree in memory, where `guest` with the password `secret` and `anonymous` without one may log
 /// in; what lies between them is the world of `ftp_pair`. The first order has the first second of the year 2000, each other the next one. `Done`: each
-/// order was answered as wanted. `Refused`: an order was refused or failed. `BadWords`: a line of the script fits no form, and nothing was done.
-/// `Failed`: a read or a write failed, or memory was refused, also to one of the ends. `faults` is told of the last two.
+/// order was answered as wanted. `Refused`: an order was refused or failed, or an end was refused memory: each order has its report all the same.
+/// `BadWords`: a line of the script fits no form, and nothing was done. `Failed`: a read or a write failed, or memory was refused outside both ends.
+/// `faults` is told of the last two.
 #[tactic(auto, using(crate::proofs::Reporting::tells_none, crate::proofs::Reporting::tells_script))]
 pub fn pair<A, R, W, F>(
     alloc: A,
@@ -61,7 +62,7 @@ where
     // Witness: `edits/octets_that_were_taken_are_not_told`, `the_client_says_what_the_server_did`, `a_script_that_was_played_is_told_of_as_a_fault`.
     // Witness: `edits/the_transcript_is_empty`, `the_transcript_is_written_twice`, `a_transcript_is_written_unasked`.
     // Witness: `edits/an_order_is_left_out`, `each_order_has_one_second`, `both_logins_are_at_the_root`, `something_is_in_flight`.
-    // Witness: `edits/no_report_is_written`, `a_report_is_left_out_at_status_1`, `a_refusal_is_status_0`, `refused_memory_is_status_1`.
+    // Witness: `edits/no_report_is_written`, `a_report_is_left_out_at_status_1`, `a_refusal_is_status_0`, `refused_memory_of_an_end_is_status_3`.
     ensures { Tells A settings.transcript settings.roots (R.remaining reader.old) (R.remaining reader.new) (W.contents writer.old) (W.contents writer.new)
         (F.contents faults.old) (F.contents faults.new) result }
 {
@@ -127,8 +128,8 @@ fn play_from<A: Allocator + Copy, C: ClientTransfer<A>, J: ServerTransfer<A, Mem
     play_in(alloc, settings, &mut world, orders, writer)
 }
 
-/// Plays orders in a world: the transcript, where it is wanted, and then the reports. Fails where an end was refused memory.
-fn play_in<A, T, N, S, W>(
+/// Plays orders in a world: the transcript, where it is wanted, and then the reports. Where an end was refused memory the status is `Refused`.
+pub fn play_in<A, T, N, S, W>(
     alloc: A,
     settings: PairSettings,
     world: &mut World<A, T, N, S>,
@@ -141,17 +142,20 @@ where
     N: Near<A>,
     S: SureFar<A, T>,
     W: Write,
+    // Witness of plays, rests: `pair`.
     ensures plays { IfOk result (λ status. PlaysIn A settings.transcript orders.items world.old world.new
         (W.contents writer.old) (W.contents writer.new) status) }
     ensures rests { OnOk result (Rests (orders_at first_second orders.items) world.old world.new) }
-    ensures calm { OnOk result (world.new.calm ≡ true) }
+    // Witness of calm: `edits/refused_memory_is_status_0`.
+    ensures calm { IfOk result (λ status. status ≡ Done → world.new.calm ≡ true) }
 {
     let mut transcript = Transcript::new(alloc, settings.transcript);
     obey(world, settings.piece, orders, &mut transcript)?;
     writer.write_all(transcript.lines())?;
     let status = write_reports(alloc, world.reports(), writer)?;
-    if !world.is_calm() {
-        return Err(Error::from(ErrorKind::OutOfMemory));
+    if world.is_calm() {
+        Ok(status)
+    } else {
+        Ok(Status::Refused)
     }
-    Ok(status)
 }

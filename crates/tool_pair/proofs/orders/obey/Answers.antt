@@ -39,3 +39,6 @@ returns-clause-rests g c =
     c.args.transcript.now c.loop-order.transcript c.until_still.new.transcript is (sym c.loop-order.order-iterator.rest.ok.0 ∙ c.in-None.ensures.steps.0) c.loop-order.invariant.leads
     c.in_ok-until_still.ensures in
     on_ok c.at_rest.result (λ quiet. rests (orders_at first_second c.args.orders.items) leads.0 c.args.world.now c.until_still.new.world leads.1 quiet) c.at_rest.ensures.quiet
+
+pub returns-clause-each : goal.returns-clause-each
+returns-clause-each g c = on_ok c.at_rest.result (λ each. each ∙ c.in_ok-wanted.ensures) c.at_rest.ensures.each
