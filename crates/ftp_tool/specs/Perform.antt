@@ -1,7 +1,7 @@
 -- What the program has done for a command line, between a reader and two writers, of which the second is told the fault of a wire.
 use Rattle.std.specs.Prelude.{ℕ, List, [], Option}
 use Rattle.std.specs.Io.KnownBytes.{Appends}
-use Rattle.tool_dialogue.specs.Converses.{Converses, BreaksOff as DialogueBreaksOff, most_of}
+use Rattle.tool_dialogue.specs.Converses.{EndsOff, EndsWell, most_of}
 use Rattle.tool_codec.specs.Direction.{Goes, GoesFront}
 use Rattle.tool_codec.specs.FactLines.{TellsAll, TellsFront}
 use Rattle.tool_command.specs.declared.task.CommandTask.{CommandTask}
@@ -9,12 +9,12 @@ use Rattle.tool_command.specs.declared.task.CommandTask.TheVariants.{Dialogue, F
 
 -- it was done: a dialogue, the entries of lines, or a file to its wire or back. A is the type of an allocator, and says nothing
 abbrev pub Does : Type 0 → CommandTask → (before after old new untold told : Option (List ℕ)) → ℕ → Type 0
-Does A (Dialogue piece) before after old new untold told status = Converses (most_of piece) before after old new status × Appends untold told []
+Does A (Dialogue piece) before after old new untold told status = EndsWell (most_of piece) before after old new status × Appends untold told []
 Does A Facts before after old new untold told status = TellsAll A before after old new status × Appends untold told []
 Does A (Frame form direction) before after old new untold told status = Goes form direction before after old new untold told status
 
 -- it broke off
 abbrev pub BreaksOff : Type 0 → CommandTask → (before after old new untold told : Option (List ℕ)) → Type 0
-BreaksOff A (Dialogue piece) before after old new untold told = DialogueBreaksOff (most_of piece) before after old new × Appends untold told []
+BreaksOff A (Dialogue piece) before after old new untold told = EndsOff (most_of piece) before after old new × Appends untold told []
 BreaksOff A Facts before after old new untold told = TellsFront A before after old new × Appends untold told []
 BreaksOff A (Frame form direction) before after old new untold told = GoesFront form direction before after old new untold told

@@ -2,21 +2,15 @@
 use Rattle.std.proofs.Common.{◌≡◌, ℕ, ◌≤◌, zero, suc, Bool, true, Option, List, [], ◌∷◌, ◌++◌, length, take, Result, Ok, Err, OnOk, OnErr, refl, sym, ap, subst, ◌∙◌, arith, append-nil}
 use Rattle.ftp_ports.proofs.Fronts.{AppendsFront-none}
 use Rattle.ftp_ports.specs.Beginning.{AppendsFront}
-use Rattle.ftp_server_model.proofs.LinesDecided.{reading_exists}
-use Rattle.ftp_server_model.specs.Machine.{IsReading, Reading, hears_octet}
+use Rattle.ftp_server_model.specs.Machine.{IsReading, Reading}
 use Rattle.ftp_server_model.specs.View.{View}
-use Rattle.tool_dialogue.proofs.FreeLemmas.{Reached, free_again, octet_reaches}
+use Rattle.tool_dialogue.proofs.FreeLemmas.{Reached, free_again}
 use Rattle.tool_dialogue.proofs.TalkLemmas.{talks-grow}
-use Rattle.tool_dialogue.specs.Dialogue.{runs, said, served, talk_of, talks}
+use Rattle.tool_dialogue.specs.Dialogue.{said, served, talk_of, talks}
 use Rattle.tool_dialogue.specs.Exchange.{BreaksIn, IsAnswered}
 use Rattle.tool_dialogue.specs.Free.{IsFree}
 
--- what was heard can be served
-pub heard_reaches : (v w : View) (octet : ℕ) → IsFree v → runs v ≡ true → ((read : Reading) → IsReading read → w ≡ hears_octet read v octet) → Reached w
-heard_reaches v w octet free running heard =
-    subst Reached (sym (heard reading_exists.0 reading_exists.1)) (octet_reaches reading_exists.0 v octet free running)
-
--- and behind it the server is free
+-- behind what was heard, served and said the server is free
 pub free_behind : (w mid new : View) → Reached w → mid ≡ served w → new ≡ said mid → IsFree new
 free_behind w mid new reached serves says = subst IsFree (sym (says ∙ ap said serves)) (free_again w reached)
 
@@ -34,12 +28,12 @@ pub on_failed : {T E P : Type 0} (r : Result T E) → P → OnErr r P
 on_failed (Ok x) p = tt
 on_failed (Err e) p = p
 
--- answers to a piece are gathered from nothing
-pub answered_by : (piece text cleared : List ℕ) (v w : View) (was is : Bool) → cleared ≡ []
-    → ((read : Reading) → IsReading read → (before : List ℕ) → talk_of w (before ++ text) is ≡ talks read (talk_of v (before ++ cleared) was) piece)
-    → IsAnswered piece v was text w is
-answered_by piece text cleared v w was is none heard = λ read reading before.
-    heard read reading before ∙ ap (λ l. talks read (talk_of v l was) piece) (ap (λ l. before ++ l) none ∙ append-nil before)
+-- answers to a piece are gathered from nothing, where no memory was refused
+pub answered_by : (piece text cleared : List ℕ) (v w : View) (was is calm : Bool) → cleared ≡ []
+    → (calm ≡ true → (read : Reading) → IsReading read → (before : List ℕ) → talk_of w (before ++ text) is ≡ talks read (talk_of v (before ++ cleared) was) piece)
+    → calm ≡ true → IsAnswered piece v was text w is
+answered_by piece text cleared v w was is calm none heard still = λ read reading before.
+    heard still read reading before ∙ ap (λ l. talks read (talk_of v l was) piece) (ap (λ l. before ++ l) none ∙ append-nil before)
 
 -- nothing of the answers was written
 pub breaks_unwritten : (read : Reading) (piece : List ℕ) (v : View) (was : Bool) (before : List ℕ) (held : Option (List ℕ)) → BreaksIn read piece v was before held held
@@ -54,7 +48,7 @@ breaks_written read piece text v w was is before held holds reading answered fro
     record { rest = text; whole = sym (ap (λ t. t.text) (answered read reading before)); wrote = front }
 
 -- so it is where the piece was not answered
-pub unwritten : {T E : Type 0} (r : Result T E) (piece : List ℕ) (v : View) (was : Bool) (held : Option (List ℕ))
-    → OnErr r ((read : Reading) → IsReading read → (before : List ℕ) → BreaksIn read piece v was before held held)
-unwritten (Ok x) piece v was held = tt
-unwritten (Err e) piece v was held = λ read reading before. breaks_unwritten read piece v was before held
+pub unwritten : {T E : Type 0} (r : Result T E) (piece : List ℕ) (v : View) (was calm : Bool) (held : Option (List ℕ))
+    → OnErr r (calm ≡ true → (read : Reading) → IsReading read → (before : List ℕ) → BreaksIn read piece v was before held held)
+unwritten (Ok x) piece v was calm held = tt
+unwritten (Err e) piece v was calm held = λ still read reading before. breaks_unwritten read piece v was before held

@@ -149,14 +149,14 @@ turned_reaches : (turn : Turn) (v : View) → Leads turn → v.waiting ≡ None 
 turned_reaches turn v leads none =
     subst Reached (sym (given_same turn.0.connection turn.0.closing (turned turn v) leads)) (record { waiting = none; can = leads })
 
-obeyed_reaches : (heard : HeardLine (List ℕ)) (v : View) → Rests v.session → v.waiting ≡ None → Reached (obeyed heard v)
+pub obeyed_reaches : (heard : HeardLine (List ℕ)) (v : View) → Rests v.session → v.waiting ≡ None → Reached (obeyed heard v)
 unfolding obeyed
 obeyed_reaches heard v rests none =
     turned_reaches (decided v.context heard v.session.pending (record v.session { pending = Pendings.Nothing })) v
     (leads_decided v.context heard v.session.pending (record v.session { pending = Pendings.Nothing }) rests) none
 
 -- nothing is under way, and nothing is owed
-unbusy : (c : ServerLink Transfer) (closing : Bool) → (is_unopened c && not closing) ≡ true → (is_connection_busy c ≡ false) × (is_transferring c ≡ false)
+pub unbusy : (c : ServerLink Transfer) (closing : Bool) → (is_unopened c && not closing) ≡ true → (is_connection_busy c ≡ false) × (is_transferring c ≡ false)
 unbusy Data.Free closing is = (refl, refl)
 unbusy (Data.Active endpoint) closing is = (refl, refl)
 unbusy Data.Passive closing is = (refl, refl)
@@ -165,14 +165,14 @@ unbusy (Data.Asked asked) closing is = absurd (let e : false ≡ true = is in cc
 unbusy (Data.Opening transfer way) closing is = absurd (let e : false ≡ true = is in cc)
 unbusy (Data.Transferring transfer) closing is = absurd (let e : false ≡ true = is in cc)
 
-and_false : (b : Bool) → (b && false) ≡ false
+pub and_false : (b : Bool) → (b && false) ≡ false
 and_false true = refl
 and_false false = refl
 
-room_is : (octets : List ℕ) → octets ≡ [] → nat_le (length octets) 4096 ≡ true
+pub room_is : (octets : List ℕ) → octets ≡ [] → nat_le (length octets) 4096 ≡ true
 room_is octets none = ap (λ l. nat_le (length l) 4096) none
 
-line_reaches : (heard : HeardLine (List ℕ)) (v : View) → Rests v.session → v.waiting ≡ None → v.owed ≡ [] → Reached (heard_line heard v)
+pub line_reaches : (heard : HeardLine (List ℕ)) (v : View) → Rests v.session → v.waiting ≡ None → v.owed ≡ [] → Reached (heard_line heard v)
 line_reaches heard v rests none silent =
     let calm = unbusy v.session.connection v.session.closing rests in
     by (is_abort heard v) (is_idle (record v { waiting = Some heard }))

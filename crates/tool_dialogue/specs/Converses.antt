@@ -7,6 +7,7 @@ use Rattle.ftp_ports.specs.Beginning.{AppendsFront}
 use Rattle.ftp_ports.specs.declared.pieces.Failed.{Failed}
 use Rattle.ftp_server_model.specs.Machine.{IsReading, Reading}
 use Rattle.tool_dialogue.specs.Dialogue.{is_over, status_of, transcript}
+use Rattle.tool_dialogue.specs.Short.{BreaksShort, ConversesShort}
 
 -- these octets were read, the last of them by one read of at most so many; nothing was read behind the piece that ended QUIT's line
 pub record Reads (read : Reading) (most : ℕ) (before after : Option (List ℕ)) : Type 0 where
@@ -40,17 +41,25 @@ BreaksAtStart read before after old new = Keeps before after × AppendsFront old
 abbrev pub BreaksBy : (read : Reading) (most : ℕ) (before after old new : Option (List ℕ)) → Type 0
 BreaksBy read most before after old new = BreaksAtStart read before after old new ⊎ BreaksAmid read most before after old new
 
--- how it ended: well, with whether something was refused, or by breaking off
-abbrev pub Ends : (read : Reading) (most : ℕ) (before after old new : Option (List ℕ)) → Result Bool Failed → Type 0
-Ends read most before after old new (Ok refused) = ConversesBy read most before after old new (if refused then 1 else 0)
-Ends read most before after old new (Err failed) = BreaksBy read most before after old new
-
 -- however lines are read: there is one reading of them
 abbrev pub Converses : (most : ℕ) (before after old new : Option (List ℕ)) (status : ℕ) → Type 0
 Converses most before after old new status = (read : Reading) → IsReading read → ConversesBy read most before after old new status
 
 abbrev pub BreaksOff : (most : ℕ) (before after old new : Option (List ℕ)) → Type 0
 BreaksOff most before after old new = (read : Reading) → IsReading read → BreaksBy read most before after old new
+
+-- it went well: all was answered as ever, or the server was refused memory, and a line may have failed for want of it
+abbrev pub EndsWell : (most : ℕ) (before after old new : Option (List ℕ)) (status : ℕ) → Type 0
+EndsWell most before after old new status = Converses most before after old new status ⊎ ConversesShort most before after old new status
+
+-- or it broke off
+abbrev pub EndsOff : (most : ℕ) (before after old new : Option (List ℕ)) → Type 0
+EndsOff most before after old new = BreaksOff most before after old new ⊎ BreaksShort most before after old new
+
+-- how it ended: well, with whether something was refused, or by breaking off
+abbrev pub Ends : (most : ℕ) (before after old new : Option (List ℕ)) → Result Bool Failed → Type 0
+Ends most before after old new (Ok refused) = EndsWell most before after old new (if refused then 1 else 0)
+Ends most before after old new (Err failed) = EndsOff most before after old new
 
 -- so many octets one read is asked for at most
 abbrev pub most_of : ℕ → ℕ

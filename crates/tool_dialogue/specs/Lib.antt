@@ -3,3 +3,4 @@ pub mod Dialogue
 pub mod Exchange
 pub mod Free
 pub mod Laws
+pub mod Short

@@ -1,12 +1,12 @@
 // A server between two octets of its control connection, which has no data connection (RFC 959, section 3.2). Its tree's device never strays, so
 // counts tell whether a call was done.
-ghost use Rattle.std.specs.Prelude.{◌≡◌, None, OnOk, length, true};
+ghost use Rattle.std.specs.Prelude.{◌≡◌, ◌≢◌, None, false, length, true};
+ghost use Rattle.ftp_server_model.specs.Failing.{OctetIsHeard};
 ghost use Rattle.ftp_server_model.specs.Machine.{IsReading, Reading, hears_octet, may_hear};
-ghost use Rattle.ftp_server.specs.Server.{view_of};
+ghost use Rattle.ftp_server.specs.Server.{counts_of, view_of};
 ghost use Rattle.tool_dialogue.specs.Dialogue.{said, served, serves};
 
 use ftp_ends::Wants;
-use ftp_ports::Failed;
 use ftp_server::Server;
 use ftp_server_session::ServerTransfer;
 use ftp_tree::SureTree;
@@ -15,24 +15,24 @@ use std::alloc::Allocator;
 /// The port that is told to whoever asks for one.
 const PORT: u16 = 1930;
 
-/// Hears an octet, where one may be taken. Refused memory is an error.
-pub fn take<A, T, J>(server: &mut Server<A, T, J>, octet: u8) -> Result<(), Failed>
+/// Hears an octet, where one may be taken; says whether no growth was refused.
+pub fn take<A, T, J>(server: &mut Server<A, T, J>, octet: u8) -> bool
 where
     A: Allocator + Copy,
     T: SureTree<A>,
     J: ServerTransfer<A, T>,
     requires { may_hear (view_of T.table J.view server.old) ≡ true }
-    // Witness: an equation, but for want of memory; `want_of_memory_is_no_error`.
-    ensures { OnOk result ((read : Reading) → IsReading read
-        → view_of T.table J.view server.new ≡ hears_octet read (view_of T.table J.view server.old) octet) }
+    // Witness of calm: an equation, but for want of memory; `want_of_memory_is_forgotten`.
+    ensures calm { result ≡ true → (read : Reading) → IsReading read
+        → view_of T.table J.view server.new ≡ hears_octet read (view_of T.table J.view server.old) octet }
+    // Witness of heard: `Answers::answer` needs it where memory was refused.
+    ensures heard { (read : Reading) → IsReading read
+        → OctetIsHeard read (view_of T.table J.view server.old) octet (view_of T.table J.view server.new) }
+    ensures counted { result ≡ false → counts_of T.failures server.new ≢ counts_of T.failures server.old }
 {
     let counts = server.counts();
     let _count = server.hear(&[octet]);
-    if server.counts() == counts {
-        Ok(())
-    } else {
-        Err(Failed)
-    }
+    server.counts() == counts
 }
 
 /// Does what is wanted of the data connection, as often as there is something.
