@@ -50,7 +50,7 @@ fn script_of<'a>(words: &[u8], lines: &'a [u8]) -> &'a [u8] {
     lines
 }
 
-/// Plays a script with each growth refused in turn: it ends with 3, or writes the same. Says whether so it is, and else what it writes.
+/// Plays a script with each growth refused in turn: it ends as it may there. Says whether so it is, and else what it writes.
 fn refuse_each(
     alloc: Global,
     words: &[u8],
@@ -58,23 +58,65 @@ fn refuse_each(
     whole: &PlayedScript,
     paper: &mut Paper,
 ) {
-    let mut fails = false;
+    let mut outside = false;
+    let mut at_end = false;
     for refused in 1..=whole.growths {
         let again = play_with(alloc, words, script, 0, refused);
-        if again.status == Status::Failed {
-            fails = true;
-        } else if again.paper.text() != whole.paper.text() {
-            tell_other(refused, &again, paper);
+        match whose(&again, whole) {
+            RefusedGrowth::Outside => outside = true,
+            RefusedGrowth::AtEnd => at_end = true,
+            RefusedGrowth::Nobodys => {}
+            RefusedGrowth::Wrong => tell_other(refused, &again, paper),
         }
     }
-    if fails {
-        paper.line(b"each growth refused: exit 3, or the same");
+    if outside && at_end {
+        paper.line(b"each growth refused: exit 3, exit 1 with memory, 451 or 530, or the same");
     } else {
-        paper.line(b"each growth refused: WRONG, it never fails");
+        paper.line(b"each growth refused: WRONG, one of exit 1 and 3 never comes");
     }
 }
 
-/// Tells what a script writes with a growth refused that neither ends with 3 nor writes the same.
+/// Whose growth was refused, by how a script ended.
+#[derive(Clone, Copy)]
+enum RefusedGrowth {
+    /// One outside both ends: the status is 3, and a fault is told.
+    Outside,
+    /// An end's: the status is 1, and a report tells it.
+    AtEnd,
+    /// One that nothing wants: all is as without it.
+    Nobodys,
+    Wrong,
+}
+
+fn whose(again: &PlayedScript, whole: &PlayedScript) -> RefusedGrowth {
+    let text = again.paper.text();
+    match again.status {
+        Status::Failed if again.tells => RefusedGrowth::Outside,
+        Status::Refused if tells_end(text) => RefusedGrowth::AtEnd,
+        _ if text == whole.paper.text() => RefusedGrowth::Nobodys,
+        _ => RefusedGrowth::Wrong,
+    }
+}
+
+/// Whether a report is one of an end that was refused memory. A login is answered 451 then, and what follows it 530.
+fn tells_end(text: &[u8]) -> bool {
+    has_line(text, b"memory") || has_line(text, b"refused 451") || has_line(text, b"refused 530")
+}
+
+/// Whether a line is one of these.
+fn has_line(lines: &[u8], wanted: &[u8]) -> bool {
+    let mut rest = lines;
+    for _ in 0..lines.len() {
+        let (line, behind) = cut(rest, b'\n');
+        if line == wanted {
+            return true;
+        }
+        rest = behind;
+    }
+    false
+}
+
+/// Tells what a script writes with a growth refused where it ends as it may not.
 fn tell_other(refused: u64, again: &PlayedScript, paper: &mut Paper) {
     paper.put(b"growth ");
     paper.number(refused);
@@ -94,11 +136,12 @@ fn compare(piece: u32, whole: &[u8], again: &[u8], paper: &mut Paper) {
     }
 }
 
-/// What a script writes, how it ends, and how many growths were asked for.
+/// What a script writes, how it ends, whether a fault is told, and how many growths were asked for.
 #[derive(Drop)]
 struct PlayedScript {
     paper: Paper,
     status: Status,
+    tells: bool,
     growths: u64,
 }
 
@@ -117,6 +160,7 @@ fn play_with(alloc: Global, words: &[u8], script: &[u8], piece: u32, refused: u6
     PlayedScript {
         paper,
         status,
+        tells: !faults.taken().is_empty(),
         growths: refused.wrapping_sub(heap.left()),
     }
 }

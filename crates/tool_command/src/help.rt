@@ -95,7 +95,7 @@ Input: a script, as for loop.
 Output: with --transcript each line of the control connection, as it was taken whole, C: or S: before it; then for each operation its
 report, as done, octets T or refused CODE. The output is the same for each N.
 Status: 0 done; 1 done, and an operation was refused or failed; 2 bad command line, or a line of the script fits no form or lacks its LF;
-3 a read or a write failed, or memory was refused. 2 and 3 are told on standard error.
+3 a read or a write failed, or memory was refused outside both ends. 2 and 3 are told on standard error.
 
 Example:
   printf 'login guest secret\\nput IFSpn f abc\\nget IFSpn f\\n' | ftp_tool pair --transcript";

@@ -1,7 +1,7 @@
 // A row is played in pieces of each size, and with each read, each write and each growth failed in turn.
 use crate::programs::row::{ProgramRow, RowProgram, row_of};
 use crate::programs::run::{AMPLE, Calls, NEVER, RunResult, RunSettings, run};
-use rows_base::{Paper, number, said, split};
+use rows_base::{Paper, cut, number, said, split};
 use std::alloc::Global;
 
 /// The calls of which each fails in turn.
@@ -129,6 +129,8 @@ enum TryOutcome {
     Whole,
     /// It was broken off behind a beginning of that.
     Left,
+    /// A dialogue's server was refused memory, and answered 451.
+    Short,
     Wrong,
 }
 
@@ -138,9 +140,32 @@ fn failed(alloc: Global, row: &ProgramRow, call: Call, size: u64, at: u64) -> Tr
         TryOutcome::Whole
     } else if is_left(row, &came, call) {
         TryOutcome::Left
+    } else if is_short(row, &came, call) {
+        TryOutcome::Short
     } else {
         TryOutcome::Wrong
     }
+}
+
+/// Whether a growth of a dialogue's server was refused: a line is answered 451, and the status is 1.
+fn is_short(row: &ProgramRow, came: &RunResult, call: Call) -> bool {
+    matches!(row.program, RowProgram::Dialogue)
+        && matches!(call, Call::Growth)
+        && came.status == 1
+        && has_local_fault(came.output.taken())
+}
+
+/// Whether a line begins with 451.
+fn has_local_fault(lines: &[u8]) -> bool {
+    let mut rest = lines;
+    for _ in 0..lines.len() {
+        let (line, behind) = cut(rest, b'\n');
+        if line.starts_with(b"451 ") {
+            return true;
+        }
+        rest = behind;
+    }
+    false
 }
 
 /// This call fails, and those like it move so many octets at most; at 0 all.
@@ -162,18 +187,24 @@ fn failing(call: Call, size: u64, at: u64) -> RunSettings {
     way
 }
 
-/// The row is whole and asks for growths, and each that is refused breaks it off; so many octets at most are read at once.
+/// The row is whole and asks for growths, and each that is refused breaks it off, or is one of a dialogue's server; so many octets at most are read at once.
 fn each_refused(alloc: Global, row: &ProgramRow, size: u64, paper: &mut Paper) {
     let whole = run(alloc, row, failing(Call::Growth, size, 0));
     let growths = 0u64.wrapping_sub(whole.left);
     if growths == 0 || !is_whole(row, &whole) {
         paper.line(b"WRONG: where no growth is refused");
     }
+    let mut answered = false;
     for at in 1..=growths {
         match failed(alloc, row, Call::Growth, size, at) {
             TryOutcome::Left => {}
+            TryOutcome::Short => answered = true,
             _ => paper.line(b"WRONG: where a growth is refused"),
         }
     }
-    paper.line(b"  each growth");
+    if answered {
+        paper.line(b"  each growth, by 451 too");
+    } else {
+        paper.line(b"  each growth");
+    }
 }
