@@ -140,15 +140,21 @@ put_refusal state path count = or_refused (refused_room (limited path (room_refu
 abbrev pub refused_file : State → List ℕ → Option Refusal
 refused_file state text = refused_there (limited (named state text) (file_refusal (node_at (part state) (named state text))))
 
--- why what stands at a path is not listed by a command: MLSD lists directories alone, LIST and NLST a file too
-abbrev pub refused_at : ListVerb → Names → Option Node → Option Refusal
-refused_at Verbs.Mlsd path node = refused_listing (limited path (directory_refusal node))
-refused_at Verbs.List path node = refused_there (limited path (absent_refusal node))
-refused_at Verbs.Nlst path node = refused_there (limited path (absent_refusal node))
+-- why LIST and NLST do not list what stands there: nothing does, or, where no text is given, no directory, since they are of the current directory
+-- then (RFC 959, section 4.1.3)
+abbrev pub unlisted_refusal : (here : Bool) → Option Node → Option TreeFault
+unlisted_refusal true node = directory_refusal node
+unlisted_refusal false node = absent_refusal node
+
+-- why what stands at a path is not listed by a command: MLSD lists directories alone, LIST and NLST a file too that a text names
+abbrev pub refused_at : ListVerb → (here : Bool) → Names → Option Node → Option Refusal
+refused_at Verbs.Mlsd here path node = refused_listing (limited path (directory_refusal node))
+refused_at Verbs.List here path node = refused_there (limited path (unlisted_refusal here node))
+refused_at Verbs.Nlst here path node = refused_there (limited path (unlisted_refusal here node))
 
 -- the same of the path that a text names which may be left out
 abbrev pub refused_text : ListVerb → State → List ℕ → Option Refusal
-refused_text verb state text = refused_at verb (named_or_here state text) (node_at (part state) (named_or_here state text))
+refused_text verb state text = refused_at verb (length text == 0) (named_or_here state text) (node_at (part state) (named_or_here state text))
 
 -- ---- places of a file
 

@@ -31,7 +31,9 @@ pub use laws::{
 };
 pub use list_line::{put_dir_line, put_file_line};
 pub use node_line::{last_name, put_node};
-pub use nodes::{absent_fault, directory_fault, file_fault, is_dir, is_file, len_at};
+pub use nodes::{
+    absent_fault, directory_fault, file_fault, is_dir, is_file, len_at, unlisted_fault,
+};
 pub use offsets::{place_at, takes_offset};
 pub use places::{is_busy, is_held, move_to};
 pub use refusal::Refusal;

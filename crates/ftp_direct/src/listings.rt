@@ -12,7 +12,7 @@ ghost use Rattle.ftp_direct.specs.Run.{IsAnswer, IsAsBefore};
 
 use crate::entry::{entry_of, file_at, is_root};
 use crate::looking::see_here;
-use crate::nodes::{absent_fault, directory_fault, is_file};
+use crate::nodes::{absent_fault, directory_fault, is_file, unlisted_fault};
 use crate::refusal::{Refusal, find, tell};
 use ftp_facts::{Entry, Text};
 use ftp_operation::{Answer, How, Op};
@@ -92,7 +92,7 @@ pub(crate) fn names<A: Allocator + Copy, T: Tree<A>>(
         Ok(path) => path,
         Err(why) => return Ok(tell(why)),
     };
-    if absent_fault(tree, root, &path).is_some() {
+    if unlisted_fault(tree, root, &path, text.as_slice().is_empty()).is_some() {
         return Ok(tell(Refusal::Unavailable));
     }
     Ok(Answer::Names(pathnames(alloc, tree, root, &path, text)?))

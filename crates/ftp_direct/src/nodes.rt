@@ -1,7 +1,7 @@
 // What stands at a path, as the definitions ask for it.
 ghost use Rattle.std.specs.Prelude.{◌≡◌, [], length};
 ghost use Rattle.ftp_tree.specs.Tree.{directory_refusal, file_refusal, node_at, octets_or_none, under};
-ghost use Rattle.ftp_direct.specs.Direct.{absent_refusal, is_directory, is_file};
+ghost use Rattle.ftp_direct.specs.Direct.{absent_refusal, is_directory, is_file, unlisted_refusal};
 
 use ftp_tree::{NodeKind, Path, Tree, TreeFault};
 use std::alloc::Allocator;
@@ -50,6 +50,22 @@ pub fn absent_fault<A: Allocator + Copy, T: Tree<A>>(
     match tree.kind(root, path) {
         None => Some(TreeFault::Absent),
         Some(_) => None,
+    }
+}
+
+/// Why LIST and NLST do not list what stands at a path, which is the current directory's where no text is given.
+pub fn unlisted_fault<A: Allocator + Copy, T: Tree<A>>(
+    tree: &T,
+    root: &Path<A>,
+    path: &Path<A>,
+    here: bool,
+) -> Option<TreeFault>
+    ensures { result ≡ unlisted_refusal here (node_at (under (T.table tree.now) root.now) path.now) }
+{
+    if here {
+        directory_fault(tree, root, path)
+    } else {
+        absent_fault(tree, root, path)
     }
 }
 

@@ -14,7 +14,7 @@ ghost use Rattle.ftp_direct.specs.Run.{IsAnswer, IsAsBefore};
 use crate::listings::{entries, listing_refusal, names_in, pathnames, push_some};
 use crate::looking::see_here;
 use crate::node_line::{last_name, put_node};
-use crate::nodes::{absent_fault, directory_fault};
+use crate::nodes::{directory_fault, unlisted_fault};
 use crate::refusal::{Refusal, find, tell};
 use ftp_facts::{Entry, Text, write_entry};
 use ftp_operation::{Answer, How, ListVerb, Op};
@@ -39,25 +39,26 @@ pub(crate) fn text<A: Allocator + Copy, T: Tree<A>>(
         Ok(path) => path,
         Err(why) => return Ok(tell(why)),
     };
-    match why_unlisted(tree, root, verb, &path) {
+    match why_unlisted(tree, root, verb, text.as_slice().is_empty(), &path) {
         None => Ok(Answer::Octets(listing_file(alloc, tree, root, verb, &path, text)?)),
         Some(why) => Ok(tell(why)),
     }
 }
 
-/// Why what stands at a path is not listed by a command.
+/// Why what stands at a path is not listed by a command, which has a text or none.
 fn why_unlisted<A: Allocator + Copy, T: Tree<A>>(
     tree: &T,
     root: &Path<A>,
     verb: ListVerb,
+    here: bool,
     path: &Path<A>,
 ) -> Option<Refusal>
     requires { fits path.now ≡ true }
-    ensures { result ≡ refused_at verb path.now (node_at (under (T.table tree.now) root.now) path.now) }
+    ensures { result ≡ refused_at verb here path.now (node_at (under (T.table tree.now) root.now) path.now) }
 {
     match verb {
         ListVerb::Mlsd => listing_why(directory_fault(tree, root, path)),
-        ListVerb::List | ListVerb::Nlst => there_why(absent_fault(tree, root, path)),
+        ListVerb::List | ListVerb::Nlst => there_why(unlisted_fault(tree, root, path, here)),
     }
 }
 
@@ -71,7 +72,7 @@ fn listing_why(fault: Option<TreeFault>) -> Option<Refusal>
     }
 }
 
-/// How a listing is refused where nothing stands.
+/// How LIST and NLST are refused, if they are.
 fn there_why(fault: Option<TreeFault>) -> Option<Refusal>
     ensures { result ≡ refused_there fault }
 {

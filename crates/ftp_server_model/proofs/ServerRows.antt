@@ -10,6 +10,7 @@ use Rattle.ftp_operation.specs.Account.{Account, login_account}
 use Rattle.ftp_secret.specs.Secret.{plain}
 use Rattle.ftp_operation.specs.Rights.{all_rights}
 use Rattle.ftp_direct.specs.declared.refusal.Refusal.{Refusal}
+use Rattle.ftp_direct.specs.declared.refusal.Refusal.TheVariants.{Unavailable}
 use Rattle.ftp_direct.specs.Direct.{entries_in, entry_at, listed as listed_entry, is_directory, names_for, refusal, refused_file, file_of, place_in, or_refused, refused_there}
 use Rattle.ftp_operation.specs.declared.op.Op.TheVariants as Ops
 use Rattle.ftp_path.specs.Path.{resolved, fits, parent, text_of, is_within, Names}
@@ -31,7 +32,7 @@ use Rattle.ftp_server_model.specs.Failing.{GiveFails, WaitingFails}
 use Rattle.ftp_server_model.specs.Machine.{obeyed, completed, faulted, turned, owes, waited, with_session}
 use Rattle.ftp_server_model.specs.Calls.{connection_of, gives_control, listening, listen_refused, data_opened, data_refused, gives_data, takes_given, to_give, wants}
 use Rattle.ftp_ends.specs.RowWords.{here, elsewhere}
-use Rattle.ftp_server_model.specs.Rows.{RowEvent, after_events, server, member, logged_in, at, of, five, asks, opened, refused, LoginAnswered, OpenLogin, RootMissing, RootIsTop, MadeBelowRoot, WrongPassword, OrderOfDecisions, BeforeLogin, FeaturesTold, Utf8Chosen, FactsChosen, FeaturesBehindOptions, EntryTold, RecordsSent, NamesSent, EntriesSent, OnlyExtended, Reinitialized, QuitHeard, ByFamily, ForeignEndpoint, RefusedOpening, RefusedListen, ForeignOpener, RenameDone, OntoRefused, OntoDone, LateRename, DownloadSent, DownloadCut, RestartSent, LateRestart, RestartInAscii, RestartInPair, RestartInRecords, ListingSent, EarlyAbort, WaitingLine}
+use Rattle.ftp_server_model.specs.Rows.{RowEvent, after_events, server, member, logged_in, at, at_directory, of, five, asks, opened, refused, LoginAnswered, OpenLogin, RootMissing, RootIsTop, MadeBelowRoot, WrongPassword, OrderOfDecisions, BeforeLogin, FeaturesTold, Utf8Chosen, FactsChosen, FeaturesBehindOptions, EntryTold, RecordsSent, NamesSent, EntriesSent, OnlyExtended, Reinitialized, QuitHeard, ByFamily, ForeignEndpoint, RefusedOpening, RefusedListen, ForeignOpener, RenameDone, OntoRefused, OntoDone, LateRename, DownloadSent, DownloadCut, RestartSent, LateRestart, RestartInAscii, RestartInPair, RestartInRecords, ListingSent, DirectoryReplaced, EarlyAbort, WaitingLine}
 use Rattle.ftp_server_model.specs.declared.heard.HeardLine.{HeardLine}
 use Rattle.ftp_server_model.specs.declared.session.Pending.TheVariants as Pendings
 use Rattle.ftp_server_model.specs.declared.session.ServerLink.TheVariants as Data
@@ -386,6 +387,22 @@ listing table root d kids x =
     ap (λ c. sent c (list_lines (under table root) (of (codes "d")))) (dir_code v.session d refl)
     ∙ ap (λ texts. sent None texts) (x_lines (under table root) d kids x)
     ∙ ap (λ n. sent None (x_line n (decimal 1) ∷ [])) of_3 ∙ ap (λ n. sent None (x_line (codes "3") n ∷ [])) of_1
+
+-- a file at the current directory is not listed without an argument
+file_code : (s : Session) (path : Names) (octets : List ℕ) (moment : ℕ) → node_at (seen s) path ≡ Some (File octets moment) → s.cwd ≡ path → fits path ≡ true
+    → refusal (direct_of s) (Ops.Names [] (how_in_force s.settings)) ≡ Some Unavailable
+file_code s path octets moment f home fit = rw home (rw fit (rw f refl))
+
+pub no_directory : DirectoryReplaced
+unfolding obeyed fits text_of
+no_directory table root octets moment f =
+    let v : View = at_directory (of (codes "d")) (member table root []) in
+    let code : refusal (direct_of v.session) (Ops.Names [] (how_in_force v.session.settings)) ≡ Some Unavailable =
+    file_code v.session (of (codes "d")) octets moment f refl refl in
+    let names : List (List ℕ) = name_lines (seen v.session) (path_or_here v.session None) [] in (
+      ap (λ c. (listed v c).owed) code,
+      ap (λ c. (started v (Transfers.Listing (listing_wire v.session.settings.mode names)) c).owed) code,
+    )
 
 -- ---- NLST and MLSD
 

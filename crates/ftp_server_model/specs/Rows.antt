@@ -87,6 +87,10 @@ logged_in table root =
 abbrev pub member : Table → Names → List RowEvent → View
 member table root events = after_events events (logged_in table root)
 
+-- it with this current directory
+abbrev pub at_directory : Names → View → View
+at_directory path v = record v { session = record v.session { cwd = path } }
+
 -- the path of a name in the root
 abbrev pub of : List ℕ → Names
 of name = name ∷ []
@@ -379,6 +383,14 @@ EntriesSent =
     → node_at (under table root) (codes "d" ∷ codes "x" ∷ []) ≡ Some Dir
     → to_give (member table root (asks (command.Port (at here)) ∷ asks (command.Mlsd (Some (codes "d"))) ∷ opened here ∷ []))
     ≡ codes "Type=dir;Perm=cdeflmp; x\r\n"
+
+-- 550: LIST and NLST without an argument, where a file took the place of the current directory
+abbrev pub DirectoryReplaced : Type 0
+DirectoryReplaced =
+    (table : Table) (root : Names) (octets : List ℕ) (moment : ℕ) → node_at (under table root) (of (codes "d")) ≡ Some (File octets moment)
+    → let v = at_directory (of (codes "d")) (member table root []) in
+    ((after_events (asks (command.List None) ∷ []) v).owed ≡ said_to_member (codes "550 Refused" ∷ []))
+    × ((after_events (asks (command.Nlst None) ∷ []) v).owed ≡ said_to_member (codes "550 Refused" ∷ []))
 
 -- ---- uploads
 

@@ -1,5 +1,5 @@
 //! Worked rows of a server: functions that do nothing, whose contracts are rows of `specs/Rows`.
-ghost use Rattle.ftp_server_model.specs.Rows.{AbortAnswered, AbortPastRoom, BeforeLogin, BrokenUploadKept, ByFamily, DownloadCut, DownloadSent, EarlyAbort, EarlyEnd, EntriesSent, EntryTold, FactsChosen, FaultyUpload, FeaturesBehindOptions, FeaturesTold, ForeignEndpoint, ForeignOpener, LateRename, LateRestart, ListingSent, LoginAnswered, MadeBelowRoot, MarkerAnswered, NamesSent, OnlyExtended, OntoDone, OntoRefused, OpenLogin, OrderOfDecisions, QuitHeard, RecordsSent, RefusedListen, RefusedOpening, Reinitialized, RenameDone, RestartInAscii, RestartInPair, RestartInRecords, RestartSent, RootIsTop, RootMissing, TooMuchRefused, UploadDropped, UploadFromPlace, UploadInstalled, Utf8Chosen, WaitingLine, WrongPassword};
+ghost use Rattle.ftp_server_model.specs.Rows.{AbortAnswered, AbortPastRoom, BeforeLogin, BrokenUploadKept, ByFamily, DirectoryReplaced, DownloadCut, DownloadSent, EarlyAbort, EarlyEnd, EntriesSent, EntryTold, FactsChosen, FaultyUpload, FeaturesBehindOptions, FeaturesTold, ForeignEndpoint, ForeignOpener, LateRename, LateRestart, ListingSent, LoginAnswered, MadeBelowRoot, MarkerAnswered, NamesSent, OnlyExtended, OntoDone, OntoRefused, OpenLogin, OrderOfDecisions, QuitHeard, RecordsSent, RefusedListen, RefusedOpening, Reinitialized, RenameDone, RestartInAscii, RestartInPair, RestartInRecords, RestartSent, RootIsTop, RootMissing, TooMuchRefused, UploadDropped, UploadFromPlace, UploadInstalled, Utf8Chosen, WaitingLine, WrongPassword};
 
 /// A login with a password.
 pub fn login()
@@ -80,6 +80,11 @@ pub fn refused_listen()
 /// An opening that is refused, and no endpoint.
 pub fn refused_opening()
     ensures { RefusedOpening }
+{}
+
+/// A file in the place of the current directory.
+pub fn no_directory()
+    ensures { DirectoryReplaced }
 {}
 
 /// Another host at a passive port.

@@ -1,5 +1,5 @@
 // The path that a command names, and the look of the tree before anything is asked there.
-ghost use Rattle.std.specs.Prelude.{◌≡◌, IfErr, IfOk, MatchOption, None, OnOk, Some, false, true};
+ghost use Rattle.std.specs.Prelude.{◌≡◌, ◌==◌, IfErr, IfOk, MatchOption, None, OnOk, Some, false, length, true};
 ghost use Rattle.ftp_command.specs.Line.{IfGiven};
 ghost use Rattle.ftp_direct.specs.Direct.{named_or_here, refused_file};
 ghost use Rattle.ftp_direct.specs.declared.refusal.Refusal.{Refusal};
@@ -31,6 +31,16 @@ pub(crate) fn look<A: Allocator + Copy, T: Tree<A>>(
     match tree.look(root, path, sight) {
         Ok(()) => Ok(()),
         Err(_) => Err(Fault::Device),
+    }
+}
+
+/// Whether an argument that may be left out names the current directory by that.
+pub(crate) fn is_here<A: Allocator + Copy>(text: &Option<Argument<A>>) -> bool
+    ensures { result ≡ (length (or_empty text.now) == 0) }
+{
+    match text {
+        Some(text) => text.octets().is_empty(),
+        None => true,
     }
 }
 

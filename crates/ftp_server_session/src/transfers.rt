@@ -15,10 +15,11 @@ ghost use Rattle.ftp_server_model.specs.declared.session.Transfer.TheVariants as
 ghost use Rattle.ftp_tree.specs.Change.{NoStray};
 ghost use Rattle.ftp_tree.specs.Tree.{room_refusal, under};
 
+use crate::look::is_here;
 use crate::session::Session;
 use crate::walk::lost;
 use ftp_command::Argument;
-use ftp_direct::{absent_fault, directory_fault, len_at, may_put_at, place_at};
+use ftp_direct::{directory_fault, len_at, may_put_at, place_at, unlisted_fault};
 use ftp_path::Path;
 use ftp_server_model::{FixedReply, Keep, Pending, ReplyKind, ServerLink, Way};
 use ftp_server_replies::{Fault, ServerTransfer, room_text};
@@ -95,7 +96,7 @@ impl<A: Allocator + Copy, T: Tree<A>, J: ServerTransfer<A, T>> Session<A, T, J> 
         let Some(mut path) = self.see_here(text, Sight::Files)? else {
             return Ok(self.not_begun(FixedReply::Refused));
         };
-        if absent_fault(&self.tree, &self.root, &path).is_some() {
+        if unlisted_fault(&self.tree, &self.root, &path, is_here(text)).is_some() {
             return Ok(self.not_begun(FixedReply::Refused));
         }
         let Ok(listing) = J::list(
@@ -119,7 +120,7 @@ impl<A: Allocator + Copy, T: Tree<A>, J: ServerTransfer<A, T>> Session<A, T, J> 
         let Some(mut path) = self.see_here(text, Sight::Files)? else {
             return Ok(self.not_begun(FixedReply::Refused));
         };
-        if absent_fault(&self.tree, &self.root, &path).is_some() {
+        if unlisted_fault(&self.tree, &self.root, &path, is_here(text)).is_some() {
             return Ok(self.not_begun(FixedReply::Refused));
         }
         let Ok(listing) = J::names(

@@ -1,5 +1,5 @@
 -- What is asked for by a listing of entries, of names or as text.
-use Rattle.std.proofs.Common.{◌≡◌, ℕ, Bool, true, false, not, ◌&&◌, ◌==◌, List, [], ◌∷◌, Some, refl, sym, ap, ◌∙◌, ne_eqb}
+use Rattle.std.proofs.Common.{◌≡◌, ℕ, Bool, true, false, not, ◌&&◌, ◌==◌, List, [], ◌∷◌, Option, None, Some, refl, sym, ap, ◌∙◌, ne_eqb}
 use Rattle.std.specs.Prelude.{if◌then◌else◌}
 use Rattle.std.specs.Option.{option_map}
 use Rattle.std.proofs.lemmas.Bool.{and_parts}
@@ -16,8 +16,11 @@ use Rattle.ftp_operation.specs.declared.op.ListVerb.TheVariants as Verbs
 use Rattle.ftp_operation.specs.declared.op.Op.{Op}
 use Rattle.ftp_operation.specs.declared.op.Op.TheVariants as Ops
 use Rattle.ftp_settings.specs.declared.representation.Representation.{Representation}
-use Rattle.ftp_tree.specs.Tree.{node_at}
-use Rattle.ftp_direct.specs.Direct.{State, is_file, named_or_here, part, refusal}
+use Rattle.ftp_path.specs.Path.{fits}
+use Rattle.ftp_tree.specs.Map.{Node, Dir, File}
+use Rattle.ftp_tree.specs.Tree.{directory_refusal, node_at}
+use Rattle.ftp_tree.specs.declared.fault.TreeFault.TheVariants as Faults
+use Rattle.ftp_direct.specs.Direct.{State, is_file, named_or_here, part, refusal, refused_text, refused_there}
 use Rattle.ftp_direct.specs.Listing.{lines_for}
 use Rattle.ftp_client_model.specs.Octets.{content_answer, cut_answer}
 use Rattle.ftp_client_model.specs.Plan.{listing_settings, optional}
@@ -116,9 +119,18 @@ names_given : (text : List ℕ) (how : How) → can_be_sent (Ops.Names text how)
 names_given [] how can = tt
 names_given (c ∷ text) how can = text_parts (c ∷ text) (is_sent c text (and_parts (is_optional_text (c ∷ text)) (not (is_option (c ∷ text))) can).0)
 
--- at the current directory a directory stands
-here_is_dir : (state : State) (text : List ℕ) → IsSound state → state.known ≡ true → text ≡ [] → is_file (node_at (part state) (named_or_here state text)) ≡ false
-here_is_dir state text sound known none = ap (λ text. is_file (node_at (part state) (named_or_here state text))) none ∙ ap is_file (sound.here known)
+-- what is listed as a directory is no file
+dir_listed : (fit : Bool) (node : Option Node) → refused_there (if fit then directory_refusal node else Some Faults.TooBig) ≡ None → is_file node ≡ false
+dir_listed true None none = absurd (cc)
+dir_listed true (Some Dir) none = refl
+dir_listed true (Some (File octets moment)) none = absurd (cc)
+dir_listed false node none = absurd (cc)
+
+-- where a listing of names without a text is not refused, no file stands at the current directory
+here_no_file : (state : State) (text : List ℕ) → refused_text Verbs.Nlst state text ≡ None → text ≡ []
+    → is_file (node_at (part state) (named_or_here state text)) ≡ false
+here_no_file state [] none empty = dir_listed (fits state.cwd) (node_at (part state) state.cwd) none
+here_no_file state (c ∷ text) none empty = absurd (cc)
 
 -- a listing of names that can be sent is refused or answered so, and the client reads that answer out of the octets
 names_answer : (text : List ℕ) (how : How) → can_be_sent (Ops.Names text how) ≡ true → HasAnswer (names_ask text how)
@@ -132,7 +144,7 @@ names_answer text how can = record {
       let d = decoder_of settings (listing_wire how.representation.mode (lines_for Verbs.Nlst (part state) (named_or_here state text) text)) in
       ap (λ (b : Bool). if b then content_answer (Ops.Names text how) (ended d).content else cut_answer (Ops.Names text how) (Receiving d mark)) gives.whole
       ∙ ap (λ content. option_map NameList (names_value content)) gives.content
-      ∙ ap (option_map NameList) (names-back state (named_or_here state text) text sound (names_given text how can) (here_is_dir state text sound known));
+      ∙ ap (option_map NameList) (names-back state (named_or_here state text) text sound (names_given text how can) (here_no_file state text none));
   filled = λ state came sound none front filled. absurd (cc);
   no_upload = λ state. refl;
   sent_so = λ state none. record { start = 0; octets = text_by Verbs.Nlst state text; down = refl; text = refl };

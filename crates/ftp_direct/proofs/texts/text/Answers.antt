@@ -1,4 +1,4 @@
-use Rattle.std.proofs.Common.{◌≡◌, ◌∙◌, None, ap, sym}
+use Rattle.std.proofs.Common.{◌≡◌, ◌∙◌, ◌==◌, None, ap, length, sym}
 use Rattle.ftp_path.specs.Path.{fits}
 use Rattle.ftp_tree.specs.Tree.{node_at, under}
 use Rattle.ftp_operation.specs.declared.op.Op.TheVariants as Ops
@@ -21,7 +21,9 @@ returns-in-None-clause-answer g c = λ how.
     let text = c.args.text.now in
     let op = Ops.Text c.args.verb text how in
     let free : refusal (here now root cwd) op ≡ None =
-    ap (λ path. refused_at c.args.verb path (node_at (under now root) path)) (sym found.0) ∙ sym c.why_unlisted.ensures ∙ c.in-None.is in
+    ap (λ path. refused_at c.args.verb (length text == 0) path (node_at (under now root) path)) (sym found.0)
+    ∙ ap (λ none. refused_at c.args.verb none c.in-Ok.path (node_at (under now root) c.in-Ok.path)) (ap (λ t. length t == 0) (sym c.as_slice.ensures) ∙ sym c.is_empty.ensures)
+    ∙ sym c.why_unlisted.ensures ∙ c.in-None.is in
     let gives = gives_done (here now root cwd) op 0 free in
     looked_still _ _ _ now found.2 c.in_ok-path.ensures.same (λ table. due (here table root cwd) op 0) (λ table. here table root cwd) _ _
     (ap Octets (c.in_ok-listing_file-in-None.ensures ∙ ap (λ path. listing_file c.args.verb (under now root) path text) found.0) ∙ gives.0, gives.1)
