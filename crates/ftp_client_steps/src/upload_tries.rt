@@ -7,6 +7,7 @@ ghost use Rattle.ftp_operation.specs.Operation.{can_be_sent};
 ghost use Rattle.ftp_client_model.specs.Tries.{after_size, after_try, counts_as_file, first_try, is_size, next_in, over_breaks, run_of, try_behind, whole_put};
 ghost use Rattle.ftp_client_steps.specs.Tries.{all_octets, lent, run_in, upload_in};
 
+use crate::tries::MOST_TRIES;
 use ftp_facts::Text;
 use ftp_operation::{Answer, How, Op};
 use ftp_path::is_path_text;
@@ -14,9 +15,6 @@ use ftp_reply::code::UNAVAILABLE;
 use ftp_settings::{Kind, Representation, Structure};
 use std::alloc::{AllocError, Allocator};
 use std::mem;
-
-/// The most tries of a transfer: of an upload over breaks the most Put and PutFrom (own choice).
-pub const MOST_TRIES: u64 = 16;
 
 /// An upload over breaks that is under way.
 #[derive(Drop)]

@@ -6,7 +6,7 @@ use Rattle.ftp_nvt.specs.declared.line.TheConstants.{LF}
 use Rattle.ftp_reply.specs.Lines.{AreWithin}
 use Rattle.ftp_reply.specs.Reply.{IsCode, HasPlainLines, written}
 use Rattle.ftp_ends.specs.Ear.{line_len}
-use Rattle.ftp_ends.specs.declared.reply_limit.TheConstants.{REPLY_LIMIT}
+use Rattle.ftp_ends.specs.declared.reply_line_limit.TheConstants.{REPLY_LIMIT}
 
 -- a reply: a code, and the texts of its lines
 pub record Reply : Type 0 where

@@ -5,8 +5,8 @@
 mod host;
 pub mod laws;
 mod link;
-mod reply_limit;
+mod reply_line_limit;
 
 pub use host::{is_same_host, is_v6};
 pub use link::Wants;
-pub use reply_limit::REPLY_LIMIT;
+pub use reply_line_limit::REPLY_LIMIT;

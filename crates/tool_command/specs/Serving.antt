@@ -10,7 +10,7 @@ use Rattle.tool_command.specs.declared.serving.Scope.TheVariants.{Any, Usual}
 use Rattle.tool_command.specs.declared.serving.ServeWords.{ServeWords}
 use Rattle.tool_command.specs.declared.serving.WaitWords.{WaitWords}
 use Rattle.tool_serve.specs.declared.serving.Serving.{Serving}
-use Rattle.tool_polling.specs.declared.timeouts.TimeLimits.{TimeLimits as Waits}
+use Rattle.tool_polling.specs.declared.session_timeouts.TimeLimits.{TimeLimits as Waits}
 use Rattle.tool_command.specs.Numbers.{SaysBelow, SaysPort, SaysPorts, SaysSessions}
 use Rattle.tool_serve.specs.declared.sessions.SessionCount.{SessionCount}
 use Rattle.tool_serve.specs.declared.sessions.SessionCount.TheVariants.{Count, Forever}

@@ -3,7 +3,7 @@ ghost use Rattle.std.specs.Prelude.{◌≡◌, ℕ, Option, IfOk, IfSome, IfNone
 ghost use Rattle.std.specs.Net.Grammar.{IsIpText};
 ghost use Rattle.std.specs.declared.net.IpAddr.{IpAddr};
 ghost use Rattle.tool_serve.specs.declared.serving.Serving.{Serving};
-ghost use Rattle.tool_polling.specs.declared.timeouts.TimeLimits.{TimeLimits as Waits};
+ghost use Rattle.tool_polling.specs.declared.session_timeouts.TimeLimits.{TimeLimits as Waits};
 ghost use Rattle.tool_command.specs.Numbers.{SaysPorts, SaysSessions};
 ghost use Rattle.tool_serve.specs.declared.sessions.SessionCount.{SessionCount};
 ghost use Rattle.ftp_tree.specs.declared.limits.Limits.{Limits};

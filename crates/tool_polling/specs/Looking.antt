@@ -4,8 +4,8 @@ use Rattle.ftp_ports.specs.declared.ports.Spoken.{Spoken}
 use Rattle.ftp_ports.specs.declared.ports.Spoken.TheVariants as Speaks
 use Rattle.tool_polling.specs.declared.hangup.DataInput.{DataInput}
 use Rattle.tool_polling.specs.declared.hangup.DataInput.TheVariants as Gifts
-use Rattle.tool_polling.specs.declared.timeouts.TimeoutReason.{TimeoutReason}
-use Rattle.tool_polling.specs.declared.timeouts.Term.{Term}
+use Rattle.tool_polling.specs.declared.session_timeouts.TimeoutReason.{TimeoutReason}
+use Rattle.tool_polling.specs.declared.session_timeouts.Term.{Term}
 
 -- what is left, in milliseconds, of a limit of so many seconds; of none there is no term
 abbrev pub term_after : ℕ → ℕ → TimeoutReason → Option Term

@@ -1,12 +1,12 @@
 -- How long a session may last (own choice): a limit of silence is put off by each sign of life, and one of time by nothing.
 use Rattle.std.specs.Prelude.{◌≡◌, ℕ, suc, ◌*◌, ◌≤◌, ◌<◌, Bool, true, false, Option, Some, None, nat_lt, if◌then◌else◌}
 use Rattle.tool_polling.specs.Looking.{sooner_of, term_after}
-use Rattle.tool_polling.specs.declared.timeouts.TimeLimits.{TimeLimits}
-use Rattle.tool_polling.specs.declared.timeouts.TimeoutReason.TheVariants as Overs
-use Rattle.tool_polling.specs.declared.timeouts.SessionTimes.{SessionTimes}
-use Rattle.tool_polling.specs.declared.timeouts.Term.{Term}
-use Rattle.tool_polling.specs.declared.timeouts.Transfers.{Transfers}
-use Rattle.tool_polling.specs.declared.timeouts.Transfers.TheVariants as Spared
+use Rattle.tool_polling.specs.declared.session_timeouts.TimeLimits.{TimeLimits}
+use Rattle.tool_polling.specs.declared.session_timeouts.TimeoutReason.TheVariants as Overs
+use Rattle.tool_polling.specs.declared.session_timeouts.SessionTimes.{SessionTimes}
+use Rattle.tool_polling.specs.declared.session_timeouts.Term.{Term}
+use Rattle.tool_polling.specs.declared.session_timeouts.Transfers.{Transfers}
+use Rattle.tool_polling.specs.declared.session_timeouts.Transfers.TheVariants as Spared
 
 -- what is left of a limit while another client waits since so many milliseconds
 abbrev pub while_waited : Option ℕ → (ℕ → Option Term) → Option Term

@@ -12,7 +12,7 @@ mod link;
 mod opening;
 mod passive;
 mod ports;
-mod timeouts;
+mod session_timeouts;
 
 pub use awaits::Awaits;
 pub use control::{LineReader, LineWriter};
@@ -21,4 +21,4 @@ pub use line::ControlLine;
 pub use link::LineLink;
 pub use passive::PassivePorts;
 pub use ports::LinePorts;
-pub use timeouts::{TimeLimits, TimeoutReason, Timeouts};
+pub use session_timeouts::{TimeLimits, TimeoutReason, Timeouts};

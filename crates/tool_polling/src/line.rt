@@ -3,7 +3,7 @@ ghost use Rattle.std.specs.Prelude.{◌≡◌};
 ghost use Rattle.tool_polling.specs.Looking.{hidden};
 
 use crate::awaits::{Awaits, look};
-use crate::timeouts::{TimeLimits, TimeoutReason, Timeouts};
+use crate::session_timeouts::{TimeLimits, TimeoutReason, Timeouts};
 use ftp_ports::Spoken;
 use libc::net as c;
 use libc::types::pollfd;
