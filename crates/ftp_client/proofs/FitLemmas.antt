@@ -14,7 +14,7 @@ use Rattle.ftp_client_model.specs.Fit.{IsFit, IsCalmAt, IsTied}
 use Rattle.ftp_client_model.specs.Losses.{NearIsFit}
 use Rattle.ftp_client_model.specs.Calls.{is_busy, starts, uploads}
 use Rattle.ftp_client_model.specs.Failing.{Client, Holds, HoldsIfRoom, starts_short, uploads_short}
-use Rattle.ftp_client_model.specs.Held.{held, stored_limit}
+use Rattle.ftp_client_model.specs.Held.{held, block_stored_limit}
 use Rattle.ftp_client_model.specs.Tries.{over_breaks}
 use Rattle.ftp_client_model.specs.View.{View, client, Transferring, Transfer, Flow}
 use Rattle.ftp_client_model.specs.declared.client.ClientLink.{ClientLink}
@@ -69,8 +69,8 @@ fit_alike A F one other d k = fit_by A F one other d.op d.place (view_of one d) 
 le_once : (m n : ℕ) → IsProp (m ≤ n)
 le_once m n = hlevel props
 
-pub holds_little : (A F : Type 0) (flow : Op (List ℕ) → F → Flow) (c : Counted A F) → ∥ StaysFit c ∥₁ → held stored_limit (counted_of flow c).view ≤ held_limit
-holds_little A F flow c fit = ∥∥₁_elim fit (le_once _ _) (λ k. fit_holds_little stored_limit (view_of flow c.dialogue) (omega arith) (fit_alike A F unseen flow c.dialogue k))
+pub holds_little : (A F : Type 0) (flow : Op (List ℕ) → F → Flow) (c : Counted A F) → ∥ StaysFit c ∥₁ → held block_stored_limit (counted_of flow c).view ≤ held_limit
+holds_little A F flow c fit = ∥∥₁_elim fit (le_once _ _) (λ k. fit_holds_little block_stored_limit (view_of flow c.dialogue) (omega arith) (fit_alike A F unseen flow c.dialogue k))
 
 -- ---- at the start
 

@@ -3,7 +3,7 @@ ghost use Rattle.std.specs.Prelude.{◌≡◌, ◌<◌, ◌≤◌, IfErr, IfOk, 
 ghost use Rattle.std.specs.List.{AllByRecursion};
 ghost use Rattle.ftp_endpoint.specs.Written.{IsTypedHost};
 ghost use Rattle.ftp_ends.specs.Limits.{held_limit};
-ghost use Rattle.ftp_client_model.specs.Held.{held, stored_limit};
+ghost use Rattle.ftp_client_model.specs.Held.{held, block_stored_limit};
 ghost use Rattle.ftp_client_model.specs.Telling.{untold};
 ghost use Rattle.ftp_client_model.specs.View as view;
 ghost use Rattle.ftp_client.specs.Counted.{StaysFit};
@@ -71,7 +71,7 @@ impl<A: Allocator + Copy, F: CountedTransfer<A>> Client<A, F> {
         // Witness of little: a bound of the result, by `clients_stay_fit` of `ftp_client_model` and the ghost field `fit`.
         ensures little { result ≤ held_limit }
         // Witness of room: a bound of what it would be with all that a transfer may store, by the same.
-        ensures room { held stored_limit (client_of F.flow self.now).view ≤ held_limit }
+        ensures room { held block_stored_limit (client_of F.flow self.now).view ≤ held_limit }
     {
         self.counted.stored_len() + (self.counted.talk_len() + KEPT_LIMIT)
     }

@@ -5,12 +5,12 @@ ghost use Rattle.ftp_operation.specs.declared.op.Op.{Op as AnyOp};
 ghost use Rattle.ftp_ends.specs.Limits.{held_limit};
 ghost use Rattle.ftp_ends.specs.Octets.{has_octets};
 ghost use Rattle.ftp_client_model.specs.Calls.{control_end, data_closed, data_end, data_fault, data_opened, data_refused, gives_control, gives_data, handed_back, is_busy, listen_refused, may_hear, may_receive, port_told, report_of, reports, starts, to_give, uploads, wants};
-ghost use Rattle.ftp_client_model.specs.Counting.{CountsOn};
+ghost use Rattle.ftp_client_model.specs.Counting.{MovesByOneAtMost};
 ghost use Rattle.ftp_client_model.specs.Failing.{HearsIfRoom, Holds, HoldsIfRoom, ReceivesIfRoom, data_end_short, data_fault_short, data_opened_short, data_refused_short, listen_refused_short, port_told_short, short, starts_short, uploads_short};
 ghost use Rattle.ftp_client_model.specs.Growing.{giving_grows};
-ghost use Rattle.ftp_client_model.specs.Held.{stored_limit, talk_len};
-ghost use Rattle.ftp_client_model.specs.Most.{IsMostHeard, IsMostReceived};
-ghost use Rattle.ftp_client_model.specs.Telling.{Told, anew, begins_told, came_of, last_line};
+ghost use Rattle.ftp_client_model.specs.Held.{block_stored_limit, talk_len};
+ghost use Rattle.ftp_client_model.specs.Most.{IsMostOfReplies, IsMostOfDownload};
+ghost use Rattle.ftp_client_model.specs.Telling.{Told, anew, begins_told, came_of, last_line_heard};
 ghost use Rattle.ftp_client_model.specs.Tries.{over_breaks};
 ghost use Rattle.ftp_client_model.specs.View as view;
 
@@ -65,7 +65,7 @@ impl<A: Allocator + Copy, F: ClientTransfer<A>> Counted<A, F> {
         ensures busy { IsTrue (is_busy (counted_of F.flow self.old).view) → Holds (counted_of F.flow self.old) (counted_of F.flow self.new) (counted_of F.flow self.old).view }
         ensures none { op.old ≡ None → Holds (counted_of F.flow self.old) (counted_of F.flow self.new) (counted_of F.flow self.old).view }
         ensures told { (t : Told) → begins_told (is_busy (counted_of F.flow self.old).view) op.old t ≡ (if result then anew t else t) }
-        ensures counted { CountsOn self.old.refusals self.new.refusals }
+        ensures counted { MovesByOneAtMost self.old.refusals self.new.refusals }
     {
         if self.dialogue.is_busy() {
             return false;
@@ -89,7 +89,7 @@ impl<A: Allocator + Copy, F: ClientTransfer<A>> Counted<A, F> {
         ensures busy { IsTrue (is_busy (counted_of F.flow self.old).view) → Holds (counted_of F.flow self.old) (counted_of F.flow self.new) (counted_of F.flow self.old).view }
         ensures none { texts.old ≡ None → Holds (counted_of F.flow self.old) (counted_of F.flow self.new) (counted_of F.flow self.old).view }
         ensures told { (t : Told) → begins_told (is_busy (counted_of F.flow self.old).view) texts.old t ≡ (if result then anew t else t) }
-        ensures counted { CountsOn self.old.refusals self.new.refusals }
+        ensures counted { MovesByOneAtMost self.old.refusals self.new.refusals }
     {
         if self.dialogue.is_busy() {
             return false;
@@ -116,9 +116,9 @@ impl<A: Allocator + Copy, F: ClientTransfer<A>> Counted<A, F> {
         ensures within { result ≤ length piece.now }
         ensures took { HearsIfRoom (counted_of F.flow self.old) (counted_of F.flow self.new) piece.now result }
         ensures some { IsTrue (may_hear (counted_of F.flow self.old).view) → 0 < length piece.now → 0 < result }
-        ensures most { self.new.refusals ≡ self.old.refusals → IsMostHeard result piece.now (counted_of F.flow self.new).view }
-        ensures told { last.new ≡ last_line (counted_of F.flow self.old).view (take result piece.now) last.old }
-        ensures counted { CountsOn self.old.refusals self.new.refusals }
+        ensures most { self.new.refusals ≡ self.old.refusals → IsMostOfReplies result piece.now (counted_of F.flow self.new).view }
+        ensures told { last.new ≡ last_line_heard (counted_of F.flow self.old).view (take result piece.now) last.old }
+        ensures counted { MovesByOneAtMost self.old.refusals self.new.refusals }
     {
         let mut taken = 0;
         while taken < piece.len() && self.dialogue.may_hear() {
@@ -156,7 +156,7 @@ impl<A: Allocator + Copy, F: ClientTransfer<A>> Counted<A, F> {
     pub(crate) fn listening(&mut self, port: u16)
         ensures moved { HoldsIfRoom (counted_of F.flow self.old) (counted_of F.flow self.new)
             (port_told port (counted_of F.flow self.old).view) (port_told_short port (counted_of F.flow self.old).view) }
-        ensures counted { CountsOn self.old.refusals self.new.refusals }
+        ensures counted { MovesByOneAtMost self.old.refusals self.new.refusals }
     {
         if port == 0 {
             self.listen_refused();
@@ -171,7 +171,7 @@ impl<A: Allocator + Copy, F: ClientTransfer<A>> Counted<A, F> {
     pub(crate) fn listen_refused(&mut self)
         ensures moved { HoldsIfRoom (counted_of F.flow self.old) (counted_of F.flow self.new)
             (listen_refused (counted_of F.flow self.old).view) (listen_refused_short (counted_of F.flow self.old).view) }
-        ensures counted { CountsOn self.old.refusals self.new.refusals }
+        ensures counted { MovesByOneAtMost self.old.refusals self.new.refusals }
     {
         if listen_refused(&mut self.dialogue).is_err() {
             self.shorten();
@@ -182,7 +182,7 @@ impl<A: Allocator + Copy, F: ClientTransfer<A>> Counted<A, F> {
     pub(crate) fn data_opened(&mut self, host: Host)
         ensures moved { HoldsIfRoom (counted_of F.flow self.old) (counted_of F.flow self.new)
             (data_opened host (counted_of F.flow self.old).view) (data_opened_short (counted_of F.flow self.old).view) }
-        ensures counted { CountsOn self.old.refusals self.new.refusals }
+        ensures counted { MovesByOneAtMost self.old.refusals self.new.refusals }
     {
         if data_opened(&mut self.dialogue, host).is_err() {
             self.shorten();
@@ -193,7 +193,7 @@ impl<A: Allocator + Copy, F: ClientTransfer<A>> Counted<A, F> {
     pub(crate) fn data_refused(&mut self)
         ensures moved { HoldsIfRoom (counted_of F.flow self.old) (counted_of F.flow self.new)
             (data_refused (counted_of F.flow self.old).view) (data_refused_short (counted_of F.flow self.old).view) }
-        ensures counted { CountsOn self.old.refusals self.new.refusals }
+        ensures counted { MovesByOneAtMost self.old.refusals self.new.refusals }
     {
         if data_refused(&mut self.dialogue).is_err() {
             self.shorten();
@@ -205,8 +205,8 @@ impl<A: Allocator + Copy, F: ClientTransfer<A>> Counted<A, F> {
         ensures within { result ≤ length piece.now }
         ensures took { ReceivesIfRoom (counted_of F.flow self.old) (counted_of F.flow self.new) piece.now result }
         ensures some { IsTrue (may_receive (counted_of F.flow self.old).view) → 0 < length piece.now → 0 < result }
-        ensures most { self.new.refusals ≡ self.old.refusals → IsMostReceived result piece.now (counted_of F.flow self.new).view }
-        ensures counted { CountsOn self.old.refusals self.new.refusals }
+        ensures most { self.new.refusals ≡ self.old.refusals → IsMostOfDownload result piece.now (counted_of F.flow self.new).view }
+        ensures counted { MovesByOneAtMost self.old.refusals self.new.refusals }
     {
         if !self.dialogue.may_receive() {
             return 0;
@@ -224,7 +224,7 @@ impl<A: Allocator + Copy, F: ClientTransfer<A>> Counted<A, F> {
     pub(crate) fn data_end(&mut self)
         ensures moved { HoldsIfRoom (counted_of F.flow self.old) (counted_of F.flow self.new)
             (data_end (counted_of F.flow self.old).view) (data_end_short (counted_of F.flow self.old).view) }
-        ensures counted { CountsOn self.old.refusals self.new.refusals }
+        ensures counted { MovesByOneAtMost self.old.refusals self.new.refusals }
     {
         if data_end(&mut self.dialogue).is_err() {
             self.shorten();
@@ -235,7 +235,7 @@ impl<A: Allocator + Copy, F: ClientTransfer<A>> Counted<A, F> {
     pub(crate) fn data_fault(&mut self)
         ensures moved { HoldsIfRoom (counted_of F.flow self.old) (counted_of F.flow self.new)
             (data_fault (counted_of F.flow self.old).view) (data_fault_short (counted_of F.flow self.old).view) }
-        ensures counted { CountsOn self.old.refusals self.new.refusals }
+        ensures counted { MovesByOneAtMost self.old.refusals self.new.refusals }
     {
         if data_fault(&mut self.dialogue).is_err() {
             self.shorten();
@@ -250,7 +250,7 @@ impl<A: Allocator + Copy, F: ClientTransfer<A>> Counted<A, F> {
             (gives_data result (counted_of F.flow self.old).view) (short (counted_of F.flow self.old).view) }
         ensures some { 0 < length room.old → 0 < length (to_give (counted_of F.flow self.old).view) → 0 < result }
         ensures most { result ≡ min (length room.old) (length (to_give (counted_of F.flow self.old).view)) }
-        ensures counted { CountsOn self.old.refusals self.new.refusals }
+        ensures counted { MovesByOneAtMost self.old.refusals self.new.refusals }
         ensures spare { giving_grows result (counted_of F.flow self.old).view ≡ false → self.new.refusals ≡ self.old.refusals }
     {
         let count = self.dialogue.give(room);
@@ -321,7 +321,7 @@ impl<A: Allocator + Copy, F: ClientTransfer<A>> Counted<A, F> {
     fn shorten(&mut self)
         ensures view { (counted_of F.flow self.new).view ≡ short (counted_of F.flow self.old).view }
         ensures count { self.new.refusals ≢ self.old.refusals }
-        ensures counted { CountsOn self.old.refusals self.new.refusals }
+        ensures counted { MovesByOneAtMost self.old.refusals self.new.refusals }
     {
         self.dialogue.fail(Failure::Memory);
         self.refusals = self.refusals.wrapping_add(1);
@@ -334,7 +334,7 @@ impl<A: Allocator + Copy, F: CountedTransfer<A>> Counted<A, F> {
     /// What its transfer stores.
     pub(crate) fn stored_len(&self) -> usize
         ensures sum { result ≡ stored_in F.stored self.now.dialogue.place }
-        ensures few { result ≤ stored_limit }
+        ensures few { result ≤ block_stored_limit }
     {
         self.dialogue.stored_len()
     }

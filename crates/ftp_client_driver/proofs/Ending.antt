@@ -16,11 +16,11 @@ use Rattle.ftp_operation.specs.Answer.{Said, Lost, said_of}
 use Rattle.ftp_client_model.specs.Calls.{control_end, data_closed, is_sound, report_of, reports, wants}
 use Rattle.ftp_client_model.specs.Failing.{Client}
 use Rattle.ftp_client_model.specs.View.{View}
-use Rattle.ftp_client_driver.specs.Driving.{Drove, Finishes, GivesUp, Reports}
-use Rattle.ftp_client_driver.specs.Side.{IsOwn, Report, Reporting, client_machine, client_side, is_under_way}
+use Rattle.ftp_client_driver.specs.Driving.{ClientDrove, ClientFinishes, ClientGivesUp, Reports}
+use Rattle.ftp_client_driver.specs.Side.{IsOwn, Report, Reporting, client_machine, client_side, is_operation_under_way}
 
 -- where the connection is cut, an operation under way is lost
-cut_loses : (v : View) → is_sound v.standing ≡ true → is_under_way v.job ≡ true → report_of (data_closed (control_end v)) ≡ Some Lost
+cut_loses : (v : View) → is_sound v.standing ≡ true → is_operation_under_way v.job ≡ true → report_of (data_closed (control_end v)) ≡ Some Lost
 unfolding control_end
 cut_loses v sound under = grind arith
 
@@ -30,7 +30,7 @@ unfolding control_end
 cut_fails v = grind arith
 
 -- one that gave its answer is idle
-told_is_idle : (answer : Said) (v : View) → Some answer ≡ report_of v → is_under_way (reports v).job ≡ false
+told_is_idle : (answer : Said) (v : View) → Some answer ≡ report_of v → is_operation_under_way (reports v).job ≡ false
 told_is_idle answer v is = grind arith
 
 -- the port alone is closed where none stands
@@ -40,12 +40,12 @@ is_shut asked old new none left = subst (λ a. IsLeft a old new) (subst (λ stan
 -- one that is over: it gave its report, its data connection was left, and it was told that it is closed
 pub finishes : {A : Type 0} (old off : Stand client_side) (channel : Channel) (new : Client) (answer : Answer A) (asked : Asked)
     → Ends client_machine Reports old off (Ok answer) → IsLeft asked off.owner.channel channel
-    → IsFairEnd off.owner.channel asked → Does client_machine Closed off.owner.end new → Finishes (Some (said_of answer)) old (with_owner (held new channel) off)
+    → IsFairEnd off.owner.channel asked → Does client_machine Closed off.owner.end new → ClientFinishes (Some (said_of answer)) old (with_owner (held new channel) off)
 finishes old off channel new answer asked over left fair closed =
     let mid = over.0 in
     let told = over.2 in
     let is = ap (λ s. s.owner) over.3 in
-    let idle : is_under_way off.owner.end.view.job ≡ false = ap (λ v. is_under_way v.job) (told.1).0 ∙ told_is_idle (said_of answer) mid.owner.end.view told.0 in
+    let idle : is_operation_under_way off.owner.end.view.job ≡ false = ap (λ v. is_operation_under_way v.job) (told.1).0 ∙ told_is_idle (said_of answer) mid.owner.end.view told.0 in
     record {
       answer = said_of answer;
       answered = refl;
@@ -53,15 +53,15 @@ finishes old off channel new answer asked over left fair closed =
       asked = asked;
       led = (
         with_owner (held off.owner.end channel) off,
-        (off, (mid, over.1.led, ((told, ap (λ o. o.channel) is, tt), subst (λ s. off ≡ with_owner s mid) (sym is) over.3)), ((refl, left, (may_when_done (is_under_way off.owner.end.view.job ≡ false) (wants off.owner.end.view) off.owner.channel.fate idle, fair, leaves_done client_machine off.owner.end asked idle)), refl)),
-        ((closed, (refl, left.stands), λ sound under. absurd (let t : is_under_way off.owner.end.view.job ≡ true = under in cc)), refl),
+        (off, (mid, over.1.led, ((told, ap (λ o. o.channel) is, tt), subst (λ s. off ≡ with_owner s mid) (sym is) over.3)), ((refl, left, (may_when_done (is_operation_under_way off.owner.end.view.job ≡ false) (wants off.owner.end.view) off.owner.channel.fate idle, fair, leaves_done client_machine off.owner.end asked idle)), refl)),
+        ((closed, (refl, left.stands), λ sound under. absurd (let t : is_operation_under_way off.owner.end.view.job ≡ true = under in cc)), refl),
       );
     }
 
 -- so a drive that began where no octets of a data connection were on their way or in hand
 pub drove : {A : Type 0} (start off : Stand client_side) (channel : Channel) (new : Client) (r : Result (Answer A) Cause) (answer : Answer A) (asked : Asked)
     → start.owner.channel.unwritten ≡ [] → start.owner.channel.untold ≡ [] → r ≡ Ok answer → Ends client_machine Reports start off r → IsLeft asked off.owner.channel channel
-    → IsFairEnd off.owner.channel asked → Does client_machine Closed off.owner.end new → Drove start (with_owner (held new channel) off) (Some (said_of answer))
+    → IsFairEnd off.owner.channel asked → Does client_machine Closed off.owner.end new → ClientDrove start (with_owner (held new channel) off) (Some (said_of answer))
 unfolding finishes
 drove start off channel new r answer asked unwritten untold gave ends left fair closed =
     let over : Ends client_machine Reports start off (Ok answer) = subst (λ r. Ends client_machine Reports start off r) gave ends in
@@ -82,7 +82,7 @@ ends_from start old off (Err cause) first ends = fails_then cause start old off 
 -- one that broke off: it was told that the control connection ended, its data connection was reset, then the port closed, and it was asked for its report
 pub gave_up : (off : Held Client) (cut closed new : Client) (cut_channel mid shut : Channel) (said : Option Said) (asked ended : Asked)
     → IsCut client_machine off (held cut cut_channel) → IsReset asked cut_channel mid → IsLeft ended mid shut → Does client_machine Closed cut closed
-    → IsOwn (Reporting said) closed new → GivesUp said off (held new shut)
+    → IsOwn (Reporting said) closed new → ClientGivesUp said off (held new shut)
 gave_up off cut closed new cut_channel mid shut said asked ended is_cut reset left closes reports =
     let cut_view : cut.view ≡ control_end off.end.view = (is_cut.0).0 in
     record {

@@ -9,40 +9,40 @@ use Rattle.ftp_operation.specs.Answer as Answers
 use Rattle.ftp_operation.specs.declared.op.Op.{Op}
 use Rattle.ftp_client_model.specs.Tries.{OverBreaks}
 use Rattle.ftp_client_model.specs.Calls.{control_end, data_closed, data_end, data_fault, data_opened, data_refused, gives_control, gives_data, is_busy, is_sound, listen_refused, may_hear, may_receive, port_told, report_of, reports, starts, to_give, uploads, wants}
-use Rattle.ftp_client_model.specs.Counting.{CountsOn}
+use Rattle.ftp_client_model.specs.Counting.{MovesByOneAtMost}
 use Rattle.ftp_client_model.specs.View.{Job, Idle, Waiting, Doing, Transferring, Told}
 use Rattle.ftp_client_model.specs.Failing.{Client, HearsIfRoom, Holds, HoldsIfRoom, ReceivesIfRoom, data_end_short, data_fault_short, data_opened_short, data_refused_short, listen_refused_short, port_told_short, short, starts_short, uploads_short}
 
 -- its calls that the other end does not have: it is asked for its report; an operation is begun, or an upload that goes on after breaks
-pub data Own : Type 0 where
-  Reporting : (said : Option Answers.Said) → Own
-  Starting : (op : Op (List ℕ)) → Own
-  Uploading : (upload : OverBreaks) → Own
+pub data ClientOwnCall : Type 0 where
+  Reporting : (said : Option Answers.Said) → ClientOwnCall
+  Starting : (op : Op (List ℕ)) → ClientOwnCall
+  Uploading : (upload : OverBreaks) → ClientOwnCall
 
-abbrev pub Report : (said : Option Answers.Said) → Call Own
+abbrev pub Report : (said : Option Answers.Said) → Call ClientOwnCall
 Report said = Aside (Reporting said)
 
 -- so several drives of one client, each after the operation that it answers was begun, are one list of actions
-abbrev pub Begun : (op : Op (List ℕ)) → Call Own
+abbrev pub Begun : (op : Op (List ℕ)) → Call ClientOwnCall
 Begun op = Aside (Starting op)
 
-abbrev pub BegunUpload : (upload : OverBreaks) → Call Own
+abbrev pub BegunUpload : (upload : OverBreaks) → Call ClientOwnCall
 BegunUpload upload = Aside (Uploading upload)
 
 -- an operation was begun and is not answered
-abbrev pub is_under_way : Job → Bool
-is_under_way Idle = false
-is_under_way (Waiting op) = true
-is_under_way (Doing op step) = true
-is_under_way (Transferring op transfer) = true
-is_under_way (Told answer) = false
+abbrev pub is_operation_under_way : Job → Bool
+is_operation_under_way Idle = false
+is_operation_under_way (Waiting op) = true
+is_operation_under_way (Doing op step) = true
+is_operation_under_way (Transferring op transfer) = true
+is_operation_under_way (Told answer) = false
 
 -- each of its calls that may take memory tells by its count of refused growths whether it was refused: the count stays, or moves on by one
 abbrev pub Counted : Type 0 → (old new : Client) → Type 0
-Counted Held old new = Held × CountsOn old.refusals new.refusals
+Counted Held old new = Held × MovesByOneAtMost old.refusals new.refusals
 
 -- what each of its own calls does; one is begun only by a client that is not busy
-abbrev pub IsOwn : Own → (old new : Client) → Type 0
+abbrev pub IsOwn : ClientOwnCall → (old new : Client) → Type 0
 IsOwn (Reporting said) old new = (said ≡ report_of old.view) × Holds old new (reports old.view)
 IsOwn (Starting op) old new = (is_busy old.view ≡ false) × Counted (HoldsIfRoom old new (starts op old.view) (starts_short op old.view)) old new
 IsOwn (Uploading upload) old new =
@@ -61,7 +61,7 @@ client_machine = record {
   Hears = λ octets unheard old new. Counted (HearsIfRoom old new unheard (length octets)) old new;
   Gives = λ count old new. Holds old new (gives_control count old.view);
   IsCut = λ old new. Holds old new (control_end old.view);
-  Own = Own;
+  Own = ClientOwnCall;
   Owns = IsOwn;
   Listening = λ port old new. Counted (HoldsIfRoom old new (port_told port old.view) (port_told_short port old.view)) old new;
   Opened = λ host old new. Counted (HoldsIfRoom old new (data_opened host old.view) (data_opened_short old.view)) old new;
@@ -73,13 +73,13 @@ client_machine = record {
   End = λ old new. Counted (HoldsIfRoom old new (data_end old.view) (data_end_short old.view)) old new;
   Break = λ old new. Counted (HoldsIfRoom old new (data_fault old.view) (data_fault_short old.view)) old new;
   Closed = λ old new. Holds old new (data_closed old.view);
-  IsCloseDue = λ client. IsTrue (is_sound client.view.standing) → IsTrue (is_under_way client.view.job) → wants client.view ≡ Want.CloseData;
-  IsDone = λ client. is_under_way client.view.job ≡ false;
+  IsCloseDue = λ client. IsTrue (is_sound client.view.standing) → IsTrue (is_operation_under_way client.view.job) → wants client.view ≡ Want.CloseData;
+  IsDone = λ client. is_operation_under_way client.view.job ≡ false;
 }
 
 abbrev pub client_side : Side
 client_side = side_of client_machine
 
 -- it and its data connection beside a control connection, by what its reader has left and what its writer holds
-abbrev pub beside : {R W : Type 0} → (R → Option (List ℕ)) → (W → Option (List ℕ)) → Held Client → Control R W → Stand client_side
-beside remaining contents owner control = stand_of client_machine remaining contents owner control
+abbrev pub client_beside : {R W : Type 0} → (R → Option (List ℕ)) → (W → Option (List ℕ)) → Held Client → Control R W → Stand client_side
+client_beside remaining contents owner control = stand_of client_machine remaining contents owner control

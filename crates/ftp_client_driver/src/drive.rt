@@ -4,8 +4,8 @@ ghost use Rattle.ftp_ports.specs.Channel.{no_channel};
 ghost use Rattle.ftp_ports.specs.Machine.{held};
 ghost use Rattle.ftp_driver.specs.Standing.{HasNone};
 ghost use Rattle.ftp_operation.specs.Answer.{said_of};
-ghost use Rattle.ftp_client_driver.specs.Driving.{Drives};
-ghost use Rattle.ftp_client_driver.specs.Side.{beside};
+ghost use Rattle.ftp_client_driver.specs.Driving.{ClientDrives};
+ghost use Rattle.ftp_client_driver.specs.Side.{client_beside};
 
 use crate::asks::Asks;
 use ftp_client_model::Near;
@@ -42,7 +42,7 @@ where
     P: Ports,
     // Witness of drives: `edits/a_broken_connection_is_not_told.edit`, `an_operation_under_way_has_no_report`, `another_cause_is_told`,
     // `its_report_is_never_asked_for`, `no_octet_is_heard`, `no_octet_of_a_download_is_taken`, and those of `ftp_driver`.
-    ensures drives { HasNone P.Stream.remaining P.Stream.contents data.old → Drives control.new.failed (beside R.remaining W.contents (held (N.client client.old) (no_channel (P.history ports.old))) control.old) (beside R.remaining W.contents (held (N.client client.new) (no_channel (P.history ports.new))) control.new) result.off (option_map said_of result.report) }
+    ensures drives { HasNone P.Stream.remaining P.Stream.contents data.old → ClientDrives control.new.failed (client_beside R.remaining W.contents (held (N.client client.old) (no_channel (P.history ports.old))) control.old) (client_beside R.remaining W.contents (held (N.client client.new) (no_channel (P.history ports.new))) control.new) result.off (option_map said_of result.report) }
     // Witness of none: `answer` of `tool_connect`: the next drive begins where none stands.
     ensures none { HasNone P.Stream.remaining P.Stream.contents data.new }
 {

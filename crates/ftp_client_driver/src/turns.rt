@@ -3,8 +3,8 @@ ghost use Rattle.std.specs.Prelude.{[]};
 ghost use Rattle.ftp_ports.specs.Machine.{held};
 ghost use Rattle.ftp_driver.specs.Calling.{IsLater};
 ghost use Rattle.ftp_driver.specs.Standing.{channel_at};
-ghost use Rattle.ftp_client_driver.specs.Driving.{DrivesOn, MakesTurns};
-ghost use Rattle.ftp_client_driver.specs.Side.{beside};
+ghost use Rattle.ftp_client_driver.specs.Driving.{ClientDrivesOn, ClientMakesTurns};
+ghost use Rattle.ftp_client_driver.specs.Side.{client_beside};
 
 use crate::asks::Asks;
 use crate::drive::Driven;
@@ -35,9 +35,9 @@ where
     P: Ports,
     // Witness of drives: `a_data_connection_is_left_between_two_turns`, `one_that_broke_off_in_some_turns_is_not_told`,
     // `some_turns_give_no_report_of_an_operation_under_way`, `some_turns_tell_another_cause`, `what_would_wait_counts_as_more_turns`.
-    ensures drives { DrivesOn most control.new.failed (beside R.remaining W.contents (held (N.client client.old) (channel_at P.Stream.remaining P.Stream.contents (P.history ports.old) data.old [])) control.old) (beside R.remaining W.contents (held (N.client client.new) (channel_at P.Stream.remaining P.Stream.contents (P.history ports.new) data.new [])) control.new) result }
+    ensures drives { ClientDrivesOn most control.new.failed (client_beside R.remaining W.contents (held (N.client client.old) (channel_at P.Stream.remaining P.Stream.contents (P.history ports.old) data.old [])) control.old) (client_beside R.remaining W.contents (held (N.client client.new) (channel_at P.Stream.remaining P.Stream.contents (P.history ports.new) data.new [])) control.new) result }
     // Witness of made: as of `drives`; `ask` of `ftp_pair_memory`.
-    ensures made { MakesTurns most control.new.failed (beside R.remaining W.contents (held (N.client client.old) (channel_at P.Stream.remaining P.Stream.contents (P.history ports.old) data.old [])) control.old) (beside R.remaining W.contents (held (N.client client.new) (channel_at P.Stream.remaining P.Stream.contents (P.history ports.new) data.new [])) control.new) result }
+    ensures made { ClientMakesTurns most control.new.failed (client_beside R.remaining W.contents (held (N.client client.old) (channel_at P.Stream.remaining P.Stream.contents (P.history ports.old) data.old [])) control.old) (client_beside R.remaining W.contents (held (N.client client.new) (channel_at P.Stream.remaining P.Stream.contents (P.history ports.new) data.new [])) control.new) result }
     // Witness of later: `what_is_due_counts_as_waiting`, and as of `drive_on` of `ftp_driver`.
     ensures later { IsLater (P.waits ports.new) (Ok result) }
 {

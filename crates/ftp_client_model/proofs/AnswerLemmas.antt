@@ -12,7 +12,7 @@ use Rattle.ftp_operation.specs.declared.op.Op.{Op}
 use Rattle.ftp_operation.specs.declared.op.Op.TheVariants as Ops
 use Rattle.ftp_path.specs.Path.{is_path_text}
 use Rattle.ftp_reply.specs.Lines.{Text, joined}
-use Rattle.ftp_client_model.specs.Dialogue.{answer_in, broken_off_answer, ended_answer, is_refusal, judged, next_job, next_with, refused_answer}
+use Rattle.ftp_client_model.specs.Dialogue.{answer_in, broken_off_answer, ended_answer, is_refusal_code, judged, next_job, next_with, refused_answer}
 use Rattle.ftp_client_model.specs.Octets.{broken_answer, content_answer, cut_answer, has_enough, settled_of, whole_answer}
 use Rattle.ftp_client_model.specs.Tries.{OverBreaks, Run, after_size, after_try, is_size, next_of, rest_put, run_at, try_behind, whole_put}
 use Rattle.ftp_client_model.specs.View.{Flow, Sending, Receiving, Job, Idle, Waiting, Doing, Transferring, Told}
@@ -131,8 +131,8 @@ refusal_small ending code op flow =
     if_small (code == 425) (Some Unopened) (if code == 426 then broken_off_answer ending op flow else Some (Refused code)) tt
     (if_small (code == 426) (broken_off_answer ending op flow) (Some (Refused code)) (off_small ending op flow) tt)
 
-final_small : (ending : Ending) (code : ℕ) (op : Op (List ℕ)) (flow : Flow) → IsSmallIf (if is_refusal code then refused_answer ending code op flow else ended_answer ending op flow)
-final_small ending code op flow = if_small (is_refusal code) _ _ (refusal_small ending code op flow) (ended_small ending op flow)
+final_small : (ending : Ending) (code : ℕ) (op : Op (List ℕ)) (flow : Flow) → IsSmallIf (if is_refusal_code code then refused_answer ending code op flow else ended_answer ending op flow)
+final_small ending code op flow = if_small (is_refusal_code code) _ _ (refusal_small ending code op flow) (ended_small ending op flow)
 
 pub unsent_small : (ending : Ending) (code : ℕ) (op : Op (List ℕ)) (flow : Flow) → IsSmallIf (judged ending Aborts.Unsent code op flow)
 unsent_small Endings.Foreign code op flow = tt

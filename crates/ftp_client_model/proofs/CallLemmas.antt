@@ -12,7 +12,7 @@ use Rattle.ftp_operation.specs.Answer.{BadOperation, Unopened}
 use Rattle.ftp_operation.specs.Operation.{can_be_sent}
 use Rattle.ftp_operation.specs.declared.op.Op.{Op}
 use Rattle.ftp_reply.specs.Lines.{Text, are_within, octets_of}
-use Rattle.ftp_reply.specs.Reader.{Gathered, Between, Begun, Heard, GoesOn, Says, Faulty, code_in_front, first_heard, is_last, line_heard, next_heard, opened, placed}
+use Rattle.ftp_reply.specs.Reader.{Gathered, Between, Begun, Heard, GoesOn, Says, Faulty, code_in_front, first_heard, is_last, line_heard, next_heard, opened, reply_placed}
 use Rattle.ftp_reply.specs.Reply.{hyphen, space}
 use Rattle.ftp_reply.specs.declared.fault.ReplyFault.TheVariants as Faults
 use Rattle.ftp_client_model.specs.Calls.{accepted, begun, connected, data_closed, data_end, data_fault, data_opened, data_refused, ending_of, event_taken, events_taken, gives_control, gives_data, goes_by, heard_by, heard_flow, hears_octet, is_busy_job, is_sound, line_taken, listen_refused, listening, listening_by, may_hear, no_port_by, opened_by, over_by, port_told, receives_octet, reply_limit, reported_by, reports, started_by, unless_closing, unopened_by, unsendable_by, went}
@@ -29,7 +29,7 @@ use Rattle.ftp_client_model.specs.declared.client.Standing.{Standing}
 use Rattle.ftp_client_model.specs.declared.client.Standing.TheVariants as Stands
 use Rattle.ftp_client_model.specs.declared.client.Step.{Step}
 use Rattle.ftp_client_model.specs.declared.client.Step.TheVariants as Steps
-use Rattle.ftp_client_model.specs.Fit.{IsCalmAt, IsDialling, IsFit, IsListening, IsSendable, IsSendableRun, IsSound, IsSoundView, IsTied, IsTypedPort, commands_next, next_of_idle}
+use Rattle.ftp_client_model.specs.Fit.{IsCalmAt, IsDialling, IsFit, IsListening, IsSendable, IsSendableRun, IsSoundLogin, IsSoundView, IsTied, IsTypedPort, commands_next, next_of_idle}
 use Rattle.ftp_client_model.proofs.DialogueLemmas.{IsReady, aborts_fits, answered_fits, calm_of, carries_fits, connected_sound, doing_past, finishes_fits, fit_ready, next_le, ready_fit, strange_fits, tells_fits, transfer_past, transfer_loose}
 use Rattle.ftp_ends.proofs.EventLemmas.{IsSmallEvent, out_one}
 use Rattle.ftp_ends.proofs.ReadLemmas.{ear_short}
@@ -38,7 +38,7 @@ use Rattle.ftp_client_model.proofs.CommandLemmas.{IsLoose, IsPast, begins_fits, 
 -- ---- start and report
 
 -- with another run
-run_sound : (run : Option Run) (v : View) → IsSendableRun run → IsSoundView v → IsSound v.user v.pass v.here run v.connection v.ear v.gathered
+run_sound : (run : Option Run) (v : View) → IsSendableRun run → IsSoundView v → IsSoundLogin v.user v.pass v.here run v.connection v.ear v.gathered
 run_sound run v sendable k = record { user_fits = k.user_fits; pass_fits = k.pass_fits; host = k.host; sendable = sendable; port = k.port; reading = k.reading; reply = k.reply }
 
 idle_loose : (v : View) → v.job ≡ Idle → IsFit v → IsLoose v.connection
@@ -118,14 +118,14 @@ placed_small true true code texts is = tt
 placed_small true false code texts is = omega (arith, texts_same texts, leb-true (octets_of texts) 8192 (and_parts _ (nat_le (octets_of texts) 8192) is).1)
 placed_small false ends code texts is = tt
 
-place_small : (ends : Bool) (code : ℕ) (texts : List Text) → IsSmallHeard (placed ends code texts)
+place_small : (ends : Bool) (code : ℕ) (texts : List Text) → IsSmallHeard (reply_placed ends code texts)
 place_small ends code texts = placed_small (are_within texts) ends code texts refl
 
 first_small : (code : ℕ) (text : Text) → IsSmallHeard (first_heard code text)
 first_small code [] = place_small true code ([] ∷ [])
 first_small code (c ∷ text) =
-    cond_both (c == space) (placed true code (text ∷ [])) (if c == hyphen then placed false code (text ∷ []) else Faulty Faults.BadCode) IsSmallHeard (λ is. place_small true code (text ∷ []))
-    (λ is. cond_both (c == hyphen) (placed false code (text ∷ [])) (Faulty Faults.BadCode) IsSmallHeard (λ is. place_small false code (text ∷ [])) (λ is. tt))
+    cond_both (c == space) (reply_placed true code (text ∷ [])) (if c == hyphen then reply_placed false code (text ∷ []) else Faulty Faults.BadCode) IsSmallHeard (λ is. place_small true code (text ∷ []))
+    (λ is. cond_both (c == hyphen) (reply_placed false code (text ∷ [])) (Faulty Faults.BadCode) IsSmallHeard (λ is. place_small false code (text ∷ [])) (λ is. tt))
 
 opened_small : (code : Option ℕ) (text : Text) → IsSmallHeard (opened code text)
 opened_small None text = tt
@@ -141,7 +141,7 @@ heard_small Between text = opened_small (code_in_front text) text
 heard_small (Begun code texts) text = next_small (is_last code text) code texts text
 
 -- with another reply that came
-gathered_sound : (gathered : Gathered) (v : View) → gathered_len gathered ≤ 8192 → IsSoundView v → IsSound v.user v.pass v.here v.run v.connection v.ear gathered
+gathered_sound : (gathered : Gathered) (v : View) → gathered_len gathered ≤ 8192 → IsSoundView v → IsSoundLogin v.user v.pass v.here v.run v.connection v.ear gathered
 gathered_sound gathered v small k = record { user_fits = k.user_fits; pass_fits = k.pass_fits; host = k.host; sendable = k.sendable; port = k.port; reading = k.reading; reply = small }
 
 gathered_ready : (gathered : Gathered) (v : View) → gathered_len gathered ≤ 8192 → IsReady v → IsReady (record v { gathered = gathered })

@@ -7,9 +7,9 @@ use Rattle.ftp_client_model.specs.Dialogue.{answered}
 use Rattle.ftp_facts.specs.Moment.{moment_value}
 use Rattle.ftp_reply.specs.Reader.{line_heard}
 use Rattle.ftp_reply.specs.Values.{passive_value, extended_value, quoted_value, path_value, mark_value}
-use Rattle.ftp_client_model.specs.Rows.{ActiveDownload, ActiveReport, BrokenDownload, BrokenUpload, Endpoints, Judged, LogsIn, LongGreeting, MarkRead, Moment, NamesRead, NotOpened, OtherHosts, OtherOrders, OwnCode, PassiveDownload, PassiveUpload, PassivePort, PeekAborts, PeekEnds, PeekFails, PeekOrders, PeekUnaborted, Quoted, Renames, TwoCodes, Unasked, Unsendable, UploadBeginsAnew, UploadGivesUp, UploadInTypeA, UploadResumes}
+use Rattle.ftp_client_model.specs.Rows.{ActiveDownload, ActiveReport, BrokenDownload, BrokenUpload, Endpoints, Judged, AnswersGreeting, LongGreeting, MarkRead, ReadsMoment, NamesRead, NotOpened, OtherHosts, OtherOrders, OwnCode, PassiveDownload, PassiveUpload, PassivePort, PeekAborts, PeekEnds, PeekFails, PeekOrders, PeekUnaborted, Quoted, Renames, TwoCodes, Unasked, Unsendable, UploadBeginsAnew, UploadGivesUp, UploadInTypeA, UploadResumes}
 
-pub login : LogsIn
+pub login : AnswersGreeting
 unfolding answered
 login = refl
 
@@ -49,7 +49,7 @@ pub two_codes : TwoCodes
 unfolding answered starts path_on_literals
 two_codes = (refl, refl)
 
-pub moment : Moment
+pub moment : ReadsMoment
 unfolding answered starts moment_value days_of_years days_of_months path_on_literals
 moment = refl
 

@@ -32,7 +32,7 @@ use Rattle.ftp_client_model.specs.declared.client.Standing.{Standing}
 use Rattle.ftp_client_model.specs.declared.client.Standing.TheVariants as Stands
 use Rattle.ftp_client_model.specs.declared.client.Step.{Step}
 use Rattle.ftp_client_model.specs.declared.client.Step.TheVariants as Steps
-use Rattle.ftp_client_model.specs.Fit.{IsCalm, IsCalmAt, IsFit, IsSendable, IsSound, IsSoundView, IsTied, IsTypedPort, commands_next, next_of_idle, next_of_transfer}
+use Rattle.ftp_client_model.specs.Fit.{HasNoOperation, IsCalmAt, IsFit, IsSendable, IsSoundLogin, IsSoundView, IsTied, IsTypedPort, commands_next, next_of_idle, next_of_transfer}
 use Rattle.ftp_client_model.proofs.AnswerLemmas.{CanBeSentIf, IsSmallAnswer, IsSmallIf, answer_small, answered_small, next_sent, run_on, unsent_small}
 use Rattle.ftp_ends.proofs.ReadLemmas.{none_short}
 use Rattle.ftp_client_model.proofs.CommandLemmas.{IsLoose, IsPast, begins_fits, calm_past, goes_fits, has_line, loose_by, loose_for, sends_fits, tied_by}
@@ -80,7 +80,7 @@ ready_fit v r = record { sound = r.sound; sendable = r.sendable; calm = r.calm; 
 pub fit_ready : (v : View) → IsFit v → commands_next v.standing v.job ≡ 1 → IsReady v
 fit_ready v k one = record { sound = k.sound; sendable = k.sendable; calm = k.calm; tied = k.tied; room = omega (arith, k.room, one) }
 
-pub calm_of : (standing : Standing) (job : Job) → IsCalm job → IsCalmAt standing job
+pub calm_of : (standing : Standing) (job : Job) → HasNoOperation job → IsCalmAt standing job
 calm_of Stands.Greeting job calm = calm
 calm_of Stands.User job calm = calm
 calm_of Stands.Pass job calm = calm
@@ -104,10 +104,10 @@ transfer_past (Stands.Failed failure) op transfer calm = tt
 -- ---- what is left behind
 
 -- with another connection, of which no port is typed
-pub free_sound : (v : View) → IsSoundView v → IsSound v.user v.pass v.here v.run Data.Free v.ear v.gathered
+pub free_sound : (v : View) → IsSoundView v → IsSoundLogin v.user v.pass v.here v.run Data.Free v.ear v.gathered
 free_sound v k = record { user_fits = k.user_fits; pass_fits = k.pass_fits; host = k.host; sendable = k.sendable; port = tt; reading = k.reading; reply = k.reply }
 
-pub connected_sound : (connection : ClientLink) (v : View) → IsTypedPort connection → IsSoundView v → IsSound v.user v.pass v.here v.run connection v.ear v.gathered
+pub connected_sound : (connection : ClientLink) (v : View) → IsTypedPort connection → IsSoundView v → IsSoundLogin v.user v.pass v.here v.run connection v.ear v.gathered
 connected_sound connection v typed k = record { user_fits = k.user_fits; pass_fits = k.pass_fits; host = k.host; sendable = k.sendable; port = typed; reading = k.reading; reply = k.reply }
 
 pub tells_fits : (answer : Said) (v : View) → IsSoundView v → IsLoose v.connection → length v.owed + 2200 * next_of_idle v.standing ≤ 3227 → IsFit (done_with answer v)
@@ -284,14 +284,14 @@ carries_fits v k =
 
 -- ---- the login
 
-login_next : (job : Job) → IsCalm job → (commands_next Stands.User job ≡ 0) × (commands_next Stands.Pass job ≡ 0)
+login_next : (job : Job) → HasNoOperation job → (commands_next Stands.User job ≡ 0) × (commands_next Stands.Pass job ≡ 0)
 login_next Idle calm = (refl, refl)
 login_next (Waiting op) calm = (refl, refl)
 login_next (Told answer) calm = (refl, refl)
 login_next (Doing op step) calm = absurd calm
 login_next (Transferring op transfer) calm = absurd calm
 
-greeted_fits : (verdict : Verdict) (code : ℕ) (v : View) → IsCalm v.job → IsReady v → IsFit (greeted verdict code v)
+greeted_fits : (verdict : Verdict) (code : ℕ) (v : View) → HasNoOperation v.job → IsReady v → IsFit (greeted verdict code v)
 greeted_fits Completion code v calm r =
     let lines = logins_have_lines v.user v.pass r.sound.user_fits r.sound.pass_fits in
     sends_fits (Commands.User v.user) (record v { standing = Stands.User }) (has_line (Commands.User v.user) lines.user_line) r.sound r.sendable calm r.tied r.room (login_next v.job calm).0
@@ -314,7 +314,7 @@ enters_fits (Told answer) v is r = ready_fit (record v { standing = Stands.Enter
 login_fits : (v : View) → IsReady v → IsFit (login_ends v)
 login_fits v r = enters_fits v.job v refl r
 
-user_fits : (verdict : Verdict) (v : View) → IsCalm v.job → IsReady v → IsFit (user_answered verdict v)
+user_fits : (verdict : Verdict) (v : View) → HasNoOperation v.job → IsReady v → IsFit (user_answered verdict v)
 user_fits Intermediate v calm r =
     let lines = logins_have_lines v.user v.pass r.sound.user_fits r.sound.pass_fits in
     sends_fits (Commands.Pass v.pass) (record v { standing = Stands.Pass }) (has_line (Commands.Pass v.pass) lines.pass_line) r.sound r.sendable calm r.tied r.room (login_next v.job calm).1

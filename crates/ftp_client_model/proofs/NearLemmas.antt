@@ -2,7 +2,7 @@
 use Rattle.std.proofs.Common.{◌≡◌, ◌≢◌, ℕ, zero, suc, ◌⊎◌, inl, inr, List, [], ◌∷◌, sym, subst, ◌∙◌, arith, take, eqb-true, eq-eqb, true≢false}
 use Rattle.std.specs.Prelude.{◌==◌}
 use Rattle.ftp_nvt.proofs.CutLemmas.{decided as is_so}
-use Rattle.ftp_client_model.specs.Calls.{MayHear, MayReceive, control_end, data_closed, data_end, data_fault, data_opened, data_refused, gives_control, gives_data, hears, hears_octet, listen_refused, port_told, receives, receives_octet, reports, starts, uploads}
+use Rattle.ftp_client_model.specs.Calls.{MayHearFront, MayReceiveFront, control_end, data_closed, data_end, data_fault, data_opened, data_refused, gives_control, gives_data, hears, hears_octet, listen_refused, port_told, receives, receives_octet, reports, starts, uploads}
 use Rattle.ftp_client_model.specs.Failing.{data_fault_short, data_refused_short, listen_refused_short, over_short, short, unopened_short, Client, HearsIfRoom, Holds, HoldsIfRoom, ReceivesIfRoom, data_end_short, data_opened_short, port_told_short, starts_short, uploads_short}
 use Rattle.ftp_client_model.specs.Held.{Listening, DataOpened, DataEnd}
 use Rattle.ftp_client_model.specs.Tries.{first_try}
@@ -52,13 +52,13 @@ fault_lost : (v : View) → IsFit v → IsFit (data_fault_short v)
 fault_lost v k = unless_fits (λ v. over_short v.connection v) v k (over_short_fits v.connection v k)
 
 -- octets, each of which may be taken when its turn comes
-all_heard : (piece : List ℕ) (count : ℕ) (v : View) → MayHear v piece count → IsFit v → IsFit (hears v (take count piece))
+all_heard : (piece : List ℕ) (count : ℕ) (v : View) → MayHearFront v piece count → IsFit v → IsFit (hears v (take count piece))
 all_heard piece zero v may k = k
 all_heard [] (suc count) v may k = k
 all_heard (octet ∷ piece) (suc count) v may k =
     all_heard piece count (hears_octet v octet) (λ n less. may (suc n) (omega (arith, less))) (hears_fits v octet (may 0 (omega arith)) k)
 
-all_received : (piece : List ℕ) (count : ℕ) (v : View) → MayReceive v piece count → IsFit v → IsFit (receives v (take count piece))
+all_received : (piece : List ℕ) (count : ℕ) (v : View) → MayReceiveFront v piece count → IsFit v → IsFit (receives v (take count piece))
 all_received piece zero v may k = k
 all_received [] (suc count) v may k = k
 all_received (octet ∷ piece) (suc count) v may k = all_received piece count (receives_octet v octet) (λ n less. may (suc n) (omega (arith, less))) (receives_fits v octet k)

@@ -16,7 +16,7 @@ use Rattle.ftp_pieces.specs.Machine.{after, gives}
 use Rattle.ftp_ends.specs.Ear.{Ear, quiet, ear, ear_out, ear_step}
 use Rattle.ftp_client_model.specs.Calls.{reply_limit, line_taken, events_taken, hears_octet, hears, may_hear}
 use Rattle.ftp_client_model.specs.Dialogue.{answered}
-use Rattle.ftp_client_model.specs.InFlight.{ClientHearsInPieces, OnlyHeard, IsCarried, octets_of, ReplyIsHeard, FrontsAreAlike, ClientDropsAnswer, CodeAndTexts, ClientHearsRow}
+use Rattle.ftp_client_model.specs.InFlight.{ClientHearsInPieces, OnlyHeard, CanBeCarried, octets_of, ReplyIsHeard, FrontsAreAlike, ClientDropsAnswer, CodeAndTexts, ClientHearsRow}
 use Rattle.ftp_reply.specs.Reader.{Gathered, Between, Begun, GoesOn, Says, line_heard}
 use Rattle.ftp_reply.proofs.HeardLemmas.{begins_last, code_is_read, front_within, plain_is_inner}
 use Rattle.ftp_client_model.specs.View.{View}
@@ -50,7 +50,7 @@ record HearsLine (text : Text) (v : View) : Type 0 where
   cut : (front back : List ℕ) (octet : ℕ) → front ++ octet ∷ back ≡ written_line text → OnlyHeard v (hears v front)
   whole : hears v (written_line text) ≡ line_taken (line_heard v.gathered text) v
 
-hears_line : (text : Text) (v : View) → IsCarried text → v.ear ≡ quiet → HearsLine text v
+hears_line : (text : Text) (v : View) → CanBeCarried text → v.ear ≡ quiet → HearsLine text v
 hears_line text v is rest =
     let c : Closes reply_limit text = line_closes reply_limit text is.0 is.1 in
     let e : Ear = c.kept in
@@ -79,11 +79,11 @@ Gathers old (text ∷ texts) new = (next : Gathered) × (line_heard old text ≡
 abbrev on_wire : List Text → List ℕ
 on_wire texts = flat_map written_line texts
 
-goes_on : (v : View) (text : Text) (next : Gathered) → IsCarried text → v.ear ≡ quiet → line_heard v.gathered text ≡ GoesOn next
+goes_on : (v : View) (text : Text) (next : Gathered) → CanBeCarried text → v.ear ≡ quiet → line_heard v.gathered text ≡ GoesOn next
     → hears v (written_line text) ≡ with_lines next v
 goes_on v text next is rest heard = (hears_line text v is rest).whole ∙ ap (λ h. line_taken h v) heard
 
-gathered_whole : (v : View) (texts : List Text) (new : Gathered) → AllByRecursion IsCarried texts → v.ear ≡ quiet → Gathers v.gathered texts new
+gathered_whole : (v : View) (texts : List Text) (new : Gathered) → AllByRecursion CanBeCarried texts → v.ear ≡ quiet → Gathers v.gathered texts new
     → hears v (on_wire texts) ≡ with_lines new v
 gathered_whole v [] new all rest same = ap (λ g. with_lines g v) same
 gathered_whole v (text ∷ texts) new all rest more =
@@ -105,7 +105,7 @@ seam (c ∷ front) back (r ∷ row) rest octet e =
     ]
 
 -- lines that go on, and one more, cut anywhere
-gathered_cut : (v : View) (texts : List Text) (last : Text) (new : Gathered) (front back : List ℕ) (octet : ℕ) → AllByRecursion IsCarried texts → IsCarried last
+gathered_cut : (v : View) (texts : List Text) (last : Text) (new : Gathered) (front back : List ℕ) (octet : ℕ) → AllByRecursion CanBeCarried texts → CanBeCarried last
     → v.ear ≡ quiet → Gathers v.gathered texts new → front ++ octet ∷ back ≡ on_wire texts ++ written_line last → OnlyHeard v (hears v front)
 gathered_cut v [] last new front back octet all is rest same cut = (hears_line last v is rest).cut front back octet cut
 gathered_cut v (text ∷ texts) last new front back octet all is rest more cut =
@@ -130,7 +130,7 @@ record Leaves (old : Gathered) (front : List ℕ) : Type 0 where
   gathered : Gathered
   is : (v : View) → v.ear ≡ quiet → v.gathered ≡ old → hears v front ≡ with_lines gathered (with_ear ear v)
 
-line_leaves : (old : Gathered) (text : Text) (front back : List ℕ) (octet : ℕ) → IsCarried text → front ++ octet ∷ back ≡ written_line text → Leaves old front
+line_leaves : (old : Gathered) (text : Text) (front back : List ℕ) (octet : ℕ) → CanBeCarried text → front ++ octet ∷ back ≡ written_line text → Leaves old front
 line_leaves old text front back octet is cut =
     let c : Closes reply_limit text = line_closes reply_limit text is.0 is.1 in
     let said = front_says reply_limit quiet c.kept front (unended text) (front_of_front front back (unended text) octet 10 (cut ∙ written_is text)) c.keeps in
@@ -142,7 +142,7 @@ line_leaves old text front back octet is cut =
           ∙ ap (λ g. with_lines g (with_ear (after (ear reply_limit) quiet front) v)) same;
     }
 
-front_leaves : (old : Gathered) (texts : List Text) (last : Text) (new : Gathered) (front back : List ℕ) (octet : ℕ) → AllByRecursion IsCarried texts → IsCarried last
+front_leaves : (old : Gathered) (texts : List Text) (last : Text) (new : Gathered) (front back : List ℕ) (octet : ℕ) → AllByRecursion CanBeCarried texts → CanBeCarried last
     → Gathers old texts new → front ++ octet ∷ back ≡ on_wire texts ++ written_line last → Leaves old front
 front_leaves old [] last new front back octet all is same cut = line_leaves old last front back octet is cut
 front_leaves old (text ∷ texts) last new front back octet all is more cut =
@@ -244,9 +244,9 @@ wire_is (x ∷ xs) y = ap (λ l. written_line x ++ l) (wire_is xs y) ∙ sym (ap
 pub reply_is_heard : ReplyIsHeard
 reply_is_heard code texts v is rest =
     let g = is_gathered code texts is.code_is is.some is.within is.plain in
-    let carried : AllByRecursion IsCarried (g.begun ++ g.last ∷ []) = subst (AllByRecursion IsCarried) g.lines_are is.carried in
-    let front = all_front IsCarried g.begun (g.last ∷ []) carried in
-    let last = all_last IsCarried g.begun g.last carried in
+    let carried : AllByRecursion CanBeCarried (g.begun ++ g.last ∷ []) = subst (AllByRecursion CanBeCarried) g.lines_are is.carried in
+    let front = all_front CanBeCarried g.begun (g.last ∷ []) carried in
+    let last = all_last CanBeCarried g.begun g.last carried in
     let wire : octets_of code texts ≡ on_wire g.begun ++ written_line g.last = ap on_wire g.lines_are ∙ wire_is g.begun g.last in
     let goes : Gathers v.gathered g.begun g.gathered = (let P : Gathered → Type 0 = λ s. Gathers s g.begun g.gathered in subst P (sym rest.gathered) g.goes) in
     let w : View = with_lines g.gathered v in
@@ -264,10 +264,10 @@ reply_is_heard code texts v is rest =
 pub fronts_are_alike : FrontsAreAlike
 fronts_are_alike code texts front back octet is cut =
     let g = is_gathered code texts is.code_is is.some is.within is.plain in
-    let carried : AllByRecursion IsCarried (g.begun ++ g.last ∷ []) = subst (AllByRecursion IsCarried) g.lines_are is.carried in
+    let carried : AllByRecursion CanBeCarried (g.begun ++ g.last ∷ []) = subst (AllByRecursion CanBeCarried) g.lines_are is.carried in
     let wire : octets_of code texts ≡ on_wire g.begun ++ written_line g.last = ap on_wire g.lines_are ∙ wire_is g.begun g.last in
-    let l = front_leaves Between g.begun g.last g.gathered front back octet (all_front IsCarried g.begun (g.last ∷ []) carried)
-    (all_last IsCarried g.begun g.last carried) g.goes (cut ∙ wire) in
+    let l = front_leaves Between g.begun g.last g.gathered front back octet (all_front CanBeCarried g.begun (g.last ∷ []) carried)
+    (all_last CanBeCarried g.begun g.last carried) g.goes (cut ∙ wire) in
     record { ear = l.ear; gathered = l.gathered; is = λ v rest. l.is v rest.ear rest.gathered }
 
 pub row_is_heard : ClientHearsRow

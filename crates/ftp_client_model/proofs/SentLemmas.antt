@@ -17,7 +17,7 @@ use Rattle.ftp_operation.specs.declared.op.ListVerb.TheVariants as Verbs
 use Rattle.ftp_operation.specs.declared.op.Op.{Op}
 use Rattle.ftp_operation.specs.declared.op.Op.TheVariants as Ops
 use Rattle.ftp_settings.specs.declared.representation.Representation.{Representation}
-use Rattle.ftp_client_model.specs.Plan.{asked_settings, how_of, offset_of, asks_extended, is_extended, own_endpoint, port_command, passive_command, optional, own_command, set_command, restart_command, source_command, command_of}
+use Rattle.ftp_client_model.specs.Plan.{asked_settings, how_of, offset_of, may_ask_extended, is_extended, own_endpoint, port_command, passive_command, optional, own_command, set_command, restart_command, source_command, command_of}
 use Rattle.ftp_client_model.specs.Sent.{HasLine, IsNamable, CanSend, StepsHaveLines, LoginsHaveLines}
 use Rattle.ftp_client_model.specs.View.{View}
 use Rattle.ftp_client_model.specs.declared.client.Step.{Step}
@@ -145,7 +145,7 @@ port_line : (v : View) (op : Op (List ℕ)) → IsNamable v → HasLine (port_co
 port_line v op can =
     cond_both (is_extended v op) (Commands.Eprt (own_endpoint v)) (Commands.Port (own_endpoint v)) HasLine
     (λ extended. (can.some, (can.host, can.within)))
-    (λ plain. (is_v4 v.here (can.family ∙ (or_parts (asks_extended (how_of op)) (is_v6 v.peer) plain).1), (can.host, can.within)))
+    (λ plain. (is_v4 v.here (can.family ∙ (or_parts (may_ask_extended (how_of op)) (is_v6 v.peer) plain).1), (can.host, can.within)))
 
 passive_line : (extended : Bool) → HasLine (passive_command extended)
 passive_line true = (tt, tt)

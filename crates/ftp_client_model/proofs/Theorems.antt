@@ -8,7 +8,7 @@ use Rattle.ftp_operation.specs.declared.op.Op.TheVariants as Ops
 use Rattle.ftp_path.specs.Path.{is_path_text}
 use Rattle.ftp_client_model.specs.Calls.{begun, control_end, hears_octet, is_busy, is_sound, may_hear, may_receive, receives_octet, reply_limit, starts, uploads}
 use Rattle.ftp_client_model.specs.Failing.{begun_short, listen_refused_short, listening_short, no_port_short, opened_short, over_short, port_short, short, starts_short, uploads_short}
-use Rattle.ftp_client_model.specs.Held.{Call, Start, BeginUpload, Hear, DataHear, ControlOut, DataOut, Listening, DataOpened, Report, ControlEnd, ListenRefused, DataRefused, DataEnd, DataFault, DataClosed, Failing, ClientHoldsLittle, AreTypedCalls, IsTypedCall, called, called_all, failed_call}
+use Rattle.ftp_client_model.specs.Held.{ClientCall, Start, BeginUpload, Hear, DataHear, ControlOut, DataOut, Listening, DataOpened, Report, ControlEnd, ListenRefused, DataRefused, DataEnd, DataFault, DataClosed, Failing, ClientHoldsLittle, AreTypedCalls, IsTypedCall, called, called_all, failed_call}
 use Rattle.ftp_client_model.specs.Tries.{OverBreaks, Run, counts_as_file, first_try, run_of, whole_put}
 use Rattle.ftp_client_model.specs.View.{Waiting, View}
 use Rattle.ftp_client_model.specs.declared.client.ClientLink.{ClientLink}
@@ -90,7 +90,7 @@ over_short_fits (Data.Connecting endpoint) v k = k
 over_short_fits (Data.Accepting port) v k = k
 over_short_fits (Data.Over ending) v k = k
 
-pub failed_fits : (call : Call) (v : View) → IsTypedCall call → IsFit v → IsFit (failed_call call v)
+pub failed_fits : (call : ClientCall) (v : View) → IsTypedCall call → IsFit v → IsFit (failed_call call v)
 failed_fits (Start op) v typed k = cond_both (is_busy v) v (starts_short op v) IsFit (λ busy. k) (λ idle. begun_short_fits None op v idle (λ can. tt) k)
 failed_fits (BeginUpload u) v typed k = cond_both (is_busy v) v (uploads_short u v) IsFit (λ busy. k) (λ idle. begun_short_fits (Some (run_of u)) (first_try u) v idle (first_path u) k)
 failed_fits (Listening port) v typed k = cond_both (port == 0) (listen_refused_short v) (listening_short port v) IsFit (λ is. no_port_lost v k)
@@ -147,7 +147,7 @@ fit_holds_little stored v few k =
     let pass = leb-true (length v.pass) 255 (and_parts (nat_le (length v.pass) 255) _ s.pass_fits).0 in
     omega (arith, few, user, pass, s.reading.text, s.reading.count, s.reply, k.room)
 
-all_fit : (calls : List Call) (v : View) → AreTypedCalls calls → IsFit v → IsFit (called_all calls v)
+all_fit : (calls : List ClientCall) (v : View) → AreTypedCalls calls → IsFit v → IsFit (called_all calls v)
 all_fit [] v typed k = k
 all_fit (call ∷ calls) v typed k = all_fit calls (called call v) typed.1 (calls_stay_fit call v typed.0 k)
 

@@ -313,9 +313,9 @@ abbrev pub MayTake : (View → Bool) → (View → List ℕ → View) → View �
 MayTake may takes v piece count = (k : ℕ) → k < count → IsTrue (may (takes v (take k piece)))
 
 -- of `hear`
-abbrev pub MayHear : View → List ℕ → ℕ → Type 0
-MayHear v piece count = MayTake may_hear hears v piece count
+abbrev pub MayHearFront : View → List ℕ → ℕ → Type 0
+MayHearFront v piece count = MayTake may_hear hears v piece count
 
 -- of `data_hear`
-abbrev pub MayReceive : View → List ℕ → ℕ → Type 0
-MayReceive v piece count = MayTake may_receive receives v piece count
+abbrev pub MayReceiveFront : View → List ℕ → ℕ → Type 0
+MayReceiveFront v piece count = MayTake may_receive receives v piece count

@@ -3,5 +3,5 @@
 use Rattle.std.specs.Prelude.{◌≡◌, ◌⊎◌, ◌+◌, ◌%◌, ◌^◌, ℕ}
 
 -- the count stays, or moves on by one; 0 comes after the last of 64 bits
-abbrev pub CountsOn : (before after : ℕ) → Type 0
-CountsOn before after = (after ≡ before) ⊎ (after ≡ (before + 1) % 2 ^ 64)
+abbrev pub MovesByOneAtMost : (before after : ℕ) → Type 0
+MovesByOneAtMost before after = (after ≡ before) ⊎ (after ≡ (before + 1) % 2 ^ 64)

@@ -211,15 +211,15 @@ refused_answer ending code op flow =
     if code == NO_CONNECTION then Some Unopened else (if code == BROKEN then broken_off_answer ending op flow else Some (Refused code))
 
 -- 4yz or 5yz (RFC 959, section 4.2.1)
-abbrev pub is_refusal : ℕ → Bool
-is_refusal code = nat_le 400 code
+abbrev pub is_refusal_code : ℕ → Bool
+is_refusal_code code = nat_le 400 code
 
 -- a transfer's answer, from its final reply and its link's end: another host first, then a Peek that sent its ABOR, whatever the
 -- final reply says, then a refusal, whatever became of the link
 abbrev pub judged : Ending → Abort → ℕ → Op (List ℕ) → Flow → Option Said
 judged Endings.Foreign abort code op flow = Some Foreign
 judged ending Aborts.Answered code op flow = content_answer op (settled_of flow)
-judged ending abort code op flow = if is_refusal code then refused_answer ending code op flow else ended_answer ending op flow
+judged ending abort code op flow = if is_refusal_code code then refused_answer ending code op flow else ended_answer ending op flow
 
 -- it is answered when its final reply and its link's end are both in, and the reply to its ABOR, where it sent one
 abbrev pub answers_by : Replied → Abort → ClientLink → Op (List ℕ) → Flow → View → View

@@ -4,7 +4,7 @@
 use Rattle.std.specs.Prelude.{◌≡◌, ◌≢◌, ◌==◌, ◌&&◌, ℕ, ◌+◌, ◌≤◌, List, take, Option, Some, None, if◌then◌else◌}
 use Rattle.ftp_operation.specs.Operation.{can_be_sent}
 use Rattle.ftp_operation.specs.declared.op.Op.{Op}
-use Rattle.ftp_client_model.specs.Calls.{hears, receives, begun, is_sound, unless_closing, MayHear, MayReceive}
+use Rattle.ftp_client_model.specs.Calls.{hears, receives, begun, is_sound, unless_closing, MayHearFront, MayReceiveFront}
 use Rattle.ftp_client_model.specs.Tries.{OverBreaks, Run, run_of, first_try}
 use Rattle.ftp_client_model.specs.View.{View, Waiting, fails}
 use Rattle.ftp_client_model.specs.declared.client.Ending.TheVariants as Endings
@@ -22,7 +22,7 @@ pub record HearsShort (old : View) (piece : List ℕ) (count : ℕ) (new : View)
   pub taken : ℕ
   pub least : taken ≤ count
   pub most : count ≤ taken + 1
-  pub may : MayHear old piece taken
+  pub may : MayHearFront old piece taken
   pub is : new ≡ short (hears old (take taken piece))
 
 -- so did `data_hear`
@@ -30,7 +30,7 @@ pub record ReceivesShort (old : View) (piece : List ℕ) (count : ℕ) (new : Vi
   pub taken : ℕ
   pub least : taken ≤ count
   pub most : count ≤ taken + 1
-  pub may : MayReceive old piece taken
+  pub may : MayReceiveFront old piece taken
   pub is : new ≡ short (receives old (take taken piece))
 
 -- of `start` and `upload`: only of an operation that can be sent, by a client that has not failed; else it is as if no growth had
@@ -120,11 +120,11 @@ HoldsIfRoom old new view short = (new.refusals ≡ old.refusals → new.view ≡
 -- `hear` took so many octets of a piece, each of which could be taken when its turn came
 abbrev pub HearsIfRoom : (old new : Client) → (piece : List ℕ) → (count : ℕ) → Type 0
 HearsIfRoom old new piece count =
-    (new.refusals ≡ old.refusals → (new.view ≡ hears old.view (take count piece)) × MayHear old.view piece count)
+    (new.refusals ≡ old.refusals → (new.view ≡ hears old.view (take count piece)) × MayHearFront old.view piece count)
     × (new.refusals ≢ old.refusals → HearsShort old.view piece count new.view)
 
 -- so did `data_hear`
 abbrev pub ReceivesIfRoom : (old new : Client) → (piece : List ℕ) → (count : ℕ) → Type 0
 ReceivesIfRoom old new piece count =
-    (new.refusals ≡ old.refusals → (new.view ≡ receives old.view (take count piece)) × MayReceive old.view piece count)
+    (new.refusals ≡ old.refusals → (new.view ≡ receives old.view (take count piece)) × MayReceiveFront old.view piece count)
     × (new.refusals ≢ old.refusals → ReceivesShort old.view piece count new.view)

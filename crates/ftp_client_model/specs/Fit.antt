@@ -44,16 +44,16 @@ IsTypedPort (Data.Listening port) = port < 65536
 IsTypedPort connection = Unit {0}
 
 -- no operation is under way
-abbrev pub IsCalm : Job → Type 0
-IsCalm (Doing op step) = ⊥
-IsCalm (Transferring op transfer) = ⊥
-IsCalm job = Unit {0}
+abbrev pub HasNoOperation : Job → Type 0
+HasNoOperation (Doing op step) = ⊥
+HasNoOperation (Transferring op transfer) = ⊥
+HasNoOperation job = Unit {0}
 
 -- none is before the end of the login
 abbrev pub IsCalmAt : Standing → Job → Type 0
-IsCalmAt Stands.Greeting job = IsCalm job
-IsCalmAt Stands.User job = IsCalm job
-IsCalmAt Stands.Pass job = IsCalm job
+IsCalmAt Stands.Greeting job = HasNoOperation job
+IsCalmAt Stands.User job = HasNoOperation job
+IsCalmAt Stands.Pass job = HasNoOperation job
 IsCalmAt standing job = Unit {0}
 
 -- the operation waits for a port to listen at, or for a link that the client opens
@@ -72,7 +72,7 @@ IsTied (Data.Connecting endpoint) job = IsDialling job
 IsTied connection job = Unit {0}
 
 -- what does not change with a command
-pub record IsSound (user pass : List ℕ) (here : Host) (run : Option Run) (connection : ClientLink) (ear : Ear) (gathered : Gathered) : Type 0 where
+pub record IsSoundLogin (user pass : List ℕ) (here : Host) (run : Option Run) (connection : ClientLink) (ear : Ear) (gathered : Gathered) : Type 0 where
   pub user_fits : IsTrue (is_user user)
   pub pass_fits : IsTrue (is_password pass)
   pub host : IsTypedHost here
@@ -83,7 +83,7 @@ pub record IsSound (user pass : List ℕ) (here : Host) (run : Option Run) (conn
 
 -- of a view
 abbrev pub IsSoundView : View → Type 0
-IsSoundView v = IsSound v.user v.pass v.here v.run v.connection v.ear v.gathered
+IsSoundView v = IsSoundLogin v.user v.pass v.here v.run v.connection v.ear v.gathered
 
 -- ---- how many commands may follow before another reply is heard: one at most
 
@@ -110,8 +110,8 @@ commands_next standing (Transferring op transfer) = next_of_transfer transfer.ab
 abbrev pub command_limit : ℕ
 command_limit = 2200
 
-abbrev pub owed_limit : ℕ
-owed_limit = 1027 + command_limit
+abbrev pub owed_with_command : ℕ
+owed_with_command = 1027 + command_limit
 
 -- ---- all of it
 
@@ -121,4 +121,4 @@ pub record IsFit (v : View) : Type 0 where
   pub sendable : IsSendable v.job
   pub calm : IsCalmAt v.standing v.job
   pub tied : IsTied v.connection v.job
-  pub room : length v.owed + command_limit * commands_next v.standing v.job ≤ owed_limit
+  pub room : length v.owed + command_limit * commands_next v.standing v.job ≤ owed_with_command

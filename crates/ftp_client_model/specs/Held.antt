@@ -32,8 +32,8 @@ abbrev pub talk_len : View → ℕ
 talk_len v = length v.user + length v.pass + (length v.ear.line.text + (gathered_len v.gathered + length v.owed))
 
 -- the most octets that a transfer stores: a block as it is filled and written
-abbrev pub stored_limit : ℕ
-stored_limit = encoder_limit
+abbrev pub block_stored_limit : ℕ
+block_stored_limit = encoder_limit
 
 -- all of it, where so many octets are stored of a transfer; the line that the server said last has its room at any time
 abbrev pub held : ℕ → View → ℕ
@@ -42,18 +42,18 @@ held stored v = stored + (talk_len v + kept_limit)
 -- ---- after every list of calls
 
 -- a call of a client, octet by octet; `Failing`: the same with a growth refused
-pub data Call : Type 0 where
-  Start : (op : Op (List ℕ)) → Call
-  BeginUpload : (upload : OverBreaks) → Call
-  Hear DataHear : (octet : ℕ) → Call
-  ControlOut DataOut : (count : ℕ) → Call
-  Listening : (port : ℕ) → Call
-  DataOpened : (host : Host) → Call
-  Report ControlEnd ListenRefused DataRefused DataEnd DataFault DataClosed : Call
-  Failing : (call : Call) → Call
+pub data ClientCall : Type 0 where
+  Start : (op : Op (List ℕ)) → ClientCall
+  BeginUpload : (upload : OverBreaks) → ClientCall
+  Hear DataHear : (octet : ℕ) → ClientCall
+  ControlOut DataOut : (count : ℕ) → ClientCall
+  Listening : (port : ℕ) → ClientCall
+  DataOpened : (host : Host) → ClientCall
+  Report ControlEnd ListenRefused DataRefused DataEnd DataFault DataClosed : ClientCall
+  Failing : (call : ClientCall) → ClientCall
 
 -- a growth was refused in it
-abbrev pub failed_call : Call → View → View
+abbrev pub failed_call : ClientCall → View → View
 failed_call (Start op) v = if is_busy v then v else starts_short op v
 failed_call (BeginUpload upload) v = if is_busy v then v else uploads_short upload v
 failed_call (Listening port) v = port_told_short port v
@@ -64,7 +64,7 @@ failed_call (DataHear octet) v = short v
 failed_call other v = v
 
 -- the view behind a call; what is refused, and an octet that may not be taken, changes nothing
-abbrev pub called : Call → View → View
+abbrev pub called : ClientCall → View → View
 called (Start op) v = if is_busy v then v else starts op v
 called (BeginUpload upload) v = if is_busy v then v else uploads upload v
 called (Hear octet) v = if may_hear v then hears_octet v octet else v
@@ -83,24 +83,24 @@ called DataClosed v = data_closed v
 called (Failing call) v = failed_call call v
 
 -- calls in order
-abbrev pub called_all : List Call → View → View
+abbrev pub called_all : List ClientCall → View → View
 called_all [] v = v
 called_all (call ∷ calls) v = called_all calls (called call v)
 
 -- a port has 16 bits
-abbrev pub IsTypedCall : Call → Type 0
+abbrev pub IsTypedCall : ClientCall → Type 0
 IsTypedCall (Listening port) = port < 65536
 IsTypedCall (Failing call) = IsTypedCall call
 IsTypedCall call = Unit {0}
 
 -- so has that of each of these calls
-abbrev pub AreTypedCalls : List Call → Type 0
+abbrev pub AreTypedCalls : List ClientCall → Type 0
 AreTypedCalls [] = Unit {0}
 AreTypedCalls (call ∷ calls) = IsTypedCall call × AreTypedCalls calls
 
 -- whatever is called, a client never holds more, whatever it may store of a transfer
 abbrev pub ClientHoldsLittle : Type 0
 ClientHoldsLittle =
-    (user pass : List ℕ) (here peer : Host) (calls : List Call) (stored : ℕ)
+    (user pass : List ℕ) (here peer : Host) (calls : List ClientCall) (stored : ℕ)
     → IsTrue (is_user user) → IsTrue (is_password pass) → IsTypedHost here → AreTypedCalls calls
-    → stored ≤ stored_limit → held stored (called_all calls (client user pass here peer)) ≤ held_limit
+    → stored ≤ block_stored_limit → held stored (called_all calls (client user pass here peer)) ≤ held_limit

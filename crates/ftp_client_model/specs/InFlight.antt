@@ -2,7 +2,7 @@
 -- as nothing else, wherever its octets are cut (RFC 854; RFC 959, section 4.2).
 use Rattle.std.specs.Prelude.{◌≡◌, ◌≤◌, ◌<◌, ◌+◌, ℕ, List, [], ◌∷◌, ◌++◌, length}
 use Rattle.std.specs.List.{flat_map, AllByRecursion}
-use Rattle.ftp_nvt.specs.Lines.{Lacks}
+use Rattle.ftp_nvt.specs.Lines.{IsNoneOf}
 use Rattle.ftp_nvt.specs.declared.line.TheConstants.{LF}
 use Rattle.ftp_nvt.specs.declared.telnet.TheConstants.{WONT, DONT}
 use Rattle.ftp_reply.specs.Lines.{Text, AreWithin}
@@ -12,7 +12,7 @@ use Rattle.ftp_client_model.specs.Calls.{hears, may_hear}
 use Rattle.ftp_client_model.specs.Dialogue.{answered}
 use Rattle.ftp_reply.specs.Reader.{Gathered, Between}
 use Rattle.ftp_client_model.specs.View.{View}
-pub use Rattle.ftp_ends.specs.Reply.{reply_octets, IsCarried, IsWritten}
+pub use Rattle.ftp_ends.specs.Reply.{reply_octets, CanBeCarried, IsWritten}
 
 -- octets are heard alike in any pieces
 abbrev pub ClientHearsInPieces : Type 0

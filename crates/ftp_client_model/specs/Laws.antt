@@ -4,7 +4,7 @@ use Rattle.ftp_endpoint.specs.declared.host.Host.{Host}
 use Rattle.ftp_endpoint.specs.Written.{IsTypedHost}
 use Rattle.ftp_ends.specs.Limits.{held_limit}
 use Rattle.ftp_operation.specs.Account.{is_user, is_password}
-use Rattle.ftp_client_model.specs.Held.{Call, IsTypedCall, called, held, stored_limit}
+use Rattle.ftp_client_model.specs.Held.{ClientCall, IsTypedCall, called, held, block_stored_limit}
 use Rattle.ftp_client_model.specs.View.{View, client}
 use Rattle.ftp_client_model.specs.Fit.{IsFit}
 
@@ -14,8 +14,8 @@ StartIsFit = (user pass : List ℕ) (here peer : Host) → IsTrue (is_user user)
 
 -- and after each call, with a growth refused too
 abbrev pub CallsStayFit : Type 0
-CallsStayFit = (call : Call) (v : View) → IsTypedCall call → IsFit v → IsFit (called call v)
+CallsStayFit = (call : ClientCall) (v : View) → IsTypedCall call → IsFit v → IsFit (called call v)
 
 -- so it holds no more than it may, whatever it may store of a transfer
 abbrev pub FitHoldsLittle : Type 0
-FitHoldsLittle = (stored : ℕ) (v : View) → stored ≤ stored_limit → IsFit v → held stored v ≤ held_limit
+FitHoldsLittle = (stored : ℕ) (v : View) → stored ≤ block_stored_limit → IsFit v → held stored v ≤ held_limit

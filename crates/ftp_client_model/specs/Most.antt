@@ -4,9 +4,9 @@ use Rattle.ftp_client_model.specs.Calls.{may_hear, may_receive}
 use Rattle.ftp_client_model.specs.View.{View}
 
 -- control octets: so many of them is all, or behind them no further one may be taken
-abbrev pub IsMostHeard : ℕ → List ℕ → View → Type 0
-IsMostHeard count octets v = (count ≡ length octets) ⊎ (may_hear v ≡ false)
+abbrev pub IsMostOfReplies : ℕ → List ℕ → View → Type 0
+IsMostOfReplies count octets v = (count ≡ length octets) ⊎ (may_hear v ≡ false)
 
 -- data octets: the same
-abbrev pub IsMostReceived : ℕ → List ℕ → View → Type 0
-IsMostReceived count octets v = (count ≡ length octets) ⊎ (may_receive v ≡ false)
+abbrev pub IsMostOfDownload : ℕ → List ℕ → View → Type 0
+IsMostOfDownload count octets v = (count ≡ length octets) ⊎ (may_receive v ≡ false)

@@ -141,13 +141,13 @@ settings_behind step now (Some wanted) = settings_behind_by step now wanted
 -- ---- the command of each step
 
 -- a transfer may ask for EPRT and EPSV
-abbrev pub asks_extended : Option How → Bool
-asks_extended None = false
-asks_extended (Some how) = how.extended
+abbrev pub may_ask_extended : Option How → Bool
+may_ask_extended None = false
+may_ask_extended (Some how) = how.extended
 
 -- EPRT or EPSV is sent, and not PORT or PASV
 abbrev pub is_extended : View → Op (List ℕ) → Bool
-is_extended v op = asks_extended (how_of op) || is_v6 v.peer
+is_extended v op = may_ask_extended (how_of op) || is_v6 v.peer
 
 -- the port that is listened at
 abbrev pub port_of : ClientLink → ℕ

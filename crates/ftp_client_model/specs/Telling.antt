@@ -42,13 +42,13 @@ abbrev pub line_with : Ear → ℕ → List ℕ → List ℕ
 line_with e octet last = line_behind ((ear reply_limit).out e octet) last
 
 -- octets of the control connection, one by one: `v` is what the client holds before them
-abbrev pub last_line : View → List ℕ → List ℕ → List ℕ
-last_line v [] last = last
-last_line v (octet ∷ octets) last = last_line (hears_octet v octet) octets (line_with v.ear octet last)
+abbrev pub last_line_heard : View → List ℕ → List ℕ → List ℕ
+last_line_heard v [] last = last
+last_line_heard v (octet ∷ octets) last = last_line_heard (hears_octet v octet) octets (line_with v.ear octet last)
 
 -- `hear` took these octets
 abbrev pub hears_told : View → List ℕ → Told → Told
-hears_told v octets t = record t { line = last_line v octets t.line }
+hears_told v octets t = record t { line = last_line_heard v octets t.line }
 
 -- ---- what came
 
@@ -70,14 +70,14 @@ brings_file (Ops.Peek path count how) = true
 brings_file other = false
 
 -- the octets that an answer brings
-abbrev pub octets_in : Option Said → List ℕ
-octets_in (Some (Octets octets)) = octets
-octets_in (Some (Broken got mark)) = got
-octets_in other = []
+abbrev pub octets_answered : Option Said → List ℕ
+octets_answered (Some (Octets octets)) = octets
+octets_answered (Some (Broken got mark)) = got
+octets_answered other = []
 
 -- what came of a transfer that is cut, as its answer would have it: of a file
 abbrev pub came_in : Op (List ℕ) → Flow → List ℕ
-came_in op flow = if brings_file op then octets_in (cut_answer op flow) else []
+came_in op flow = if brings_file op then octets_answered (cut_answer op flow) else []
 
 -- of the transfer under way; without one there is none
 abbrev pub came_of : Job → Option (List ℕ)

@@ -3,10 +3,10 @@ ghost use Rattle.std.specs.Prelude.{◌≡◌, ◌<◌, ◌≤◌, ℕ, List, So
 ghost use Rattle.ftp_operation.specs.declared.op.Op.{Op};
 ghost use Rattle.ftp_operation.specs.Answer.{said_of};
 ghost use Rattle.ftp_client_model.specs.Calls.{starts, uploads, is_busy, handed_back, report_of, reports, gives_control, may_hear, control_end, listen_refused, port_told, data_opened, data_refused, data_end, data_fault, data_closed, gives_data, to_give, may_receive, wants};
-ghost use Rattle.ftp_client_model.specs.Counting.{CountsOn};
+ghost use Rattle.ftp_client_model.specs.Counting.{MovesByOneAtMost};
 ghost use Rattle.ftp_client_model.specs.Failing.{Client, Holds, HoldsIfRoom, HearsIfRoom, ReceivesIfRoom, starts_short, uploads_short, short, listen_refused_short, port_told_short, data_opened_short, data_refused_short, data_end_short, data_fault_short};
 ghost use Rattle.ftp_client_model.specs.Growing.{giving_grows};
-ghost use Rattle.ftp_client_model.specs.Most.{IsMostHeard, IsMostReceived};
+ghost use Rattle.ftp_client_model.specs.Most.{IsMostOfReplies, IsMostOfDownload};
 ghost use Rattle.ftp_client_model.specs.Telling.{Told, anew, begins_told, ends_told, hears_told};
 ghost use Rattle.ftp_client_model.specs.Tries.{over_breaks};
 ghost use Rattle.ftp_ends.specs.Octets.{has_octets};
@@ -43,7 +43,7 @@ pub trait Near<A: Allocator + Copy>: Drop {
         ensures told { told self.new ≡ begins_told (is_busy (client self.old).view) op.old (told self.old) }
         // Witness of counted: the count of refused growths before the call to that after it: it stays, or moves on by one, wrapping (`Counting`)
         // `a_refused_growth_is_counted_twice` of `ftp_client`.
-        ensures counted { CountsOn (client self.old).refusals (client self.new).refusals };
+        ensures counted { MovesByOneAtMost (client self.old).refusals (client self.new).refusals };
 
     /// Begins an upload that goes on after breaks, and has one report (own choice: at most 16 tries). `texts` has the path and the octets; they are
     /// taken as `begin` takes an operation. An end has this call; who owns one has `upload`.
@@ -58,7 +58,7 @@ pub trait Near<A: Allocator + Copy>: Drop {
         // Witness of told: as of `begin`.
         ensures told { told self.new ≡ begins_told (is_busy (client self.old).view) texts.old (told self.old) }
         // Witness of counted: as of `begin`.
-        ensures counted { CountsOn (client self.old).refusals (client self.new).refusals };
+        ensures counted { MovesByOneAtMost (client self.old).refusals (client self.new).refusals };
 
     /// The report of the operation, if it is done; it is given once.
     fn report(&mut self) -> Option<Answer<A>>
@@ -76,13 +76,13 @@ pub trait Near<A: Allocator + Copy>: Drop {
         ensures some { IsTrue (may_hear (client self.old).view) → 0 < length piece.now → 0 < result }
 
         // Where no growth was refused it takes all of them, or as many as it may.
-        ensures most { (client self.new).refusals ≡ (client self.old).refusals → IsMostHeard result piece.now (client self.new).view }
+        ensures most { (client self.new).refusals ≡ (client self.old).refusals → IsMostOfReplies result piece.now (client self.new).view }
 
         // The line is that of the last one that these octets ended, where a growth was refused too.
         // Witness of told: as of `begin`.
         ensures told { told self.new ≡ hears_told (client self.old).view (take result piece.now) (told self.old) }
         // Witness of counted: as of `begin`.
-        ensures counted { CountsOn (client self.old).refusals (client self.new).refusals };
+        ensures counted { MovesByOneAtMost (client self.old).refusals (client self.new).refusals };
 
     /// Gives octets of the control connection, and says how many. Takes no memory.
     fn control_out(&mut self, room: &mut [u8]) -> usize
@@ -112,7 +112,7 @@ pub trait Near<A: Allocator + Copy>: Drop {
         // Witness of told: as of `begin`.
         ensures told { told self.new ≡ told self.old }
         // Witness of counted: as of `begin`.
-        ensures counted { CountsOn (client self.old).refusals (client self.new).refusals };
+        ensures counted { MovesByOneAtMost (client self.old).refusals (client self.new).refusals };
 
     /// No port was had.
     fn listen_refused(&mut self)
@@ -121,7 +121,7 @@ pub trait Near<A: Allocator + Copy>: Drop {
         // Witness of told: as of `begin`.
         ensures told { told self.new ≡ told self.old }
         // Witness of counted: as of `begin`.
-        ensures counted { CountsOn (client self.old).refusals (client self.new).refusals };
+        ensures counted { MovesByOneAtMost (client self.old).refusals (client self.new).refusals };
 
     /// The link is open; this host is at its other end.
     fn data_opened(&mut self, host: Host)
@@ -130,7 +130,7 @@ pub trait Near<A: Allocator + Copy>: Drop {
         // Witness of told: as of `begin`.
         ensures told { told self.new ≡ told self.old }
         // Witness of counted: as of `begin`.
-        ensures counted { CountsOn (client self.old).refusals (client self.new).refusals };
+        ensures counted { MovesByOneAtMost (client self.old).refusals (client self.new).refusals };
 
     /// The link was not had.
     fn data_refused(&mut self)
@@ -139,7 +139,7 @@ pub trait Near<A: Allocator + Copy>: Drop {
         // Witness of told: as of `begin`.
         ensures told { told self.new ≡ told self.old }
         // Witness of counted: as of `begin`.
-        ensures counted { CountsOn (client self.old).refusals (client self.new).refusals };
+        ensures counted { MovesByOneAtMost (client self.old).refusals (client self.new).refusals };
 
     /// Takes octets of the link, and says how many.
     fn data_hear(&mut self, piece: &[u8]) -> usize
@@ -149,11 +149,11 @@ pub trait Near<A: Allocator + Copy>: Drop {
         ensures some { IsTrue (may_receive (client self.old).view) → 0 < length piece.now → 0 < result }
 
         // Where no growth was refused it takes all of them, or as many as it may.
-        ensures most { (client self.new).refusals ≡ (client self.old).refusals → IsMostReceived result piece.now (client self.new).view }
+        ensures most { (client self.new).refusals ≡ (client self.old).refusals → IsMostOfDownload result piece.now (client self.new).view }
         // Witness of told: as of `begin`.
         ensures told { told self.new ≡ told self.old }
         // Witness of counted: as of `begin`.
-        ensures counted { CountsOn (client self.old).refusals (client self.new).refusals };
+        ensures counted { MovesByOneAtMost (client self.old).refusals (client self.new).refusals };
 
     /// The other end closed the link.
     fn data_end(&mut self)
@@ -162,7 +162,7 @@ pub trait Near<A: Allocator + Copy>: Drop {
         // Witness of told: as of `begin`.
         ensures told { told self.new ≡ told self.old }
         // Witness of counted: as of `begin`.
-        ensures counted { CountsOn (client self.old).refusals (client self.new).refusals };
+        ensures counted { MovesByOneAtMost (client self.old).refusals (client self.new).refusals };
 
     /// The link broke.
     fn data_fault(&mut self)
@@ -171,7 +171,7 @@ pub trait Near<A: Allocator + Copy>: Drop {
         // Witness of told: as of `begin`.
         ensures told { told self.new ≡ told self.old }
         // Witness of counted: as of `begin`.
-        ensures counted { CountsOn (client self.old).refusals (client self.new).refusals };
+        ensures counted { MovesByOneAtMost (client self.old).refusals (client self.new).refusals };
 
     /// Gives octets of the link, and says how many.
     fn data_out(&mut self, room: &mut [u8]) -> usize
@@ -190,7 +190,7 @@ pub trait Near<A: Allocator + Copy>: Drop {
         // Witness of told: as of `begin`.
         ensures told { told self.new ≡ told self.old }
         // Witness of counted: as of `begin`.
-        ensures counted { CountsOn (client self.old).refusals (client self.new).refusals };
+        ensures counted { MovesByOneAtMost (client self.old).refusals (client self.new).refusals };
 
     /// A close that it wanted is done.
     fn data_closed(&mut self)

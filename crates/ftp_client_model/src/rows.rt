@@ -1,9 +1,9 @@
 //! Worked rows of a client: functions that do nothing, whose contracts are rows of `specs/client/Rows`.
-ghost use Rattle.ftp_client_model.specs.Rows.{ActiveDownload, ActiveReport, BrokenDownload, BrokenUpload, Endpoints, Judged, LogsIn, LongGreeting, MarkRead, Moment, NamesRead, NotOpened, OtherHosts, OtherOrders, OwnCode, PassiveDownload, PassiveUpload, PassivePort, PeekAborts, PeekEnds, PeekFails, PeekOrders, PeekUnaborted, Quoted, Renames, TwoCodes, Unasked, Unsendable, UploadBeginsAnew, UploadGivesUp, UploadInTypeA, UploadResumes};
+ghost use Rattle.ftp_client_model.specs.Rows.{ActiveDownload, ActiveReport, BrokenDownload, BrokenUpload, Endpoints, Judged, AnswersGreeting, LongGreeting, MarkRead, ReadsMoment, NamesRead, NotOpened, OtherHosts, OtherOrders, OwnCode, PassiveDownload, PassiveUpload, PassivePort, PeekAborts, PeekEnds, PeekFails, PeekOrders, PeekUnaborted, Quoted, Renames, TwoCodes, Unasked, Unsendable, UploadBeginsAnew, UploadGivesUp, UploadInTypeA, UploadResumes};
 
 /// The greeting is answered with USER, and a 331 with PASS.
 pub fn login()
-    ensures { LogsIn }
+    ensures { AnswersGreeting }
 {}
 
 /// A greeting of several lines is one reply, octet by octet.
@@ -53,7 +53,7 @@ pub fn two_codes()
 
 /// A moment is read without its fraction.
 pub fn moment()
-    ensures { Moment }
+    ensures { ReadsMoment }
 {}
 
 /// A reply that nobody waits for is strange.

@@ -20,15 +20,15 @@ use Rattle.ftp_client_session.specs.declared.task.Task.TheVariants as Places
 use Rattle.ftp_client_session.specs.declared.task.Transfer.{Transfer}
 
 -- a transfer, by how what it carries is seen
-abbrev pub transfer_of : {F : Type 0} → (Op (List ℕ) → F → Flow) → Op (List ℕ) → Transfer F → Moved
-transfer_of flow op transfer = record { replied = transfer.replied; abort = transfer.abort; flow = flow op transfer.flow }
+abbrev pub transfer_seen : {F : Type 0} → (Op (List ℕ) → F → Flow) → Op (List ℕ) → Transfer F → Moved
+transfer_seen flow op transfer = record { replied = transfer.replied; abort = transfer.abort; flow = flow op transfer.flow }
 
 -- an operation and its place
 abbrev pub job_of : {A F : Type 0} → (Op (List ℕ) → F → Flow) → Op (List ℕ) → Task A F → Job
 job_of flow op Places.Idle = Idle
 job_of flow op Places.Waiting = Waiting op
 job_of flow op (Places.Doing step) = Doing op step
-job_of flow op (Places.Transferring transfer) = Transferring op (transfer_of flow op transfer)
+job_of flow op (Places.Transferring transfer) = Transferring op (transfer_seen flow op transfer)
 job_of flow op (Places.Told answer) = Told (said_of answer)
 
 -- after a failure nothing is being heard any more
@@ -74,9 +74,9 @@ job_noted mark (Transferring op transfer) = Transferring op (record transfer { f
 job_noted mark job = job
 
 -- the octets that are still to give
-abbrev pub job_left : Job → List ℕ
-job_left (Transferring op transfer) = left_of transfer.flow
-job_left job = []
+abbrev pub octets_of_job : Job → List ℕ
+octets_of_job (Transferring op transfer) = left_of transfer.flow
+octets_of_job job = []
 
 -- octets came
 abbrev pub job_heard : List ℕ → Job → Job

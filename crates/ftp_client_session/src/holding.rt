@@ -1,7 +1,7 @@
 // How many octets a client holds, beside the texts of an operation and what its report brings (own choice of the limits).
 ghost use Rattle.std.specs.Prelude.{◌≡◌, ◌+◌, ◌≤◌, length};
 ghost use Rattle.ftp_ends.specs.Limits.{held_limit};
-ghost use Rattle.ftp_client_model.specs.Held.{gathered_len, stored_limit, talk_len};
+ghost use Rattle.ftp_client_model.specs.Held.{gathered_len, block_stored_limit, talk_len};
 ghost use Rattle.ftp_client_session.specs.Stored.{stored_in};
 
 use crate::dialogue::Dialogue;
@@ -42,7 +42,7 @@ impl<A: Allocator + Copy, F: CountedTransfer<A>> Dialogue<A, F> {
         // Witness of sum: an equation, with what the impl of `CountedTransfer` says by its fields.
         ensures sum { result ≡ stored_in F.stored self.now.place }
         // Witness of few: `Client::held` of `ftp_client` needs it.
-        ensures few { result ≤ stored_limit }
+        ensures few { result ≤ block_stored_limit }
     {
         match &self.place {
             Task::Transferring(transfer) => transfer.flow.stored_len(),

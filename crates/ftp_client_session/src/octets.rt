@@ -14,7 +14,7 @@ use ftp_ends::Wants;
 use std::alloc::Allocator;
 
 impl<A: Allocator + Copy, F: ClientTransfer<A>> Dialogue<A, F> {
-    ghost use Rattle.ftp_client_session.specs.Client.{job_left, job_went, shorted, view_of};
+    ghost use Rattle.ftp_client_session.specs.Client.{octets_of_job, job_went, shorted, view_of};
 
     /// Whether octets may be taken: of a download whose command was sent, while its link is open.
     pub fn may_receive(&self) -> bool
@@ -120,7 +120,7 @@ impl<A: Allocator + Copy, F: ClientTransfer<A>> Dialogue<A, F> {
 
     /// Whether octets of an upload may be given: its transfer has begun, and its link is open.
     fn may_give(&self) -> bool
-        ensures { to_give (view_of F.flow self.now) ≡ (if result then job_left (view_of F.flow self.now).job else []) }
+        ensures { to_give (view_of F.flow self.now) ≡ (if result then octets_of_job (view_of F.flow self.now).job else []) }
     {
         if self.closing {
             return false;

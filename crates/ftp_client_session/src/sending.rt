@@ -2,7 +2,7 @@
 ghost use Rattle.std.specs.Prelude.{◌≡◌, ◌++◌, IfOk, IsTrue, OnErr, OnOk, option_map};
 ghost use Rattle.ftp_client_model.specs.Calls.{is_sound};
 ghost use Rattle.ftp_client_model.specs.Dialogue.{begins, goes_on, last_job, placed, sends, sends_if};
-ghost use Rattle.ftp_client_model.specs.Plan.{asks_extended, command_of, is_extended, own_endpoint, port_of};
+ghost use Rattle.ftp_client_model.specs.Plan.{may_ask_extended, command_of, is_extended, own_endpoint, port_of};
 ghost use Rattle.ftp_client_model.specs.View.{Doing, Transferring};
 ghost use Rattle.ftp_command.specs.Line.{line_of};
 ghost use Rattle.ftp_nvt.specs.Lines.{written_line};
@@ -164,7 +164,7 @@ fn owe<A: Allocator + Copy>(
 
 /// Whether EPRT or EPSV was asked for.
 fn asks_extended(how: Option<How>) -> bool
-    ensures { result ≡ asks_extended how }
+    ensures { result ≡ may_ask_extended how }
 {
     match how {
         None => false,

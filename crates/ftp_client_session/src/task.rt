@@ -48,7 +48,7 @@ impl<A: Allocator + Copy, F: Drop> Drop for Task<A, F> {
 
 impl<A: Allocator + Copy, F: ClientTransfer<A>> Task<A, F> {
     ghost use Rattle.ftp_client_session.specs.Calm.{is_under_way};
-    ghost use Rattle.ftp_client_session.specs.Client.{JobNotYet, job_heard, job_left, job_noted, job_of, job_unsent, job_went};
+    ghost use Rattle.ftp_client_session.specs.Client.{JobNotYet, job_heard, octets_of_job, job_noted, job_of, job_unsent, job_went};
     ghost use Rattle.ftp_client_session.specs.Judged.{job_is_down, job_judged};
 
     /// Notes the mmmm of a 110 reply to an upload.
@@ -64,12 +64,12 @@ impl<A: Allocator + Copy, F: ClientTransfer<A>> Task<A, F> {
     /// Gives octets of an upload, and says how many.
     pub(crate) fn give(&mut self, op: &Op<Text<A>>, room: &mut [u8]) -> usize
         // Witness of within, gave, some, most: bounds, and equations.
-        ensures within { (result ≤ length room.old) × (result ≤ length (job_left (job_of F.flow op.now self.old))) }
-        ensures gave { take result room.new ≡ take result (job_left (job_of F.flow op.now self.old)) }
+        ensures within { (result ≤ length room.old) × (result ≤ length (octets_of_job (job_of F.flow op.now self.old))) }
+        ensures gave { take result room.new ≡ take result (octets_of_job (job_of F.flow op.now self.old)) }
         // Witness of now: equations; `edits/upload_octets_are_given_before_the_1yz`.
         ensures now { job_of F.flow op.now self.new ≡ job_went result (job_of F.flow op.now self.old) }
-        ensures some { 0 < length room.old → 0 < length (job_left (job_of F.flow op.now self.old)) → 0 < result }
-        ensures most { result ≡ min (length room.old) (length (job_left (job_of F.flow op.now self.old))) }
+        ensures some { 0 < length room.old → 0 < length (octets_of_job (job_of F.flow op.now self.old)) → 0 < result }
+        ensures most { result ≡ min (length room.old) (length (octets_of_job (job_of F.flow op.now self.old))) }
         ensures calm { is_under_way self.new ≡ is_under_way self.old }
     {
         match self {
@@ -81,7 +81,7 @@ impl<A: Allocator + Copy, F: ClientTransfer<A>> Task<A, F> {
     /// Whether octets of an upload are still to be given.
     #[tactic(auto, using(crate::proofs::GivenLemmas::some_left))]
     pub(crate) fn has_left(&self, op: &Op<Text<A>>) -> bool
-        ensures { result ≡ has_octets (job_left (job_of F.flow op.now self.now)) }
+        ensures { result ≡ has_octets (octets_of_job (job_of F.flow op.now self.now)) }
     {
         match self {
             Task::Transferring(transfer) => !transfer.flow.is_down(op)

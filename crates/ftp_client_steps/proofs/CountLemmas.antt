@@ -9,17 +9,17 @@ use Rattle.std.proofs.lemmas.List.Sums.{sum_by-cons}
 use Rattle.ftp_client_model.specs.Held.{texts_len}
 use Rattle.ftp_reply.proofs.HeardLemmas.{few_octets}
 use Rattle.ftp_reply.specs.Lines.{Text, are_within, octets_of}
-use Rattle.ftp_reply.specs.Reader.{Answers, Gathered, Between, Begun, GoesOn, Says, Faulty, Standing, Reading, Stopped, first_heard, heard_at, line_heard, next_heard, opened, placed}
+use Rattle.ftp_reply.specs.Reader.{Answers, Gathered, Between, Begun, GoesOn, Says, Faulty, Standing, Reading, Stopped, first_heard, heard_at, line_heard, next_heard, opened, reply_placed}
 use Rattle.ftp_reply.specs.Reader.{Heard as LineHeard}
 use Rattle.ftp_reply.specs.Reply.{hyphen, space}
 use Rattle.ftp_reply.specs.declared.fault.ReplyFault.{ReplyFault}
 use Rattle.ftp_reply.specs.declared.fault.ReplyFault.TheVariants as Faults
 use Rattle.ftp_reply.specs.declared.reply.Reply.{Reply}
-use Rattle.ftp_client_steps.specs.Reader.{Counts, IsReading, gathered_in, with_line}
+use Rattle.ftp_client_steps.specs.Reader.{CountsTexts, ReaderReadsOn, gathered_in, with_line}
 
 -- the count is that of the reply that goes on
 abbrev CountsHeard : ℕ → LineHeard → Type 0
-CountsHeard count (GoesOn gathered) = Counts (Some count) gathered
+CountsHeard count (GoesOn gathered) = CountsTexts (Some count) gathered
 CountsHeard count (Says code texts) = Unit {0}
 CountsHeard count (Faulty fault) = Unit {0}
 
@@ -45,9 +45,9 @@ ended_counts count false code texts = tt
 first_counts : (count code : ℕ) (text : Text) → count ≡ length text - 1 → CountsHeard count (first_heard code text)
 first_counts count code [] is = ended_counts count (are_within ([] ∷ [])) code ([] ∷ [])
 first_counts count code (c ∷ text) is =
-    cond_both (c == space) (placed true code (text ∷ [])) (if c == hyphen then placed false code (text ∷ []) else Faulty Faults.BadCode) (CountsHeard count)
+    cond_both (c == space) (reply_placed true code (text ∷ [])) (if c == hyphen then reply_placed false code (text ∷ []) else Faulty Faults.BadCode) (CountsHeard count)
     (λ spaced. ended_counts count (are_within (text ∷ [])) code (text ∷ []))
-    (λ other. cond_both (c == hyphen) (placed false code (text ∷ [])) (Faulty Faults.BadCode) (CountsHeard count)
+    (λ other. cond_both (c == hyphen) (reply_placed false code (text ∷ [])) (Faulty Faults.BadCode) (CountsHeard count)
     (λ hyphened. placed_counts count (are_within (text ∷ [])) false code (text ∷ []) refl (omega (arith, is))) (λ bad. tt))
 
 opened_counts : (code : Option ℕ) (line : Text) → CountsHeard (length line - 4) (opened code line)
@@ -60,7 +60,7 @@ next_counts true count code texts line is = ended_counts (count + length line) (
 next_counts false count code texts line is =
     placed_counts (count + length line) (are_within (texts ++ line ∷ [])) false code (texts ++ line ∷ []) refl (omega (arith, is, texts_more texts line))
 
-line_counts : (before : Option ℕ) (g : Gathered) (line : Text) → Counts before g → CountsHeard (with_line before line) (line_heard g line)
+line_counts : (before : Option ℕ) (g : Gathered) (line : Text) → CountsTexts before g → CountsHeard (with_line before line) (line_heard g line)
 unfolding line_heard
 line_counts None Between line is = opened_counts _ line
 line_counts (Some count) (Begun code texts) line is = next_counts _ count code texts line is.0
@@ -68,21 +68,21 @@ line_counts None (Begun code texts) line is = absurd is
 line_counts (Some count) Between line is = absurd is
 
 counts_by : (A : Type 0) (count : ℕ) (heard : LineHeard) (old new : Standing) → CountsHeard count heard → Answers {A = A} heard (Ok None) old new
-    → Counts (Some count) (gathered_in new)
-counts_by A count (GoesOn gathered) old new counts answers = subst (λ s. Counts (Some count) (gathered_in s)) (sym answers) counts
+    → CountsTexts (Some count) (gathered_in new)
+counts_by A count (GoesOn gathered) old new counts answers = subst (λ s. CountsTexts (Some count) (gathered_in s)) (sym answers) counts
 counts_by A count (Says code texts) old new counts answers = absurd answers
 counts_by A count (Faulty fault) old new counts answers = absurd answers
 
-goes_by : (A : Type 0) (before : Option ℕ) (old new : Standing) (line : Text) → IsReading old → Counts before (gathered_in old)
-    → Answers {A = A} (heard_at old line) (Ok None) old new → Counts (Some (with_line before line)) (gathered_in new)
+goes_by : (A : Type 0) (before : Option ℕ) (old new : Standing) (line : Text) → ReaderReadsOn old → CountsTexts before (gathered_in old)
+    → Answers {A = A} (heard_at old line) (Ok None) old new → CountsTexts (Some (with_line before line)) (gathered_in new)
 goes_by A before (Reading g) new line reading is answers = counts_by A (with_line before line) (line_heard g line) (Reading g) new (line_counts before g line is) answers
 goes_by A before Stopped new line reading is answers = absurd reading
 
 -- where a reply goes on with a line, the count with that line is that of the texts
 pub goes_on : (A : Type 0) (before : Option ℕ) (old taken new : Standing) (line : Text) (count : ℕ) (result : Result (Option (Reply A)) ReplyFault)
-    → IsReading old → Counts before (gathered_in old) → taken ≡ old → count ≡ with_line before line → result ≡ Ok None
-    → Answers {A = A} (heard_at taken line) result taken new → Counts (Some count) (gathered_in new)
+    → ReaderReadsOn old → CountsTexts before (gathered_in old) → taken ≡ old → count ≡ with_line before line → result ≡ Ok None
+    → Answers {A = A} (heard_at taken line) result taken new → CountsTexts (Some count) (gathered_in new)
 goes_on A before old taken new line count result reading is same counted goes answers =
-    subst (λ n. Counts (Some n) (gathered_in new)) (sym counted)
+    subst (λ n. CountsTexts (Some n) (gathered_in new)) (sym counted)
     (goes_by A before old new line reading is
     (subst (λ s. Answers {A = A} (heard_at s line) (Ok None) s new) same (subst (λ r. Answers {A = A} (heard_at taken line) r taken new) goes answers)))

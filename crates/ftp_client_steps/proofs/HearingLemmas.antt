@@ -4,7 +4,7 @@ use Rattle.std.specs.Prelude.{IsTrue}
 use Rattle.std.proofs.lemmas.List.{append_cancel_left}
 use Rattle.ftp_pieces.specs.Machine.{after}
 use Rattle.ftp_pieces.proofs.MachineLemmas.{after-append, gives-append}
-use Rattle.ftp_nvt.specs.Ear.{HasHeard, Hears, limit_of, line_of, event_list}
+use Rattle.ftp_nvt.specs.Ear.{HasHeard, Hears, limit_of, lent_line, event_list}
 use Rattle.ftp_nvt.specs.Fold.{Ear, ear, ear_of, ear_out, ear_step, quiet}
 use Rattle.ftp_nvt.specs.Lines.{NvtEvent, events}
 use Rattle.ftp_nvt.specs.declared.ear.Ear.{Ear as Reader}
@@ -22,7 +22,7 @@ use Rattle.ftp_client_model.specs.declared.client.Failure.TheVariants as Failure
 use Rattle.ftp_client_model.specs.declared.client.Standing.{Standing as Standings}
 use Rattle.ftp_client_model.specs.declared.client.Standing.TheVariants as Stands
 use Rattle.ftp_client_steps.specs.Reader.{CanBeHeld}
-use Rattle.ftp_client_steps.specs.Comes.{Leads, acts}
+use Rattle.ftp_client_steps.specs.Comes.{LineLeads, acts}
 use Rattle.ftp_client_steps.specs.declared.line.Spoken.{Spoken}
 use Rattle.ftp_client_steps.specs.declared.line.Spoken.TheVariants as Hearings
 
@@ -60,12 +60,12 @@ take_one (suc (suc n)) octet some most = absurd (omega (arith, most))
 
 -- one octet that was fed to a reader of reply lines
 pub fed : {A : Type 0} (old new : Reader A) (reader : Standing) (count : Option ℕ) (event : Event) (octet n : ℕ)
-    → CanBeHeld old reader count → 0 < n → n ≤ 1 → Hears old (take n (octet ∷ [])) (event_list event (line_of new)) new
-    → Steps reply_limit old octet (event_list event (line_of new)) new
+    → CanBeHeld old reader count → 0 < n → n ≤ 1 → Hears old (take n (octet ∷ [])) (event_list event (lent_line new)) new
+    → Steps reply_limit old octet (event_list event (lent_line new)) new
 fed old new reader count event octet n held some most hears =
-    let one : Hears old (octet ∷ []) (event_list event (line_of new)) new =
-    subst (λ taken. Hears old taken (event_list event (line_of new)) new) (take_one n octet some most) hears in
-    subst (λ limit. Steps limit old octet (event_list event (line_of new)) new) held.limit (steps_on old new octet _ held.octets held.heard one)
+    let one : Hears old (octet ∷ []) (event_list event (lent_line new)) new =
+    subst (λ taken. Hears old taken (event_list event (lent_line new)) new) (take_one n octet some most) hears in
+    subst (λ limit. Steps limit old octet (event_list event (lent_line new)) new) held.limit (steps_on old new octet _ held.octets held.heard one)
 
 -- what a client does with the events of an octet
 pub taken : (v : View) (e f : Ear) (octet : ℕ) (added : List NvtEvent)
@@ -87,7 +87,7 @@ forgets_by (Stands.Failed failure) v gathered sound = absurd (cc sound)
 
 -- a line that leads to something is acted on so
 pub led : {A : Type 0} (line : LineHeard) (heard : Spoken A) (e : Ear) (new : Gathered) (v : View) → IsTrue (is_sound v.standing)
-    → Leads line heard new → line_taken line (record v { ear = e }) ≡ acts heard (record { ear = e; gathered = new }) v
+    → LineLeads line heard new → line_taken line (record v { ear = e }) ≡ acts heard (record { ear = e; gathered = new }) v
 led (GoesOn gathered) Hearings.Nothing e new v sound is = ap (λ g. let w : View = record v { ear = e; gathered = g } in w) (sym is)
 led (Says code texts) (Hearings.Reply reply) e new v sound is =
     ap (λ c. answered c texts (record v { ear = e; gathered = Between })) (sym is.0)
@@ -106,18 +106,18 @@ led (Faulty fault) (Hearings.Reply reply) e new v sound is = absurd is
 
 -- an octet that was fed is heard so by a client
 pub octet_comes : {A : Type 0} (old new : Reader A) (reader : Standing) (count : Option ℕ) (event : Event) (octet n : ℕ) (v : View)
-    → CanBeHeld old reader count → 0 < n → n ≤ 1 → Hears old (take n (octet ∷ [])) (event_list event (line_of new)) new
+    → CanBeHeld old reader count → 0 < n → n ≤ 1 → Hears old (take n (octet ∷ [])) (event_list event (lent_line new)) new
     → v.ear ≡ ear_of old
-    → hears_octet v octet ≡ events_taken (event_list event (line_of new)) (record v { ear = ear_of new })
+    → hears_octet v octet ≡ events_taken (event_list event (lent_line new)) (record v { ear = ear_of new })
 octet_comes old new reader count event octet n v held some most hears is =
     let step = fed old new reader count event octet n held some most hears in
-    taken v (ear_of old) (ear_of new) octet (event_list event (line_of new)) is (sym step.ear) step.says
+    taken v (ear_of old) (ear_of new) octet (event_list event (lent_line new)) is (sym step.ear) step.says
 
 -- what an octet that was fed does to the line that was said last
 pub line_comes : {A : Type 0} (old new : Reader A) (reader : Standing) (count : Option ℕ) (event : Event) (octet n : ℕ) (e : Ear) (last : List ℕ)
-    → CanBeHeld old reader count → 0 < n → n ≤ 1 → Hears old (take n (octet ∷ [])) (event_list event (line_of new)) new
+    → CanBeHeld old reader count → 0 < n → n ≤ 1 → Hears old (take n (octet ∷ [])) (event_list event (lent_line new)) new
     → e ≡ ear_of old
-    → line_with e octet last ≡ line_behind (event_list event (line_of new)) last
+    → line_with e octet last ≡ line_behind (event_list event (lent_line new)) last
 line_comes old new reader count event octet n e last held some most hears is =
     let step = fed old new reader count event octet n held some most hears in
     ap (λ x. line_behind (ear_out reply_limit x octet) last) is

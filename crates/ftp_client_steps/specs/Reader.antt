@@ -9,7 +9,7 @@ use Rattle.ftp_reply.specs.Reader.{Gathered, Between, Begun, Standing, Reading, 
 use Rattle.ftp_reply.specs.declared.lines.TheConstants.{MAX_OCTETS}
 
 -- the unfinished line, and the reply that has begun
-pub record Held : Type 0 where
+pub record UnfinishedReply : Type 0 where
   pub ear : Ear
   pub gathered : Gathered
 
@@ -19,15 +19,15 @@ gathered_in (Reading gathered) = gathered
 gathered_in Stopped = Between
 
 -- a reader of replies reads on
-abbrev pub IsReading : Standing → Type 0
-IsReading (Reading gathered) = Unit {0}
-IsReading Stopped = ⊥
+abbrev pub ReaderReadsOn : Standing → Type 0
+ReaderReadsOn (Reading gathered) = Unit {0}
+ReaderReadsOn Stopped = ⊥
 
 -- the number counts the octets of the texts of the reply that has begun; there is none between two replies
-abbrev pub Counts : Option ℕ → Gathered → Type 0
-Counts None Between = Unit {0}
-Counts (Some count) (Begun code texts) = (count ≡ texts_len texts) × (count ≤ MAX_OCTETS)
-Counts count gathered = ⊥
+abbrev pub CountsTexts : Option ℕ → Gathered → Type 0
+CountsTexts None Between = Unit {0}
+CountsTexts (Some count) (Begun code texts) = (count ≡ texts_len texts) × (count ≤ MAX_OCTETS)
+CountsTexts count gathered = ⊥
 
 -- with a line more: of a reply's first line, code and hyphen are no text
 abbrev pub with_line : Option ℕ → List ℕ → ℕ
@@ -39,5 +39,5 @@ pub record CanBeHeld {A : Type 0} (ear : Reader A) (reader : Standing) (gathered
   pub octets : List ℕ
   pub heard : HasHeard ear octets
   pub limit : limit_of ear ≡ reply_limit
-  pub reading : IsReading reader
-  pub counted : Counts gathered (gathered_in reader)
+  pub reading : ReaderReadsOn reader
+  pub counted : CountsTexts gathered (gathered_in reader)

@@ -16,9 +16,9 @@ abbrev pub all_octets : Option (List ℕ) → Op (List ℕ) → List ℕ
 all_octets octets op = unwrap_or octets (lent op)
 
 -- the upload of a run of which this operation is under way
-abbrev pub upload_in : {A : Type 0} → Op (List ℕ) → Run A → OverBreaks
-upload_in op run = over_breaks run.path (all_octets run.octets op) run.how
+abbrev pub upload_of_run : {A : Type 0} → Op (List ℕ) → Run A → OverBreaks
+upload_of_run op run = over_breaks run.path (all_octets run.octets op) run.how
 
 -- the run
 abbrev pub run_in : {A : Type 0} → Op (List ℕ) → Run A → Seen
-run_in op run = record { upload = upload_in op run; left = run.left }
+run_in op run = record { upload = upload_of_run op run; left = run.left }

@@ -25,9 +25,9 @@ pub struct Hearing<A: Allocator + Copy> {
 
 impl<A: Allocator + Copy> Model for Hearing<A> {
     ghost use Rattle.ftp_nvt.specs.Fold.{ear_of};
-    ghost use Rattle.ftp_client_steps.specs.Reader.{Held, CanBeHeld, gathered_in};
+    ghost use Rattle.ftp_client_steps.specs.Reader.{UnfinishedReply, CanBeHeld, gathered_in};
 
-    ghost Value = { Held };
+    ghost Value = { UnfinishedReply };
 
     ghost view = { λ hearing. record { ear = ear_of hearing.ear; gathered = gathered_in hearing.reader } };
 
@@ -36,7 +36,7 @@ impl<A: Allocator + Copy> Model for Hearing<A> {
 
 impl<A: Allocator + Copy> Hearing<A> {
     ghost use Rattle.ftp_client_model.specs.Telling.{line_with};
-    ghost use Rattle.ftp_client_steps.specs.Comes.{Comes};
+    ghost use Rattle.ftp_client_steps.specs.Comes.{OctetComes};
 
     /// Nothing was heard. All memory for lines is taken now.
     pub fn new(alloc: A) -> Result<Hearing<A>, AllocError>
@@ -59,7 +59,7 @@ impl<A: Allocator + Copy> Hearing<A> {
     pub fn octet(&mut self, octet: u8, last: &mut LastLine) -> Result<Spoken<A>, AllocError>
         // Witness of comes: for every client an equation of `hears_octet`: another answer would be another client. What was heard so far is in the
         // view; `edits/hearing_takes_nothing`.
-        ensures comes { IfOk result (λ heard. Comes self.old octet heard self.new) }
+        ensures comes { IfOk result (λ heard. OctetComes self.old octet heard self.new) }
         // Witness of told: an equation; `edits/the_end_of_a_long_line_is_kept`.
         ensures told { last.new ≡ line_with self.old.ear octet last.old }
     {

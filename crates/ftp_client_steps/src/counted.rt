@@ -1,6 +1,6 @@
 // A transfer that tells how much it stores.
 ghost use Rattle.std.specs.Prelude.{◌≡◌, ◌≤◌};
-ghost use Rattle.ftp_client_model.specs.Held.{stored_limit};
+ghost use Rattle.ftp_client_model.specs.Held.{block_stored_limit};
 
 use crate::transfer::ClientTransfer;
 use std::alloc::Allocator;
@@ -18,5 +18,5 @@ pub trait CountedTransfer<A: Allocator + Copy>: ClientTransfer<A> {
         // Witness of sum: an equation, with the ghost member `stored` that each transfer says by its fields.
         ensures sum { result ≡ stored self.now }
         // Witness of few: `Client::held` (`little`) needs it.
-        ensures few { result ≤ stored_limit };
+        ensures few { result ≤ block_stored_limit };
 }

@@ -1,8 +1,8 @@
 // What a line comes to.
 ghost use Rattle.std.specs.Prelude.{◌≡◌, ◌≤◌, IfOk, IfSome};
 ghost use Rattle.ftp_reply.specs.Reader.{line_heard};
-ghost use Rattle.ftp_client_steps.specs.Reader.{Counts, IsReading, gathered_in, with_line};
-ghost use Rattle.ftp_client_steps.specs.Comes.{Leads};
+ghost use Rattle.ftp_client_steps.specs.Reader.{CountsTexts, ReaderReadsOn, gathered_in, with_line};
+ghost use Rattle.ftp_client_steps.specs.Comes.{LineLeads};
 ghost use Rattle.ftp_reply.specs.declared.lines.TheConstants.{MAX_OCTETS};
 
 use ftp_reply::{Reader, Reply, ReplyFault};
@@ -30,11 +30,11 @@ pub(crate) fn take_line<A: Allocator + Copy>(
     line: &[u8],
     alloc: &A,
 ) -> Result<Spoken<A>, AllocError>
-    requires reading { IsReading reader.old }
-    requires counted { Counts gathered.old (gathered_in reader.old) }
-    ensures reading { IsReading reader.new }
-    ensures counted { Counts gathered.new (gathered_in reader.new) }
-    ensures heard { IfOk result (λ heard. Leads (line_heard (gathered_in reader.old) line.now) heard (gathered_in reader.new)) }
+    requires reading { ReaderReadsOn reader.old }
+    requires counted { CountsTexts gathered.old (gathered_in reader.old) }
+    ensures reading { ReaderReadsOn reader.new }
+    ensures counted { CountsTexts gathered.new (gathered_in reader.new) }
+    ensures heard { IfOk result (λ heard. LineLeads (line_heard (gathered_in reader.old) line.now) heard (gathered_in reader.new)) }
 {
     let fresh = Reader::new(*alloc);
     let mut taken = mem::replace(reader, fresh);

@@ -5,7 +5,7 @@ ghost use Rattle.std.specs.Bool.{then_some};
 ghost use Rattle.ftp_operation.specs.Answer.{said_of};
 ghost use Rattle.ftp_operation.specs.Operation.{can_be_sent};
 ghost use Rattle.ftp_client_model.specs.Tries.{after_size, after_try, counts_as_file, first_try, is_size, next_in, over_breaks, run_of, try_behind, whole_put};
-ghost use Rattle.ftp_client_steps.specs.Tries.{all_octets, lent, run_in, upload_in};
+ghost use Rattle.ftp_client_steps.specs.Tries.{all_octets, lent, run_in, upload_of_run};
 
 use crate::tries::MOST_TRIES;
 use ftp_facts::Text;
@@ -97,10 +97,10 @@ fn after_size<A: Allocator + Copy>(
     alloc: &A,
 ) -> Result<bool, AllocError>
     requires { is_size op.old ≡ true }
-    ensures next { IfOk result (λ follows. then_some follows op.new ≡ after_size (upload_in op.old run.old) (said_of answer.now)) }
+    ensures next { IfOk result (λ follows. then_some follows op.new ≡ after_size (upload_of_run op.old run.old) (said_of answer.now)) }
     ensures run { run_in op.new run.new ≡ run_in op.old run.old }
     ensures err { OnErr result (op.new ≡ op.old) }
-    ensures follows { OnErr result (IsTrue (is_some (after_size (upload_in op.old run.old) (said_of answer.now)))) }
+    ensures follows { OnErr result (IsTrue (is_some (after_size (upload_of_run op.old run.old) (said_of answer.now)))) }
 {
     match answer {
         Answer::Number(count) => put_behind(run, op, *count, alloc),
@@ -122,10 +122,10 @@ fn after_try<A: Allocator + Copy>(
     answer: &Answer<A>,
     alloc: &A,
 ) -> Result<bool, AllocError>
-    ensures next { IfOk result (λ follows. then_some follows op.new ≡ after_try (upload_in op.old run.old) op.old (said_of answer.now)) }
+    ensures next { IfOk result (λ follows. then_some follows op.new ≡ after_try (upload_of_run op.old run.old) op.old (said_of answer.now)) }
     ensures run { run_in op.new run.new ≡ run_in op.old run.old }
     ensures err { OnErr result (op.new ≡ op.old) }
-    ensures follows { OnErr result (IsTrue (is_some (after_try (upload_in op.old run.old) op.old (said_of answer.now)))) }
+    ensures follows { OnErr result (IsTrue (is_some (after_try (upload_of_run op.old run.old) op.old (said_of answer.now)))) }
 {
     match answer {
         Answer::Broken { .. } => {
@@ -146,7 +146,7 @@ fn put_behind<A: Allocator + Copy>(
     alloc: &A,
 ) -> Result<bool, AllocError>
     requires { is_size op.old ≡ true }
-    ensures next { IfOk result (λ follows. then_some follows op.new ≡ Some (try_behind (upload_in op.old run.old) count)) }
+    ensures next { IfOk result (λ follows. then_some follows op.new ≡ Some (try_behind (upload_of_run op.old run.old) count)) }
     ensures run { run_in op.new run.new ≡ run_in op.old run.old }
     ensures err { OnErr result (op.new ≡ op.old) }
 {
@@ -168,7 +168,7 @@ fn put_whole<A: Allocator + Copy>(
     alloc: &A,
 ) -> Result<bool, AllocError>
     requires { is_size op.old ≡ true }
-    ensures next { IfOk result (λ follows. then_some follows op.new ≡ Some (whole_put (upload_in op.old run.old))) }
+    ensures next { IfOk result (λ follows. then_some follows op.new ≡ Some (whole_put (upload_of_run op.old run.old))) }
     ensures run { run_in op.new run.new ≡ run_in op.old run.old }
     ensures err { OnErr result (op.new ≡ op.old) }
 {

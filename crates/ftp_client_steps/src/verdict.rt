@@ -1,6 +1,6 @@
 // What a reply's code says (RFC 959, section 4.2.1).
 ghost use Rattle.std.specs.Prelude.{◌≡◌};
-ghost use Rattle.ftp_client_model.specs.Dialogue.{is_refusal};
+ghost use Rattle.ftp_client_model.specs.Dialogue.{is_refusal_code};
 ghost use Rattle.ftp_client_model.specs.Replies.{verdict_by, verdict_of};
 ghost use Rattle.ftp_client_steps.specs.Verdict.{verdict_in};
 
@@ -53,7 +53,7 @@ fn verdict_by(digit: u16) -> Verdict
 
 /// Whether a code is 4yz or 5yz.
 pub fn is_refusal(code: u16) -> bool
-    ensures { result ≡ is_refusal code }
+    ensures { result ≡ is_refusal_code code }
 {
     code >= 400
 }

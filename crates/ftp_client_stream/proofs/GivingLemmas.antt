@@ -3,7 +3,7 @@ use Rattle.std.proofs.Common.{◌≡◌, ◌∙◌, ℕ, List, [], ◌++◌, Boo
 use Rattle.std.specs.Prelude.{◌⊎◌}
 use Rattle.std.specs.Io.KnownBytes.{Appends, Consumes, Keeps}
 use Rattle.ftp_wire.specs.Decoder.{Decoder}
-use Rattle.ftp_client_stream.specs.SourceTransfer.{Gives, Reads, Sends, Stays, left_to_go}
+use Rattle.ftp_client_stream.specs.SourceTransfer.{Gives, Reads, SendsFront, Stays, left_to_go}
 use Rattle.ftp_client_stream.specs.SinkTransfer.{Pours}
 use Rattle.ftp_client_stream.specs.declared.source_transfer.SourceTransfer.{SourceTransfer}
 
@@ -63,7 +63,7 @@ gives_read gave left before after old new reads keeps = record {
 
 -- octets were read, and then octets went
 pub gives_sent : {D A : Type 0} (gave : D → List ℕ) (left : D → ℕ) (before after : Option (List ℕ)) (old between new : SourceTransfer D A)
-    → Reads gave left old between → Sends before after between new → Gives gave left before after old new
+    → Reads gave left old between → SendsFront before after between new → Gives gave left before after old new
 gives_sent gave left before after old between new reads sends = record {
   drew = reads.drew;
   went = sends.went;

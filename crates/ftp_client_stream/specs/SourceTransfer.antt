@@ -31,7 +31,7 @@ pub record Stays {D A : Type 0} (gave : D → List ℕ) (old new : SourceTransfe
   pub text : (more : List ℕ) → left_to_go new more ≡ left_to_go old more
 
 -- octets went over a link, the first of those that were still to go
-pub record Sends {D A : Type 0} (before after : Option (List ℕ)) (old new : SourceTransfer D A) : Type 0 where
+pub record SendsFront {D A : Type 0} (before after : Option (List ℕ)) (old new : SourceTransfer D A) : Type 0 where
   pub went : List ℕ
   pub written : Appends before after went
   pub source : new.source ≡ old.source

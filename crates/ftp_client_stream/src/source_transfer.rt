@@ -38,7 +38,7 @@ pub struct SourceTransfer<D: Drop, A: Allocator> {
 }
 
 impl<D: Source, A: Allocator + Copy> SourceTransfer<D, A> {
-    ghost use Rattle.ftp_client_stream.specs.SourceTransfer.{Reads, Sends, Stays, left_to_go, unsent};
+    ghost use Rattle.ftp_client_stream.specs.SourceTransfer.{Reads, SendsFront, Stays, left_to_go, unsent};
 
     /// An upload of what a source gives, in these settings; with own markers where `start` says from where on they count.
     pub fn new(
@@ -164,7 +164,7 @@ impl<D: Source, A: Allocator + Copy> SourceTransfer<D, A> {
     /// One write of octets that are to go, where there are some.
     pub fn send<L: Write>(&mut self, link: &mut L) -> io::Result<()>
         // Witness: equations of what went; `edits/what_did_not_go_counts_as_gone`.
-        ensures ok { OnOk result (Sends (L.contents link.old) (L.contents link.new) self.old self.new) }
+        ensures ok { OnOk result (SendsFront (L.contents link.old) (L.contents link.new) self.old self.new) }
         ensures err { OnErr result (Keeps (L.contents link.old) (L.contents link.new)) }
         ensures same { OnErr result (self.new ≡ self.old) }
     {

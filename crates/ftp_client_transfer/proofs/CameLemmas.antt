@@ -6,13 +6,13 @@ use Rattle.ftp_operation.specs.Answer.{Octets, Broken}
 use Rattle.ftp_operation.specs.declared.op.Op.{Op}
 use Rattle.ftp_operation.specs.declared.op.Op.TheVariants as Ops
 use Rattle.ftp_wire.specs.Decoder.{Decoder}
-use Rattle.ftp_client_model.specs.Telling.{came_in, octets_in}
+use Rattle.ftp_client_model.specs.Telling.{came_in, octets_answered}
 use Rattle.ftp_client_model.specs.View.{Sending, Receiving}
 use Rattle.ftp_client_transfer.specs.Octets.{cut_octets}
 
 -- a Peek that has not enough keeps all of it
 front_is : (enough : Bool) (count : ℕ) (octets : List ℕ) (mark : Option ℕ) → nat_le count (length octets) ≡ enough
-    → take count octets ≡ octets_in (if enough then Some (Octets (take count octets)) else Some (Broken octets mark))
+    → take count octets ≡ octets_answered (if enough then Some (Octets (take count octets)) else Some (Broken octets mark))
 front_is true count octets mark is = refl
 front_is false count octets mark is = take_all count octets (omega (arith, leb-false count (length octets) is))
 
@@ -39,7 +39,7 @@ cut_came (Ops.Names path how) d mark = refl
 cut_came (Ops.Text verb path how) d mark = refl
 
 -- nor has one that got nothing
-none_is : (enough : Bool) (count : ℕ) (mark : Option ℕ) → [] ≡ octets_in (if enough then Some (Octets (take count [])) else Some (Broken [] mark))
+none_is : (enough : Bool) (count : ℕ) (mark : Option ℕ) → [] ≡ octets_answered (if enough then Some (Octets (take count [])) else Some (Broken [] mark))
 none_is true count mark = sym (take_all count [] (omega arith))
 none_is false count mark = refl
 

@@ -7,7 +7,7 @@ use Rattle.std.specs.List.{filter, onto_first, position_or_len, slice_split}
 use Rattle.std.specs.Prelude.{if◌then◌else◌}
 use Rattle.std.specs.Option.{option_map}
 use Rattle.ftp_facts.specs.Listed.{Listed, entry_value}
-use Rattle.ftp_facts.specs.Listing.{all_values, but_empty_last, entries_value, is_shown, line_feed, lines_of}
+use Rattle.ftp_facts.specs.Listing.{all_values, but_empty_last, entries_value, is_entry_shown, line_feed, lines_of}
 use Rattle.ftp_facts.specs.Value.{and_then}
 use Rattle.ftp_client_transfer.specs.Listing.{kept}
 
@@ -82,26 +82,26 @@ with_next : {V : Type 0} (seen : List V) (value : V) (rest : Option (List V))
 with_next seen value None = refl
 with_next seen value (Some more) = ap Some (append_assoc seen (value ∷ []) more)
 
-shown_next : (entry : Listed) (rest : Option (List Listed)) → is_shown entry ≡ true
-    → option_map (filter is_shown) (option_map (λ values. entry ∷ values) rest) ≡ option_map (λ values. entry ∷ values) (option_map (filter is_shown) rest)
+shown_next : (entry : Listed) (rest : Option (List Listed)) → is_entry_shown entry ≡ true
+    → option_map (filter is_entry_shown) (option_map (λ values. entry ∷ values) rest) ≡ option_map (λ values. entry ∷ values) (option_map (filter is_entry_shown) rest)
 shown_next entry None is = refl
-shown_next entry (Some values) is = ap (λ b. Some (cond b (entry ∷ filter is_shown values) (filter is_shown values))) is
+shown_next entry (Some values) is = ap (λ b. Some (cond b (entry ∷ filter is_entry_shown values) (filter is_entry_shown values))) is
 
-hidden_next : (entry : Listed) (rest : Option (List Listed)) → is_shown entry ≡ false
-    → option_map (filter is_shown) (option_map (λ values. entry ∷ values) rest) ≡ option_map (filter is_shown) rest
+hidden_next : (entry : Listed) (rest : Option (List Listed)) → is_entry_shown entry ≡ false
+    → option_map (filter is_entry_shown) (option_map (λ values. entry ∷ values) rest) ≡ option_map (filter is_entry_shown) rest
 hidden_next entry None is = refl
-hidden_next entry (Some values) is = ap (λ b. Some (cond b (entry ∷ filter is_shown values) (filter is_shown values))) is
+hidden_next entry (Some values) is = ap (λ b. Some (cond b (entry ∷ filter is_entry_shown values) (filter is_entry_shown values))) is
 
 entries_next : (octets line behind : List ℕ) (said : Option Listed) → lines_of octets ≡ line ∷ lines_of behind → said ≡ entry_value line
     → entries_value octets
-    ≡ option_map (filter is_shown) (and_then said (λ value. option_map (λ values. value ∷ values) (all_values entry_value (lines_of behind))))
+    ≡ option_map (filter is_entry_shown) (and_then said (λ value. option_map (λ values. value ∷ values) (all_values entry_value (lines_of behind))))
 entries_next octets line behind said lines is =
-    ap (λ all. option_map (filter is_shown) (all_values entry_value all)) lines
-    ∙ ap (λ first. option_map (filter is_shown) (and_then first (λ value. option_map (λ values. value ∷ values) (all_values entry_value (lines_of behind))))) (sym is)
+    ap (λ all. option_map (filter is_entry_shown) (all_values entry_value all)) lines
+    ∙ ap (λ first. option_map (filter is_entry_shown) (and_then first (λ value. option_map (λ values. value ∷ values) (all_values entry_value (lines_of behind))))) (sym is)
 
 -- the entry of a line is kept
 entry_shown : (seen : List Listed) (octets line behind : List ℕ) (entry : Listed) → lines_of octets ≡ line ∷ lines_of behind → Some entry ≡ entry_value line
-    → is_shown entry ≡ true
+    → is_entry_shown entry ≡ true
     → with_rest (seen ++ entry ∷ []) (entries_value behind) ≡ with_rest seen (entries_value octets)
 entry_shown seen octets line behind entry lines is shown =
     with_next seen entry (entries_value behind)
@@ -109,13 +109,13 @@ entry_shown seen octets line behind entry lines is shown =
 
 -- or left out
 entry_hidden : (seen : List Listed) (octets line behind : List ℕ) (entry : Listed) → lines_of octets ≡ line ∷ lines_of behind → Some entry ≡ entry_value line
-    → is_shown entry ≡ false
+    → is_entry_shown entry ≡ false
     → with_rest seen (entries_value behind) ≡ with_rest seen (entries_value octets)
 entry_hidden seen octets line behind entry lines is hidden =
     ap (with_rest seen) (sym (entries_next octets line behind (Some entry) lines is ∙ hidden_next entry (all_values entry_value (lines_of behind)) hidden))
 
 kept_by : (b : Bool) (seen : List Listed) (octets line behind : List ℕ) (entry : Listed) → lines_of octets ≡ line ∷ lines_of behind → Some entry ≡ entry_value line
-    → is_shown entry ≡ b
+    → is_entry_shown entry ≡ b
     → with_rest (if b then seen ++ entry ∷ [] else seen) (entries_value behind) ≡ with_rest seen (entries_value octets)
 kept_by true seen octets line behind entry lines is shown = entry_shown seen octets line behind entry lines is shown
 kept_by false seen octets line behind entry lines is hidden = entry_hidden seen octets line behind entry lines is hidden
@@ -123,7 +123,7 @@ kept_by false seen octets line behind entry lines is hidden = entry_hidden seen 
 -- either, by what it is
 pub entry_kept : (seen : List Listed) (octets line behind : List ℕ) (entry : Listed) → lines_of octets ≡ line ∷ lines_of behind → Some entry ≡ entry_value line
     → with_rest (kept seen entry) (entries_value behind) ≡ with_rest seen (entries_value octets)
-entry_kept seen octets line behind entry lines is = kept_by (is_shown entry) seen octets line behind entry lines is refl
+entry_kept seen octets line behind entry lines is = kept_by (is_entry_shown entry) seen octets line behind entry lines is refl
 
 -- no line is left
 pub all_entries : (seen : List Listed) (rest octets : List ℕ) → with_rest seen (entries_value rest) ≡ entries_value octets → length rest < 1

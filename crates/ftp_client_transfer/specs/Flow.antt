@@ -14,14 +14,14 @@ abbrev pub left_in : List ℕ → Upload → List ℕ
 left_in octets upload = still_to_give upload.encoder (drop upload.at octets)
 
 -- an upload of these octets
-abbrev pub sending : List ℕ → Upload → Flow
-sending octets upload = Sending (left_in octets upload) upload.mark
+abbrev pub flow_of_upload : List ℕ → Upload → Flow
+flow_of_upload octets upload = Sending (left_in octets upload) upload.mark
 
 -- a download
-abbrev pub receiving : {A : Type 0} → Download A → Flow
-receiving download = Receiving download.decoder.decoder download.mark
+abbrev pub flow_of_download : {A : Type 0} → Download A → Flow
+flow_of_download download = Receiving download.decoder.decoder download.mark
 
 -- either
 abbrev pub flow_in : {A : Type 0} → Op (List ℕ) → OperationTransfer A → Flow
-flow_in op (Carryings.Upload upload) = sending (octets_of op) upload
-flow_in op (Carryings.Download download) = receiving download
+flow_in op (Carryings.Upload upload) = flow_of_upload (octets_of op) upload
+flow_in op (Carryings.Download download) = flow_of_download download

@@ -8,24 +8,24 @@ use Rattle.ftp_client_transfer.specs.declared.transfer.OperationTransfer.{Operat
 use Rattle.ftp_client_transfer.specs.declared.transfer.OperationTransfer.TheVariants as Carryings
 
 -- an upload: what its encoder stores
-abbrev pub upload_len : Upload → ℕ
-upload_len u = encoder_len u.encoder
+abbrev pub upload_encoder_len : Upload → ℕ
+upload_encoder_len u = encoder_len u.encoder
 
 -- a download: the restart marker in its decoder
-abbrev pub download_len : {A : Type 0} → Download A → ℕ
-download_len d = length d.decoder.marker
+abbrev pub download_marker_len : {A : Type 0} → Download A → ℕ
+download_marker_len d = length d.decoder.marker
 
 -- either
-abbrev pub stored_of : {A : Type 0} → OperationTransfer A → ℕ
-stored_of (Carryings.Upload upload) = upload_len upload
-stored_of (Carryings.Download download) = download_len download
+abbrev pub stored_in_operation : {A : Type 0} → OperationTransfer A → ℕ
+stored_in_operation (Carryings.Upload upload) = upload_encoder_len upload
+stored_in_operation (Carryings.Download download) = download_marker_len download
 
 -- ---- nothing else is stored: each is what the sums count, and numbers
 
 -- an upload is its encoder, a place in its operation's octets, and the mmmm of a 110 reply
-abbrev pub IsWholeUpload : Upload → Type 0
-IsWholeUpload u = (e : Upload) → e.encoder ≡ u.encoder → e.at ≡ u.at → e.mark ≡ u.mark → e ≡ u
+abbrev pub IsEncoderPlaceAndMark : Upload → Type 0
+IsEncoderPlaceAndMark u = (e : Upload) → e.encoder ≡ u.encoder → e.at ≡ u.at → e.mark ≡ u.mark → e ≡ u
 
 -- a download is its decoder, which has what came, and the last marker that is a number
-abbrev pub IsWholeDownload : {A : Type 0} → Download A → Type 0
-IsWholeDownload {A} d = (e : Download A) → e.decoder ≡ d.decoder → e.mark ≡ d.mark → e ≡ d
+abbrev pub IsDecoderAndMark : {A : Type 0} → Download A → Type 0
+IsDecoderAndMark {A} d = (e : Download A) → e.decoder ≡ d.decoder → e.mark ≡ d.mark → e ≡ d

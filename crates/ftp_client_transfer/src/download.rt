@@ -20,11 +20,11 @@ pub struct Download<A: Allocator + Copy> {
 }
 
 impl<A: Allocator + Copy> Download<A> {
-    ghost use Rattle.ftp_client_transfer.specs.Flow.{receiving};
+    ghost use Rattle.ftp_client_transfer.specs.Flow.{flow_of_download};
 
     /// A download in these settings, before its first octet.
     pub(crate) fn new(settings: Representation, alloc: A) -> Download<A>
-        ensures { receiving result ≡ download_flow settings }
+        ensures { flow_of_download result ≡ download_flow settings }
     {
         Download {
             decoder: Decoder::new(settings, Vec::new(alloc)),
@@ -34,7 +34,7 @@ impl<A: Allocator + Copy> Download<A> {
 
     /// Takes octets, and says how many. `Err` says behind how many of them memory was refused.
     pub(crate) fn hear(&mut self, piece: &[u8]) -> Result<usize, usize>
-        ensures heard { IfOk result (λ count. receiving self.new ≡ heard_all (receiving self.old) (take count piece.now)) }
+        ensures heard { IfOk result (λ count. flow_of_download self.new ≡ heard_all (flow_of_download self.old) (take count piece.now)) }
         ensures within { IfOk result (λ count. count ≤ length piece.now) }
         ensures some { IfOk result (λ count. 0 < length piece.now → 0 < count) }
         ensures refused { IfErr result (λ count. count < length piece.now) }

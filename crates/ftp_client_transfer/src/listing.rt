@@ -2,7 +2,7 @@
 ghost use Rattle.std.specs.Prelude.{◌≡◌, ◌==◌, ◌<◌, ◌≤◌, ◌∷◌, IfOk, OnOk, length, map, option_map};
 ghost use Rattle.std.specs.List.{position_or_len};
 ghost use Rattle.ftp_facts.specs.Entry.{listed_of};
-ghost use Rattle.ftp_facts.specs.Listing.{entries_value, is_shown, line_feed, lines_of, names_value};
+ghost use Rattle.ftp_facts.specs.Listing.{entries_value, is_entry_shown, line_feed, lines_of, names_value};
 ghost use Rattle.ftp_client_transfer.specs.Listing.{kept};
 
 use crate::content::copy_of;
@@ -91,7 +91,7 @@ fn line_end(octets: &[u8]) -> usize
 
 /// Whether an entry counts: the directory itself, its parent and types of another word are left out (own choice).
 fn is_shown<A: Allocator + Copy>(entry: &Entry<A>) -> bool
-    ensures { result ≡ is_shown (listed_of entry.now) }
+    ensures { result ≡ is_entry_shown (listed_of entry.now) }
 {
     match &entry.kind {
         None | Some(EntryKind::File) | Some(EntryKind::Dir) => true,

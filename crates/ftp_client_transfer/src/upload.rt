@@ -20,13 +20,13 @@ pub struct Upload {
 }
 
 impl Upload {
-    ghost use Rattle.ftp_client_transfer.specs.Flow.{left_in, sending};
+    ghost use Rattle.ftp_client_transfer.specs.Flow.{left_in, flow_of_upload};
 
     /// An upload of these octets, whose own markers count from `start`. Markers that would count past what can be said are want of
     /// memory.
     #[tactic(auto, using(crate::proofs::UploadLemmas::written_if))]
     pub(crate) fn new(how: How, start: u64, octets: &[u8]) -> Result<Upload, AllocError>
-        ensures { IfOk result (λ upload. sending octets.now upload ≡ upload_flow how start octets.now) }
+        ensures { IfOk result (λ upload. flow_of_upload octets.now upload ≡ upload_flow how start octets.now) }
     {
         if start > u64::MAX - octets.len() as u64 {
             return Err(AllocError);
@@ -45,7 +45,7 @@ impl Upload {
 
     /// Whether all octets are out.
     pub(crate) fn is_given<A: Allocator + Copy>(&self, op: &Op<Text<A>>) -> bool
-        ensures { result ≡ is_given (sending (octets_of op.now) self.now) }
+        ensures { result ≡ is_given (flow_of_upload (octets_of op.now) self.now) }
     {
         self.encoder.is_out(octets_of(op).len() <= self.at)
     }

@@ -10,10 +10,10 @@ use Rattle.std.proofs.lemmas.Fmt.{digits_decimal, length-decimal-le}
 use Rattle.std.proofs.lemmas.List.Elements.{All-cons, All-nil}
 use Rattle.std.proofs.lemmas.Str.Parse.{IsNumeralModel}
 use Rattle.ftp_endpoint.specs.Number.{IsShort}
-use Rattle.ftp_facts.specs.Entry.{IsFit, with_kind_word}
+use Rattle.ftp_facts.specs.Entry.{IsFitEntry, with_kind_word}
 use Rattle.ftp_facts.specs.Fact.{IsValue, Lacks, space, semicolon, file_word, dir_word}
 use Rattle.ftp_facts.specs.Line.{listed_line}
-use Rattle.ftp_facts.specs.Listed.{text_in}
+use Rattle.ftp_facts.specs.Listed.{fact_text_in}
 use Rattle.ftp_facts.specs.Name.{fact_names}
 use Rattle.ftp_facts.specs.declared.name.FactName.{FactName}
 use Rattle.ftp_facts.specs.declared.name.FactName.TheVariants.{Kind, Size, Modify, Perm}
@@ -103,7 +103,7 @@ size_short count = by_number (is_number count) refl
     by_number false e found is = absurd (cc)
 
 -- under a path text all that is said can be kept
-pub entry_fit : (file : Option (ℕ × ℕ)) (at_root : Bool) (name : List ℕ) → IsPathText name → IsFit (entry_of file at_root name)
+pub entry_fit : (file : Option (ℕ × ℕ)) (at_root : Bool) (name : List ℕ) → IsPathText name → IsFitEntry (entry_of file at_root name)
 entry_fit (Some (size, moment)) at_root name is =
     record { name = is; kind = is_value file_word refl refl; size = size_short size; perm = is_value (codes "adfrw") refl refl }
 entry_fit None true name is = record { name = is; kind = is_value dir_word refl refl; size = λ size e. absurd (cc); perm = is_value (codes "celmp") refl refl }
@@ -163,7 +163,7 @@ size_said count = by_number (is_number count) refl
     by_number false e = λ text e. absurd (cc)
 
 -- each value that is said is such a text
-pub said_text : (file : Option (ℕ × ℕ)) (at_root : Bool) (name : List ℕ) (fact : FactName) → ForSome (text_in (entry_of file at_root name) fact) IsSaid
+pub said_text : (file : Option (ℕ × ℕ)) (at_root : Bool) (name : List ℕ) (fact : FactName) → ForSome (fact_text_in (entry_of file at_root name) fact) IsSaid
 said_text (Some (size, moment)) at_root name Kind = said file_word refl (omega arith)
 said_text (Some (size, moment)) at_root name Size = size_said size
 said_text (Some (size, moment)) at_root name Modify = let few = moment_few moment in said _ (moment_passes is_said_octet from_zero moment) (omega (arith, few))

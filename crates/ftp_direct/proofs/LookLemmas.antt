@@ -1,6 +1,6 @@
 -- An operation after a look at its path.
 use Rattle.std.proofs.Common.{◌≡◌, ◌⊎◌, ◌≤◌, arith, inl, inr, Result, Ok, Err, IfOk, OnErr, refl, ap, sym, ◌∙◌, subst}
-use Rattle.ftp_tree.specs.Change.{Failures, IsSteady, NoStray, Tells, TellsOne, next_count, one_more}
+use Rattle.ftp_tree.specs.Change.{Failures, IsSteady, NoStray, Tells, TellsOne, next_count, one_failure_more}
 use Rattle.ftp_tree.specs.declared.fault.TreeFault.{TreeFault}
 use Rattle.ftp_tree.specs.declared.fault.TreeFault.TheVariants.{Absent, Exists, NotEmpty, WrongKind, TooBig, Full, Busy, BadOffset, Device, Memory}
 use Rattle.ftp_tree.specs.Tree.{Table}
@@ -78,7 +78,7 @@ module _ (before mid after : Failures) (table now : Table) (steady : IsSteady be
             subst (λ t. Gives (due t) said new) (map stray) (is.steady (kept ∙ sym (kept-first rise stray)));
         failed = λ moved.
             let stray = ap (λ f. f.strays) moved in
-            subst (λ t. Gives (Refused (code_of LocalFault), old t) said new) (map stray) (is.failed (moved ∙ ap one_more (sym (kept-first rise stray))));
+            subst (λ t. Gives (Refused (code_of LocalFault), old t) said new) (map stray) (is.failed (moved ∙ ap one_failure_more (sym (kept-first rise stray))));
         counted = counted-on before mid after steady is.counted;
       }
 

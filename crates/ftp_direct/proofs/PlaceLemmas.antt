@@ -6,7 +6,7 @@ use Rattle.std.proofs.lemmas.List.{take-append-drop, length-drop, length-take-le
 use Rattle.std.proofs.lemmas.Bool.Decides.{Decides-eqb}
 use Rattle.std.proofs.Math.Seq.{take-add}
 use Rattle.ftp_repr.specs.Signs.{wire_row}
-use Rattle.ftp_repr.specs.Skipping.{IsPlace, Skips}
+use Rattle.ftp_repr.specs.Skipping.{IsPlaceOfOffset, Skips}
 use Rattle.ftp_repr.specs.declared.skipping.Skipped.TheVariants.{Within, Left, Inside}
 use Rattle.ftp_repr.proofs.SkipLemmas.{goes_up, place_once, row_append, within_stays, inside_stays}
 use Rattle.ftp_settings.specs.declared.representation.Kind.{Kind}
@@ -38,26 +38,26 @@ module _ (kind : Kind) (file : List ℕ) (offset : ℕ) where
   test : ℕ → Bool
   test place = size_in kind (take place file) == offset
 
-  passes : (place : ℕ) → IsPlace kind file offset place → test place ≡ true
+  passes : (place : ℕ) → IsPlaceOfOffset kind file offset place → test place ≡ true
   unfolding test
   passes place is = (Decides-eqb (size_in kind (take place file)) offset).1 (sym (size_piece kind (take place file)) ∙ is.goes)
 
-  is_place : (place : ℕ) → place ≤ length file → test place ≡ true → IsPlace kind file offset place
+  is_place : (place : ℕ) → place ≤ length file → test place ≡ true → IsPlaceOfOffset kind file offset place
   unfolding test
   is_place place within is = record { within = within; goes = size_piece kind (take place file) ∙ (Decides-eqb (size_in kind (take place file)) offset).0 is }
 
-  fails : (place : ℕ) → place ≤ length file → (IsPlace kind file offset place → ⊥) → test place ≡ false
+  fails : (place : ℕ) → place ≤ length file → (IsPlaceOfOffset kind file offset place → ⊥) → test place ≡ false
   fails place within none = elim (test place) as (λ b. test place ≡ b → b ≡ false) [ true ↦ λ is. absurd (none (is_place place within is)) | false ↦ λ _. refl ] refl
 
   -- it is the one place
-  pub leads : (place : ℕ) → IsPlace kind file offset place → place_in kind file offset ≡ Some place
+  pub leads : (place : ℕ) → IsPlaceOfOffset kind file offset place → place_in kind file offset ≡ Some place
   unfolding place_in test
   leads place is =
       found test 0 (length file + 1) place (omega (arith, is.within)) (ap test (zero-add place) ∙ passes place is)
       (λ k less. ap test (zero-add k) ∙ fails k (omega (arith, less, is.within)) (λ other. absurd (omega (arith, less, place_once kind file offset k place other is))))
       ∙ ap Some (zero-add place)
 
-  pub leads_nowhere : ((place : ℕ) → IsPlace kind file offset place → ⊥) → place_in kind file offset ≡ None
+  pub leads_nowhere : ((place : ℕ) → IsPlaceOfOffset kind file offset place → ⊥) → place_in kind file offset ≡ None
   unfolding place_in test
   leads_nowhere none = missing test 0 (length file + 1) (λ k less. ap test (zero-add k) ∙ fails k (omega (arith, less)) (none k))
 
@@ -71,7 +71,7 @@ module _ (kind : Kind) (file : List ℕ) (offset : ℕ) where
             (omega (arith, rest.0), rest.1)
       ] refl
 
-  pub led : (place : ℕ) → place_in kind file offset ≡ Some place → IsPlace kind file offset place
+  pub led : (place : ℕ) → place_in kind file offset ≡ Some place → IsPlaceOfOffset kind file offset place
   unfolding place_in test
   led place is = let both = passing place (length file + 1) 0 is in is_place place (omega (arith, both.0)) both.1
 
@@ -115,16 +115,16 @@ behind : (kind : Kind) (file : List ℕ) (at k : ℕ) → length (wire_row kind 
 behind kind file at k = ap (λ l. length (wire_row kind l)) (take-add at k file) ∙ row_append kind (take at file) (take k (drop at file))
 
 -- a place behind is one of the file
-place_behind : (kind : Kind) (file : List ℕ) (offset at left k : ℕ) → at ≤ length file → IsLeft kind file offset at left → IsPlace kind (drop at file) left k
-    → IsPlace kind file offset (at + k)
+place_behind : (kind : Kind) (file : List ℕ) (offset at left k : ℕ) → at ≤ length file → IsLeft kind file offset at left → IsPlaceOfOffset kind (drop at file) left k
+    → IsPlaceOfOffset kind file offset (at + k)
 place_behind kind file offset at left k within so_far is = record {
   within = omega (arith, within, is.within, length-drop at file);
   goes = behind kind file at k ∙ omega (arith, is.goes, so_far);
 }
 
 -- and a place of the file is one behind
-place_ahead : (kind : Kind) (file : List ℕ) (offset at left place : ℕ) → at ≤ length file → IsLeft kind file offset at left → IsPlace kind file offset place
-    → (k : ℕ) × IsPlace kind (drop at file) left k
+place_ahead : (kind : Kind) (file : List ℕ) (offset at left place : ℕ) → at ≤ length file → IsLeft kind file offset at left → IsPlaceOfOffset kind file offset place
+    → (k : ℕ) × IsPlaceOfOffset kind (drop at file) left k
 place_ahead kind file offset at left place within so_far is =
     elim (le_or_behind place at) [
       | inl before ↦
@@ -152,7 +152,7 @@ module _ (kind : Kind) (file piece : List ℕ) (offset at left : ℕ) (within : 
   -- the piece has the place
   pub in_piece : (place : ℕ) → Skips kind piece left (Within place) → place_in kind file offset ≡ Some (at + place)
   in_piece place skips =
-      let P : List ℕ → Type 0 = λ rest. IsPlace kind rest left place in
+      let P : List ℕ → Type 0 = λ rest. IsPlaceOfOffset kind rest left place in
       leads kind file offset (at + place) (place_behind kind file offset at left place within so_far (subst P whole (within_stays kind piece (drop (length piece) (drop at file)) left place skips)))
 
   -- the piece has an octet that is cut

@@ -1,7 +1,7 @@
 -- A call that the tree refused: what it makes of an operation.
 use Rattle.std.proofs.Common.{◌≡◌, ◌≢◌, ℕ, arith, inl, inr, List, Option, Some, None, Result, Ok, Err, IfOk, OnOk, is_some, refl, ap, sym, ◌∙◌, subst, Bool, true, false, ◌∷◌, [], if◌then◌else◌}
 use mathlib.Core.Bool.{false≢true, true≢false}
-use Rattle.ftp_tree.specs.Change.{Failures, IsRefused, one_more}
+use Rattle.ftp_tree.specs.Change.{Failures, IsRefused, one_failure_more}
 use Rattle.ftp_tree.proofs.CountLemmas.{next_count-moves}
 use Rattle.ftp_tree.proofs.DeviceLemmas.{NoDevice, same-steady}
 use Rattle.ftp_path.specs.Path.{Names}
@@ -33,7 +33,7 @@ told-other Device way other = absurd (other refl)
 told-other Memory way other = refl
 
 -- counts in which a failure was told are others
-moved-other : (before after : Failures) → after ≡ one_more before → after ≢ before
+moved-other : (before after : Failures) → after ≡ one_failure_more before → after ≢ before
 moved-other before after moved kept = next_count-moves before.told (ap (λ f. f.told) (sym kept ∙ moved))
 
 -- what a call that moved no count said and left is its answer
@@ -45,7 +45,7 @@ stays before after due old said new kept gives = record {
 }
 
 -- a call that told a failure
-pub fails : (before after : Failures) (due : Said × State) (old : State) (said : Said) (new : State) → after ≡ one_more before → Gives (Refused (code_of LocalFault), old) said new
+pub fails : (before after : Failures) (due : Said × State) (old : State) (said : Said) (new : State) → after ≡ one_failure_more before → Gives (Refused (code_of LocalFault), old) said new
     → IsAnswer before after due old said new
 fails before after due old said new moved gives = record {
   steady = λ kept. absurd (moved-other before after moved kept);

@@ -13,7 +13,7 @@ use Rattle.ftp_operation.specs.declared.answer.Answer.{Answer}
 use Rattle.ftp_operation.specs.Answer.{Said, BadOperation, Refused, said_of}
 use Rattle.ftp_operation.specs.Operation.{can_be_sent}
 use Rattle.ftp_direct.specs.Direct.{State, answer, answers, chosen, done, first_refusal, due, here, is_directory, refusal, standing, start}
-use Rattle.ftp_tree.specs.Change.{Failures, NoStray, next_count, one_more}
+use Rattle.ftp_tree.specs.Change.{Failures, NoStray, next_count, one_failure_more}
 use Rattle.ftp_direct.specs.Run.{IsAnswer, Ran, Turn, answer_of, failures_of, moved_on, order_of, orders_of, run}
 use Rattle.ftp_direct.proofs.LookLemmas.{same-counts}
 use Rattle.ftp_direct.proofs.RefusalLemmas.{still}
@@ -163,7 +163,7 @@ runs_more before middle after old state new orders said op moment one stray so_f
       let gives = is.steady (same-counts middle after steady.0 stray) in
       turn_more before middle.told after.told old state new orders said (record { op = op; moment = moment; fails = false }) one so_far (sym gives.0) (sym gives.1) steady.0
   | inr failed ↦
-      let gives = is.failed (same-counts (one_more middle) after failed.0 stray) in
+      let gives = is.failed (same-counts (one_failure_more middle) after failed.0 stray) in
       turn_more before middle.told after.told old state new orders said (record { op = op; moment = moment; fails = true }) one so_far (sym gives.0) (sym gives.1) failed.0
 ]
 

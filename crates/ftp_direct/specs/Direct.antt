@@ -176,8 +176,8 @@ abbrev pub skipped : State → Names → How → ℕ → ℕ
 skipped state path how offset = unwrap_or (place_at state path how offset) 0
 
 -- an offset leads to no place: into an octet that goes as two, or past the end
-abbrev pub place_refusal : State → Names → How → ℕ → Option TreeFault
-place_refusal state path how offset = whenever (not (is_some (place_at state path how offset))) Faults.BadOffset
+abbrev pub no_place_refusal : State → Names → How → ℕ → Option TreeFault
+no_place_refusal state path how offset = whenever (not (is_some (place_at state path how offset))) Faults.BadOffset
 
 -- a file goes as one row of octets, and not in records (RFC 959, section 3.1.2)
 abbrev pub is_in_files : Structure → Bool
@@ -190,7 +190,7 @@ offset_refusal offset how = if (offset == 0) || is_in_files how.representation.s
 
 -- the file that a text names is not had from an offset on
 abbrev pub refused_from : State → List ℕ → How → ℕ → Option Refusal
-refused_from state text how offset = or_refused (refused_file state text) (refused_there (place_refusal state (named state text) how offset))
+refused_from state text how offset = or_refused (refused_file state text) (refused_there (no_place_refusal state (named state text) how offset))
 
 -- ---- what is refused
 
@@ -218,7 +218,7 @@ refusal state (Ops.Append text octets how) =
 refusal state (Ops.PutFrom text offset octets how) =
     or_refused (offset_refusal offset how)
     (or_refused (barred_put state (named state text))
-    (or_refused (refused_name (place_refusal state (named state text) how offset)) (put_refusal state (named state text) (skipped state (named state text) how offset + length octets))))
+    (or_refused (refused_name (no_place_refusal state (named state text) how offset)) (put_refusal state (named state text) (skipped state (named state text) how offset + length octets))))
 refusal state (Ops.Get text how) = refused_file state text
 refusal state (Ops.GetFrom text offset how) = or_refused (offset_refusal offset how) (refused_from state text how offset)
 refusal state (Ops.Peek text count how) = refused_file state text

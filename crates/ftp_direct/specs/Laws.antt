@@ -2,7 +2,7 @@
 use Rattle.std.specs.Prelude.{◌≡◌, ◌↔◌, ℕ, Bool, List, [], Some}
 use Rattle.ftp_path.specs.Path.{Names}
 use Rattle.ftp_tree.specs.Tree.{Table, under, with_part}
-use Rattle.ftp_repr.specs.Skipping.{IsPlace}
+use Rattle.ftp_repr.specs.Skipping.{IsPlaceOfOffset}
 use Rattle.ftp_settings.specs.declared.representation.Kind.{Kind}
 use Rattle.ftp_operation.specs.declared.op.Op.{Op}
 use Rattle.ftp_operation.specs.declared.rights.Rights.{Rights}
@@ -11,7 +11,7 @@ use Rattle.ftp_direct.specs.Direct.{State, answers, place_in, standing}
 
 -- an offset leads to a place just where the first octets up to there go as so many
 abbrev pub OffsetsLead : Type 0
-OffsetsLead = (kind : Kind) (octets : List ℕ) (offset place : ℕ) → (place_in kind octets offset ≡ Some place) ↔ IsPlace kind octets offset place
+OffsetsLead = (kind : Kind) (octets : List ℕ) (offset place : ℕ) → (place_in kind octets offset ≡ Some place) ↔ IsPlaceOfOffset kind octets offset place
 
 -- operations below a root are those of the part below it, as a map of its own; that part is then put back in its place
 pub record AreBelow (table : Table) (root cwd : Names) (done own : List Said × State) : Type 0 where

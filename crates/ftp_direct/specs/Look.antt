@@ -11,9 +11,9 @@ abbrev pub IsUnseen : Names → (long why : Refusal) → (before after : Failure
 IsUnseen path long why before after = ((why ≡ long) × (fits path ≡ false) × IsSteady before after) ⊎ ((why ≡ LocalFault) × TellsOne before after)
 
 -- the path was looked at, or there is a refusal to tell
-abbrev pub Sees : Names → (long : Refusal) → Result Names Refusal → (before after : Failures) → Type 0
-Sees path long (Ok found) before after = (found ≡ path) × (fits path ≡ true) × IsSteady before after
-Sees path long (Err why) before after = IsUnseen path long why before after
+abbrev pub LooksAtPath : Names → (long : Refusal) → Result Names Refusal → (before after : Failures) → Type 0
+LooksAtPath path long (Ok found) before after = (found ≡ path) × (fits path ≡ true) × IsSteady before after
+LooksAtPath path long (Err why) before after = IsUnseen path long why before after
 
 -- the path of a file was looked at, or no file stands there by the map as it was found, or the device failed at the look
 abbrev pub SeesFile : State → List ℕ → Result Names Refusal → (before after : Failures) → Type 0

@@ -3,7 +3,7 @@ use Rattle.std.specs.Prelude.{◌≡◌, ◌⊎◌, ℕ, zero, suc, ◌==◌, Bo
 use Rattle.std.specs.List.{filter}
 use Rattle.ftp_facts.specs.declared.moment.Moment.{Moment}
 use Rattle.ftp_tree.specs.Tree.{Table}
-use Rattle.ftp_tree.specs.Change.{Failures, IsSteady, NoStray, TellsOne, next_count, one_more}
+use Rattle.ftp_tree.specs.Change.{Failures, IsSteady, NoStray, TellsOne, next_count, one_failure_more}
 use Rattle.ftp_operation.specs.declared.op.Op.{Op}
 use Rattle.ftp_operation.specs.Answer.{Said, Refused}
 use Rattle.ftp_direct.specs.declared.refusal.Refusal.TheVariants.{LocalFault}
@@ -18,7 +18,7 @@ Gives due said new = (said ≡ due.0) × (new ≡ due.1)
 -- it was, with the count moved on by one. Where the device strayed only the counts are told of.
 pub record IsAnswer (before after : Failures) (due : Said × State) (old : State) (said : Said) (new : State) : Type 0 where
   pub steady : after ≡ before → Gives due said new
-  pub failed : after ≡ one_more before → Gives (Refused (code_of LocalFault), old) said new
+  pub failed : after ≡ one_failure_more before → Gives (Refused (code_of LocalFault), old) said new
   pub counted : IsSteady before after ⊎ TellsOne before after
 
 -- memory was refused before anything was done: map and counts are as they were, unless the device strayed

@@ -4,7 +4,7 @@ ghost use Rattle.ftp_path.specs.Path.{resolved};
 ghost use Rattle.ftp_tree.specs.Change.{NoStray};
 ghost use Rattle.ftp_direct.specs.Direct.{place};
 ghost use Rattle.ftp_operation.specs.Operation.{is_optional_text, is_path_text};
-ghost use Rattle.ftp_direct.specs.Look.{Sees};
+ghost use Rattle.ftp_direct.specs.Look.{LooksAtPath};
 
 use crate::refusal::{Refusal, find};
 use ftp_facts::Text;
@@ -23,7 +23,7 @@ pub(crate) fn see<A: Allocator + Copy, T: Tree<A>>(
     long: Refusal,
 ) -> Result<Result<Path<A>, Refusal>, AllocError>
     requires { IsTrue (is_path_text text.now) }
-    ensures seen { IfOk result (λ seen. Sees (resolved cwd.now text.now) long seen (T.failures tree.old) (T.failures tree.new)) }
+    ensures seen { IfOk result (λ seen. LooksAtPath (resolved cwd.now text.now) long seen (T.failures tree.old) (T.failures tree.new)) }
     ensures same { NoStray (T.failures tree.old) (T.failures tree.new) → T.table tree.new ≡ T.table tree.old }
     ensures kept { OnErr result (T.failures tree.new ≡ T.failures tree.old) }
 {
@@ -46,7 +46,7 @@ pub(crate) fn see_here<A: Allocator + Copy, T: Tree<A>>(
     sight: Sight,
 ) -> Result<Result<Path<A>, Refusal>, AllocError>
     requires { IsTrue (is_optional_text text.now) }
-    ensures seen { IfOk result (λ seen. Sees (place cwd.now text.now) Refusal.Unavailable seen (T.failures tree.old) (T.failures tree.new)) }
+    ensures seen { IfOk result (λ seen. LooksAtPath (place cwd.now text.now) Refusal.Unavailable seen (T.failures tree.old) (T.failures tree.new)) }
     ensures same { NoStray (T.failures tree.old) (T.failures tree.new) → T.table tree.new ≡ T.table tree.old }
     ensures kept { OnErr result (T.failures tree.new ≡ T.failures tree.old) }
 {

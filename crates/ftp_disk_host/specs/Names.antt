@@ -7,5 +7,5 @@ abbrev pub is_dots : List ℕ → Bool
 is_dots name = (length name == 0) || pointwise nat_eq name (codes ".") || pointwise nat_eq name (codes "..")
 
 -- a name of something that stands in it, and a NUL after it; else nothing
-abbrev pub listed : List ℕ → List ℕ
-listed name = if is_dots name then [] else name ++ 0 ∷ []
+abbrev pub listed_name : List ℕ → List ℕ
+listed_name name = if is_dots name then [] else name ++ 0 ∷ []

@@ -1,6 +1,6 @@
 // The names in a directory.
 ghost use Rattle.std.specs.Prelude.{◌≡◌, ◌++◌, OnOk};
-ghost use Rattle.ftp_disk_host.specs.Names.{is_dots, listed};
+ghost use Rattle.ftp_disk_host.specs.Names.{is_dots, listed_name};
 
 use crate::folder::SystemFolder;
 use std::alloc::{AllocError, Global};
@@ -35,7 +35,7 @@ fn put_names(names: &mut Vec<u8, Global>, more: &[u8]) -> Result<(), AllocError>
 
 /// Puts a name and a NUL, if it is one of what stands in the directory.
 fn put_name(names: &mut Vec<u8, Global>, name: &[u8]) -> Result<(), AllocError>
-    ensures { OnOk result (names.new.items ≡ names.old.items ++ listed name.now) }
+    ensures { OnOk result (names.new.items ≡ names.old.items ++ listed_name name.now) }
 {
     if is_dots(name) {
         return Ok(());

@@ -7,7 +7,7 @@ use Rattle.std.proofs.lemmas.Bool.{true≢false}
 use Rattle.std.proofs.lemmas.Result.{IfErr-weaker, on_ok_weaker}
 use Rattle.std.proofs.lemmas.List.{length-append, length-drop, length-take, take_all, take_min}
 use Rattle.ftp_path.specs.Path.{Names}
-use Rattle.ftp_tree.specs.Change.{Failures, IsDone, IsRefused, IsSteady, NoStray, Refuses, Tells, one_more}
+use Rattle.ftp_tree.specs.Change.{Failures, IsDone, IsRefused, IsSteady, NoStray, Refuses, Tells, one_failure_more}
 use Rattle.ftp_tree.specs.Map.{Node, Dir, File, octets_of, of_node}
 use Rattle.ftp_tree.specs.Tree.{Table, delete_refusal, file_refusal, install_refusal, node_at, octets_at, octets_or_none, installed, room_answer, room_refusal, under, with_part}
 use Rattle.ftp_tree.specs.declared.fault.TreeFault.{TreeFault}
@@ -17,7 +17,7 @@ use Rattle.ftp_tree.proofs.TableLemmas.{both-none}
 use Rattle.ftp_tree_nodes.proofs.PlacingLemmas.{IsHad}
 use Rattle.ftp_disk_tree.specs.declared.answer.Front.{Front}
 use Rattle.ftp_disk_tree.specs.Put.{IsPut}
-use Rattle.ftp_disk_tree.specs.Stray.{differ, front_of}
+use Rattle.ftp_disk_tree.specs.Stray.{strays_between, front_of}
 use Rattle.ftp_disk_scan.specs.loading.Held.{fit}
 use Rattle.ftp_disk_tree.proofs.StrayLemmas.{held-same}
 use Rattle.ftp_disk_scan.proofs.loading.HeldLemmas.{length_fit}
@@ -33,7 +33,7 @@ on-ok (Err x) told holds = absurd (true≢false told)
 pub refuses-as : (refusal : Option TreeFault) (fault : TreeFault) (before after : Failures) → refusal ≡ None → Refuses None fault before after → Refuses refusal fault before after
 refuses-as refusal fault before after none told = subst (λ r. Refuses r fault before after) (sym none) told
 
-pub refuses-device : (refusal : Option TreeFault) (before after : Failures) → refusal ≡ None → after ≡ one_more before → Refuses refusal Device before after
+pub refuses-device : (refusal : Option TreeFault) (before after : Failures) → refusal ≡ None → after ≡ one_failure_more before → Refuses refusal Device before after
 refuses-device refusal before after none failed = refuses-as refusal Device before after none (inr (refl, failed))
 
 -- a call that failed in no way and did not stray left the counts as they were
@@ -80,12 +80,12 @@ kept-front octets there keep len kept is many are = ap (λ n. take n octets) (ar
 pub put-is : (holds : ℕ → List ℕ) (version given number len many : ℕ) (old between new : Table) (root path : Names) (octets : List ℕ) (moment : ℕ) (before after : Failures)
     → between ≡ old → version ≡ given → number ≡ version → many ≡ len → length octets ≡ len
     → new ≡ with_part between root (installed (under between root) path (fit many (holds number)) moment)
-    → after.strays ≡ before.strays + differ (fit len (holds given)) octets → after.told ≡ before.told
+    → after.strays ≡ before.strays + strays_between (fit len (holds given)) octets → after.told ≡ before.told
     → IsPut holds version old new root path octets moment before after
 put-is holds version given number len many old between new root path octets moment before after same given_is number_is many_is len_is table strays told = record {
   table = table ∙ ap (λ t. with_part t root (installed (under t root) path (fit many (holds number)) moment)) same
       ∙ ap₂ (λ l v. with_part old root (installed (under old root) path (fit l (holds v)) moment)) (many_is ∙ sym len_is) number_is;
-  strays = strays ∙ ap₂ (λ l v. before.strays + differ (fit l (holds v)) octets) (sym len_is) (sym given_is);
+  strays = strays ∙ ap₂ (λ l v. before.strays + strays_between (fit l (holds v)) octets) (sym len_is) (sym given_is);
   told = told;
 }
 

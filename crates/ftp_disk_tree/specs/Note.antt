@@ -2,13 +2,13 @@
 use Rattle.std.specs.Prelude.{ℕ, List, [], ◌∷◌, ◌++◌}
 use Rattle.ftp_disk_tree.specs.declared.answer.Answer.{Answer}
 
-abbrev pub Event : Type 0
-Event = Answer × List ℕ
+abbrev pub NotedAnswer : Type 0
+NotedAnswer = Answer × List ℕ
 
-abbrev pub event_of : Answer → List ℕ → Event
-event_of answer octets = (answer, octets)
+abbrev pub noted_event : Answer → List ℕ → NotedAnswer
+noted_event answer octets = (answer, octets)
 
 -- the octets of some answers, of which the newest comes first, in the order in which they came
-unfoldable pub taken : List Event → List ℕ
+unfoldable pub taken : List NotedAnswer → List ℕ
 taken [] = []
 taken (event ∷ events) = taken events ++ event.1

@@ -3,7 +3,7 @@ use Rattle.std.specs.Prelude.{ℕ, ◌+◌, List, [], ◌∷◌, ◌++◌, lengt
 use Rattle.ftp_disk_tree.specs.declared.answer.Answer.{Answer}
 use Rattle.ftp_disk_tree.specs.declared.answer.Answer.TheVariants.{Took, Read, Put, Changed}
 use Rattle.ftp_disk_tree.specs.declared.answer.Front.{Front}
-use Rattle.ftp_disk_tree.specs.Note.{Event}
+use Rattle.ftp_disk_tree.specs.Note.{NotedAnswer}
 use Rattle.ftp_disk_scan.specs.loading.Held.{fit}
 
 -- the octets that are kept of a version
@@ -11,18 +11,18 @@ abbrev pub front_of : (ℕ → List ℕ) → Front → List ℕ
 front_of holds front = take front.count (fit front.len (holds front.version))
 
 -- one stray where octets are others than those that are held, and else none
-unfoldable pub differ : (held octets : List ℕ) → ℕ
-differ held octets = if bytes_eq held octets then 0 else 1
+unfoldable pub strays_between : (held octets : List ℕ) → ℕ
+strays_between held octets = if bytes_eq held octets then 0 else 1
 
 -- An answer strays where what was read is not what is held there, where what was put is not what is held of the new version, and where others changed
 -- what the device keeps.
 unfoldable pub strays_in : (ℕ → List ℕ) → Answer → List ℕ → ℕ
 strays_in holds Took octets = 0
-strays_in holds (Read reading) octets = differ (take (length octets) (drop reading.at (fit reading.len (holds reading.version)))) octets
-strays_in holds (Put putting) octets = differ (fit putting.len (holds putting.version)) (front_of holds putting.front ++ octets)
+strays_in holds (Read reading) octets = strays_between (take (length octets) (drop reading.at (fit reading.len (holds reading.version)))) octets
+strays_in holds (Put putting) octets = strays_between (fit putting.len (holds putting.version)) (front_of holds putting.front ++ octets)
 strays_in holds Changed octets = 1
 
 -- how many of these answers stray
-unfoldable pub strays_of : (ℕ → List ℕ) → List Event → ℕ
+unfoldable pub strays_of : (ℕ → List ℕ) → List NotedAnswer → ℕ
 strays_of holds [] = 0
 strays_of holds (event ∷ events) = strays_of holds events + strays_in holds event.0 event.1

@@ -1,8 +1,8 @@
 // A device that has the octets of a tree's files: what it answered, and how often it failed.
 ghost use Rattle.std.specs.Prelude.{◌≡◌, ◌≤◌, ◌<◌, ◌+◌, ◌++◌, IfOk, OnErr, OnOk, drop, length, take};
-ghost use Rattle.ftp_tree.specs.Change.{NoStray, never_strayed, one_more};
+ghost use Rattle.ftp_tree.specs.Change.{NoStray, never_strayed, one_failure_more};
 ghost use Rattle.ftp_disk_tree.specs.Note.{taken};
-ghost use Rattle.ftp_disk_tree.specs.Stray.{differ, front_of, strays_of};
+ghost use Rattle.ftp_disk_tree.specs.Stray.{strays_between, front_of, strays_of};
 ghost use Rattle.ftp_disk_scan.specs.loading.Held.{fit};
 
 use crate::answer::{Answer, Putting, Reading};
@@ -73,7 +73,7 @@ impl<'a, H: Host, K: Held> Device<'a, H, K> {
 
     /// A call of it failed: that is told, and why.
     pub(crate) fn fail(&mut self, error: io::Error)
-        ensures { self.new ≡ one_more self.old }
+        ensures { self.new ≡ one_failure_more self.old }
     {
         self.host.blame(error);
         self.count_failure();
@@ -81,7 +81,7 @@ impl<'a, H: Host, K: Held> Device<'a, H, K> {
 
     /// A failure is told of which is known why.
     fn count_failure(&mut self)
-        ensures { self.new ≡ one_more self.old }
+        ensures { self.new ≡ one_failure_more self.old }
     {
         self.failures = self.failures.wrapping_add(1);
     }
@@ -104,12 +104,12 @@ impl<'a, H: Host, K: Held> Device<'a, H, K> {
         ensures octets { NoStray self.old self.new →
             IfOk result (λ count. take count room.new ≡ take count (drop at (fit file.old.len (K.holds file.old.version)))) }
         ensures strays { IfOk result (λ count. self.new.strays ≡ self.old.strays
-            + differ (take count (drop at (fit file.old.len (K.holds file.old.version)))) (take count room.new)) }
+            + strays_between (take count (drop at (fit file.old.len (K.holds file.old.version)))) (take count room.new)) }
         ensures most { IfOk result (λ count. count ≤ length room.old) }
         ensures some { IfOk result (λ count. 0 < length room.old → 0 < count) }
         ensures file { (file.new.len ≡ file.old.len) × (file.new.version ≡ file.old.version) }
         ensures told { OnOk result (self.new.told ≡ self.old.told) }
-        ensures failed { OnErr result (self.new ≡ one_more self.old) }
+        ensures failed { OnErr result (self.new ≡ one_failure_more self.old) }
     {
         match read_noted::<H, K>(self.host, &mut self.answers, file, at, room) {
             Ok(count) => Ok(count),
@@ -131,9 +131,9 @@ impl<'a, H: Host, K: Held> Device<'a, H, K> {
         moment: Moment,
     ) -> Result<Look, Broken>
         ensures strays { OnOk result (self.new.strays ≡ self.old.strays
-            + differ (fit putting.len (K.holds putting.version)) (front_of K.holds putting.front ++ taken draft.old.written.events)) }
+            + strays_between (fit putting.len (K.holds putting.version)) (front_of K.holds putting.front ++ taken draft.old.written.events)) }
         ensures told { OnOk result (self.new.told ≡ self.old.told) }
-        ensures failed { OnErr result (self.new ≡ one_more self.old) }
+        ensures failed { OnErr result (self.new ≡ one_failure_more self.old) }
     {
         let State::Whole = draft.state else {
             self.count_failure();
@@ -166,7 +166,7 @@ fn read_noted<H: Host, K: Held>(
     room: &mut [u8],
 ) -> io::Result<usize>
     ensures strays { IfOk result (λ count. strays_of K.holds answers.new.events ≡ strays_of K.holds answers.old.events
-        + differ (take count (drop at (fit file.old.len (K.holds file.old.version)))) (take count room.new)) }
+        + strays_between (take count (drop at (fit file.old.len (K.holds file.old.version)))) (take count room.new)) }
     ensures most { IfOk result (λ count. count ≤ length room.old) }
     ensures some { IfOk result (λ count. 0 < length room.old → 0 < count) }
     ensures file { (file.new.len ≡ file.old.len) × (file.new.version ≡ file.old.version) }
@@ -195,7 +195,7 @@ fn put_noted<'a, H: Host, K: Held>(
 ) -> io::Result<Look>
     requires { draft.old.state ≡ State.Whole }
     ensures strays { OnOk result (strays_of K.holds answers.new.events ≡ strays_of K.holds answers.old.events
-        + differ (fit putting.len (K.holds putting.version)) (front_of K.holds putting.front ++ taken draft.old.written.events)) }
+        + strays_between (fit putting.len (K.holds putting.version)) (front_of K.holds putting.front ++ taken draft.old.written.events)) }
     ensures kept { OnErr result (answers.new.events ≡ answers.old.events) }
 {
     let count = putting.front.count;
@@ -226,7 +226,7 @@ fn name_part<H: Host>(
 /// Notes octets that were read.
 fn note_reading<K: Held>(answers: &mut Record, reading: Reading, octets: &[u8])
     ensures { strays_of K.holds answers.new.events ≡ strays_of K.holds answers.old.events
-        + differ (take (length octets.now) (drop reading.at (fit reading.len (K.holds reading.version)))) octets.now }
+        + strays_between (take (length octets.now) (drop reading.at (fit reading.len (K.holds reading.version)))) octets.now }
 {
     answers.note(&Answer::Read(reading), octets);
 }
@@ -234,7 +234,7 @@ fn note_reading<K: Held>(answers: &mut Record, reading: Reading, octets: &[u8])
 /// Notes that all octets that were written became a version of a file, after the front that was kept.
 fn note_putting<K: Held>(answers: &mut Record, putting: Putting, written: &Record)
     ensures { strays_of K.holds answers.new.events ≡ strays_of K.holds answers.old.events
-        + differ (fit putting.len (K.holds putting.version)) (front_of K.holds putting.front ++ taken written.now.events) }
+        + strays_between (fit putting.len (K.holds putting.version)) (front_of K.holds putting.front ++ taken written.now.events) }
 {
     answers.adopt(&Answer::Put(putting), written);
 }

@@ -4,7 +4,7 @@ ghost use Rattle.ftp_tree.specs.Change.{IsDone, IsRefused, IsSteady, NoStray, Te
 ghost use Rattle.ftp_tree.specs.Tree.{install_refusal, installed, octets_or_none, under, with_part};
 ghost use Rattle.ftp_disk_tree.specs.Note.{taken};
 ghost use Rattle.ftp_disk_tree.specs.Put.{IsPut};
-ghost use Rattle.ftp_disk_tree.specs.Stray.{differ};
+ghost use Rattle.ftp_disk_tree.specs.Stray.{strays_between};
 ghost use Rattle.ftp_disk_scan.specs.loading.Held.{fit};
 
 use crate::changing::{
@@ -268,7 +268,7 @@ impl<'a, H: Host, K: Held> Tree<Global> for DiskTree<'a, H, K> {
         ensures steady { OnOk result (IsSteady self.old.device self.new.device) }
         ensures failed { OnErr result (TellsOne self.old.device self.new.device) }
         ensures strays { IfOk result (λ count. self.new.device.strays ≡ self.old.device.strays
-            + differ (take count (drop at (fit file.old.len (K.holds file.old.version)))) (take count room.new)) }
+            + strays_between (take count (drop at (fit file.old.len (K.holds file.old.version)))) (take count room.new)) }
     {
         let left = file.len.saturating_sub(at) as usize;
         let want = left.min(room.len());

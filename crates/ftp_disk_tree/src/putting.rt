@@ -1,11 +1,11 @@
 // How a draft becomes a file of the tree of a disk.
 ghost use Rattle.std.specs.Prelude.{◌≡◌, ◌≤◌, ◌+◌, ◌⊎◌, ◌++◌, None, IfErr, OnErr, OnOk, length, take};
 ghost use Rattle.std.specs.Option.{MatchOption};
-ghost use Rattle.ftp_tree.specs.Change.{IsRefused, next_count, one_more};
+ghost use Rattle.ftp_tree.specs.Change.{IsRefused, next_count, one_failure_more};
 ghost use Rattle.ftp_tree.specs.Tree.{delete_refusal, install_refusal, node_at, octets_or_none, remove_refusal, under};
 ghost use Rattle.ftp_disk_tree.specs.Note.{taken};
 ghost use Rattle.ftp_disk_tree.specs.Put.{IsPut};
-ghost use Rattle.ftp_disk_tree.specs.Stray.{differ, front_of};
+ghost use Rattle.ftp_disk_tree.specs.Stray.{strays_between, front_of};
 ghost use Rattle.ftp_disk_scan.specs.loading.Held.{fit};
 
 use crate::answer::{Front, Putting};
@@ -124,9 +124,9 @@ impl<'a, H: Host, K: Held> DiskTree<'a, H, K> {
         moment: Moment,
     ) -> Result<Look, Broken>
         ensures strays { OnOk result (self.new.device.strays ≡ self.old.device.strays
-            + differ (fit putting.len (K.holds putting.version)) (front_of K.holds putting.front ++ taken draft.old.written.events)) }
+            + strays_between (fit putting.len (K.holds putting.version)) (front_of K.holds putting.front ++ taken draft.old.written.events)) }
         ensures told { OnOk result (self.new.device.told ≡ self.old.device.told) }
-        ensures failed { OnErr result (self.new.device ≡ one_more self.old.device) }
+        ensures failed { OnErr result (self.new.device ≡ one_failure_more self.old.device) }
         ensures same { (self.new.nodes ≡ self.old.nodes) × (self.new.version ≡ self.old.version) }
     {
         let below = match below_of(self.device.host().memory(), root, path) {

@@ -11,9 +11,9 @@ use Rattle.ftp_driver.specs.declared.drive.Turned.{Turned}
 use Rattle.ftp_driver.specs.declared.drive.Turned.TheVariants as Turns
 
 -- it is asked whether its drive is over, and then that is its last call, or else this one of its own
-abbrev pub IsAsked : {Over : Type 0} → (machine : Machine) → (last : Over → (old new : machine.Here) → Type 0) → (goes_on : machine.Own) → Option Over → (old new : machine.Here) → Type 0
-IsAsked machine last goes_on (Some over) old new = last over old new
-IsAsked machine last goes_on None old new = machine.Owns goes_on old new
+abbrev pub IsAskedIfOver : {Over : Type 0} → (machine : Machine) → (last : Over → (old new : machine.Here) → Type 0) → (goes_on : machine.Own) → Option Over → (old new : machine.Here) → Type 0
+IsAskedIfOver machine last goes_on (Some over) old new = last over old new
+IsAskedIfOver machine last goes_on None old new = machine.Owns goes_on old new
 
 -- one that serves does not want all to be closed
 abbrev pub IsOpenEnd : (machine : Machine) → machine.Here → Type 0

@@ -37,8 +37,8 @@ IsParting data_connection =
     IsOpenAt data_connection × (data_connection.connection.rest ≡ Nothing) × (data_connection.connection.at < data_connection.connection.end)
 
 -- one is left, and fairly
-abbrev pub Leaving : (old new : Channel) → Type 0
-Leaving old new = (asked : Asked) × IsLeft asked old new × IsFairEnd old asked
+abbrev pub LeavesFairly : (old new : Channel) → Type 0
+LeavesFairly old new = (asked : Asked) × IsLeft asked old new × IsFairEnd old asked
 
 -- one stands, and its stream is at its end
 abbrev pub HasEnded : {S : Type 0} → (remaining : S → Option (List ℕ)) → Data S → Type 0

@@ -2,7 +2,7 @@
 ghost use Rattle.std.specs.Prelude.{◌≡◌, ◌<◌, ◌≤◌, IsTrue, length, take};
 ghost use Rattle.ftp_ports.specs.Machine.{Machine};
 ghost use Rattle.ftp_ends.specs.Octets.{has_octets};
-ghost use Rattle.ftp_driver.specs.Calling.{IsAsked, IsOpenEnd, IsToldOfClose};
+ghost use Rattle.ftp_driver.specs.Calling.{IsAskedIfOver, IsOpenEnd, IsToldOfClose};
 
 use ftp_endpoint::Host;
 use ftp_ends::Wants;
@@ -40,7 +40,7 @@ pub trait EndCalls<E> {
     /// Whether its drive is over, and with what.
     fn over(end: &mut E) -> Option<Self::Over>
         // Witness: `drive_end`: actions of `Ends`, and which are due.
-        ensures { IsAsked machine last goes_on result (here end.old) (here end.new) };
+        ensures { IsAskedIfOver machine last goes_on result (here end.old) (here end.new) };
 
     /// What it wants of the connections.
     fn wants(end: &E) -> Wants

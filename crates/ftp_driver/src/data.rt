@@ -6,7 +6,7 @@ ghost use Rattle.ftp_ports.specs.Halting.{fate_by};
 ghost use Rattle.ftp_ports.specs.Channel.{IsRead, IsWaited, no_channel, with_fate};
 ghost use Rattle.ftp_ports.specs.Machine.{IsCut, Progressing, held, seen, side_of};
 ghost use Rattle.ftp_ports.specs.Outcome.{IsReset, IsSent, IsWrote, in_hand};
-ghost use Rattle.ftp_driver.specs.Standing.{HasEnded, HasNone, IsExchanged, IsOpenAt, IsParting, IsSameChannel, Leaving, channel_at};
+ghost use Rattle.ftp_driver.specs.Standing.{HasEnded, HasNone, IsExchanged, IsOpenAt, IsParting, IsSameChannel, LeavesFairly, channel_at};
 
 use crate::calls::EndCalls;
 use crate::hand::fill_front;
@@ -168,7 +168,7 @@ impl<S: Duplex> Data<S> {
         // Witness of none: `drive_client`.
         ensures none { HasNone S.remaining S.contents self.new }
         // Witness of left: `drive_some` of `ftp_server_driver`.
-        ensures left { Leaving (channel_at S.remaining S.contents (P.history ports.old) self.old []) (channel_at S.remaining S.contents (P.history ports.new) self.new []) }
+        ensures left { LeavesFairly (channel_at S.remaining S.contents (P.history ports.old) self.old []) (channel_at S.remaining S.contents (P.history ports.new) self.new []) }
     {
         self.connection.close(ports);
     }
@@ -187,7 +187,7 @@ impl<S: Duplex> Data<S> {
     pub fn finish<P: Ports<Stream = S>>(self, ports: &mut P)
         // Witness: `drive_server`: `fair` of `BrokeOff`; both drives: which actions are due;
         // `edits/what_is_cut_short_is_closed_as_if_all_was_given.edit`.
-        ensures { Leaving (channel_at S.remaining S.contents (P.history ports.old) self []) (no_channel (P.history ports.new)) }
+        ensures { LeavesFairly (channel_at S.remaining S.contents (P.history ports.old) self []) (no_channel (P.history ports.new)) }
     {
         let Data {
             connection,

@@ -7,7 +7,7 @@ use Rattle.std.specs.Str.Parse.{AllDigits, digits_value}
 use Rattle.std.proofs.lemmas.Int.Digits.{digits_value-lt, digits_value_more, digits_more}
 use Rattle.std.proofs.lemmas.List.Sums.{prefix_len_is}
 use Rattle.std.proofs.Math.Nat.{pow-le-pow_right}
-use Rattle.ftp_endpoint.specs.Host.{BeginsWithGroups, IsGroup, IsFilled, NoneFilled, NoneWritten, ReadsSome, Stops, Written, octets_of, front_hex, behind_hex, is_hex}
+use Rattle.ftp_endpoint.specs.Host.{BeginsWithGroups, IsGroup, IsFilled, NoneFilled, NoneWritten, ReadsSome, GroupsMayStop, Written, octets_of, front_hex, behind_hex, is_hex}
 
 pub group_lt : (ds : List ℕ) → AllDigits 16 ds → length ds ≤ 4 → digits_value 16 ds < 16 ^ 4
 group_lt ds all short =
@@ -56,9 +56,9 @@ pub record GoesOn (text ns rest : List ℕ) : Type 0 where
   pub behind : behind_hex text ≡ 58 ∷ next
   pub groups : BeginsWithGroups next ms rest
 
-pub goes_on : (text ns rest : List ℕ) → 0 < length ns → Stops rest → BeginsWithGroups text ns rest → (Stops (behind_hex text) → ⊥) → GoesOn text ns rest
+pub goes_on : (text ns rest : List ℕ) → 0 < length ns → GroupsMayStop rest → BeginsWithGroups text ns rest → (GroupsMayStop (behind_hex text) → ⊥) → GoesOn text ns rest
 goes_on text [] rest some stops h not_here = absurd (omega arith)
-goes_on text (n ∷ []) rest some stops h not_here = absurd (not_here (subst Stops (sym h.2) stops))
+goes_on text (n ∷ []) rest some stops h not_here = absurd (not_here (subst GroupsMayStop (sym h.2) stops))
 goes_on text (n ∷ m ∷ ns) rest some stops h not_here = record {
   n = n;
   ms = m ∷ ns;
@@ -93,14 +93,14 @@ eight (a ∷ b ∷ c ∷ d ∷ e ∷ f ∷ g ∷ h ∷ i ∷ xs) len = absurd (o
 group_empty : IsGroup [] → ⊥
 group_empty h = omega arith
 
-no_group : (text rest : List ℕ) → text ≡ rest → Stops rest → IsGroup (front_hex text) → ⊥
+no_group : (text rest : List ℕ) → text ≡ rest → GroupsMayStop rest → IsGroup (front_hex text) → ⊥
 no_group text rest e (inl s) g =
     let P : List ℕ → Type 0 = λ x. IsGroup (front_hex x) in group_empty (subst P (e ∙ s) g)
 no_group text rest e (inr s) g =
     let P : List ℕ → Type 0 = λ x. IsGroup (front_hex x) in group_empty (subst P (e ∙ s.1) g)
 
 -- behind a colon a reading that stops there has no group
-no_next : (behind rest next : List ℕ) (m : ℕ) (ms s : List ℕ) → behind ≡ rest → Stops rest → behind ≡ 58 ∷ next → BeginsWithGroups next (m ∷ ms) s → ⊥
+no_next : (behind rest next : List ℕ) (m : ℕ) (ms s : List ℕ) → behind ≡ rest → GroupsMayStop rest → behind ≡ 58 ∷ next → BeginsWithGroups next (m ∷ ms) s → ⊥
 no_next behind rest next m ms s e (inl stop) colon h =
     let end : behind ≡ [] = e ∙ stop in absurd (cc)
 no_next behind rest next m ms s e (inr stop) colon h =
@@ -110,7 +110,7 @@ no_next behind rest next m ms s e (inr stop) colon h =
     let P : List ℕ → Type 0 = λ x. IsGroup (front_hex x) in group_empty (subst P same g)
 
 -- groups up to where a reading may stop are one row alone
-pub same_groups : (text ns ms r s : List ℕ) → BeginsWithGroups text ns r → Stops r → BeginsWithGroups text ms s → Stops s → (ns ≡ ms) × (r ≡ s)
+pub same_groups : (text ns ms r s : List ℕ) → BeginsWithGroups text ns r → GroupsMayStop r → BeginsWithGroups text ms s → GroupsMayStop s → (ns ≡ ms) × (r ≡ s)
 same_groups text [] [] r s h hs k ks = (refl, sym h ∙ k)
 same_groups text [] (m ∷ []) r s h hs k ks = absurd (no_group text r h hs k.0)
 same_groups text [] (m ∷ m' ∷ ms) r s h hs k ks = absurd (no_group text r h hs k.0)

@@ -99,25 +99,25 @@ RefusesExtended text Protocol = IsOtherProtocol text
 RefusesExtended text BadText = (¬ IsOtherProtocol text) × ((endpoint : Endpoint) → ¬ SaysExtended text endpoint)
 
 -- where a reading of groups may stop: at the end, or before "::"
-abbrev pub Stops : List ℕ → Type 0
-Stops rest = (rest ≡ []) ⊎ ((behind : List ℕ) × (rest ≡ colon ∷ colon ∷ behind))
+abbrev pub GroupsMayStop : List ℕ → Type 0
+GroupsMayStop rest = (rest ≡ []) ⊎ ((behind : List ℕ) × (rest ≡ colon ∷ colon ∷ behind))
 
 -- one group or more was read behind those of before, up to where a reading may stop
 abbrev pub ReadsGroups : List ℕ → List ℕ → List ℕ → List ℕ → Type 0
 ReadsGroups text before now rest =
-    (ns : List ℕ) × (now ≡ before ++ ns) × (0 < length ns) × BeginsWithGroups text ns rest × Stops rest
+    (ns : List ℕ) × (now ≡ before ++ ns) × (0 < length ns) × BeginsWithGroups text ns rest × GroupsMayStop rest
 
 -- no row of groups that has room behind so many stands in front
 abbrev pub NoGroups : List ℕ → ℕ → Type 0
 NoGroups text before =
-    (ns rest : List ℕ) → 0 < length ns → before + length ns ≤ 8 → Stops rest → ¬ BeginsWithGroups text ns rest
+    (ns rest : List ℕ) → 0 < length ns → before + length ns ≤ 8 → GroupsMayStop rest → ¬ BeginsWithGroups text ns rest
 
 -- any number of groups was read behind those of before, up to where a reading may stop
 abbrev pub ReadsSome : List ℕ → List ℕ → List ℕ → List ℕ → Type 0
-ReadsSome text before now rest = (ns : List ℕ) × (now ≡ before ++ ns) × BeginsWithGroups text ns rest × Stops rest
+ReadsSome text before now rest = (ns : List ℕ) × (now ≡ before ++ ns) × BeginsWithGroups text ns rest × GroupsMayStop rest
 
 abbrev pub NoSome : List ℕ → ℕ → Type 0
-NoSome text before = (ns rest : List ℕ) → before + length ns ≤ 8 → Stops rest → ¬ BeginsWithGroups text ns rest
+NoSome text before = (ns rest : List ℕ) → before + length ns ≤ 8 → GroupsMayStop rest → ¬ BeginsWithGroups text ns rest
 
 abbrev pub NoneFilled : List ℕ → List ℕ → Type 0
 NoneFilled front behind = (groups : List ℕ) → length groups ≡ 8 → ¬ IsFilled front behind groups

@@ -4,7 +4,7 @@ ghost use Rattle.std.specs.Char.{digit_value};
 ghost use Rattle.std.specs.List.{prefix_len};
 ghost use Rattle.std.specs.Option.{SomeIff};
 ghost use Rattle.std.specs.Str.Parse.{AllDigits, digits_value};
-ghost use Rattle.ftp_endpoint.specs.Host.{IsFilled, IsGroup, NoGroups, NoSome, NoneFilled, NoneWritten, ReadsGroups, ReadsSome, SaysV6, Stops, Written, octets_of, behind_hex, front_hex, is_hex};
+ghost use Rattle.ftp_endpoint.specs.Host.{IsFilled, IsGroup, NoGroups, NoSome, NoneFilled, NoneWritten, ReadsGroups, ReadsSome, SaysV6, GroupsMayStop, Written, octets_of, behind_hex, front_hex, is_hex};
 
 use crate::endpoint::after;
 use arrayvec::ArrayVec;
@@ -72,7 +72,7 @@ fn group_in_front(text: &[u8]) -> Option<(u16, &[u8])>
 
 // Whether the groups may end here.
 fn stops(rest: &[u8]) -> bool
-    ensures { IsTrue result ↔ Stops rest.now }
+    ensures { IsTrue result ↔ GroupsMayStop rest.now }
 {
     if rest.is_empty() {
         return true;

@@ -4,7 +4,7 @@ use Rattle.std.specs.Prelude.{cond, zero, suc}
 use Rattle.std.specs.List.{flat_map}
 use Rattle.std.proofs.Math.Seq.{take-append_seam}
 use Rattle.std.proofs.lemmas.List.Sums.{sum_by-cons}
-use Rattle.ftp_nvt.specs.Lines.{NvtEvent, line, Lacks, written_octet, written_line}
+use Rattle.ftp_nvt.specs.Lines.{NvtEvent, line, IsNoneOf, written_octet, written_line}
 use Rattle.ftp_nvt.specs.Telnet.{data_octet, unit_ended, place_behind, bare_of}
 use Rattle.ftp_nvt.specs.declared.line.Stage.TheVariants.{Inside, AfterReturn}
 use Rattle.ftp_nvt.specs.declared.telnet.TelnetState.TheVariants as At
@@ -133,7 +133,7 @@ octet_keeps limit count c said no_feed room =
           ]
     ]
 
-text_keeps : (limit count : ℕ) (text said : List ℕ) → Lacks 10 text → count + line_len text ≤ limit
+text_keeps : (limit count : ℕ) (text said : List ℕ) → IsNoneOf 10 text → count + line_len text ≤ limit
     → Keeps limit (between (inside count said)) (flat_map written_octet text) (between (inside (count + line_len text) (said ++ text)))
 text_keeps limit count [] said no_feed room =
     let all = sym (append-nil said) in
@@ -182,7 +182,7 @@ pub record Closes (limit : ℕ) (text : List ℕ) : Type 0 where
   pub keeps : Keeps limit quiet (unended text) kept
   pub ends : Ends limit kept text
 
-pub line_closes : (limit : ℕ) (text : List ℕ) → Lacks 10 text → line_len text + 2 ≤ limit → Closes limit text
+pub line_closes : (limit : ℕ) (text : List ℕ) → IsNoneOf 10 text → line_len text + 2 ≤ limit → Closes limit text
 line_closes limit text no_feed fits =
     let body = text_keeps limit 0 text [] no_feed (omega (arith, fits)) in
     let behind = inside (0 + line_len text) text in

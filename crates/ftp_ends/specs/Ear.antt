@@ -1,7 +1,7 @@
 -- Lines and Telnet answers in flight: what the reader of a control connection (`ftp_nvt`) hears of them, wherever they are cut. Both
 -- ends hear by it.
 use Rattle.std.specs.Prelude.{◌≡◌, ◌≤◌, ℕ, ◌+◌, List, [], ◌∷◌, ◌++◌, length, take, count_by, ◌==◌}
-use Rattle.ftp_nvt.specs.Lines.{line, Lacks, written_line}
+use Rattle.ftp_nvt.specs.Lines.{line, IsNoneOf, written_line}
 use Rattle.ftp_nvt.specs.declared.line.TheConstants.{LF, CR}
 use Rattle.ftp_nvt.specs.declared.telnet.TheConstants.{IAC, WONT, DONT}
 use Rattle.ftp_pieces.specs.Machine.{after, gives}
@@ -20,7 +20,7 @@ pub record EarHearsLine (limit : ℕ) (text : List ℕ) : Type 0 where
 
 -- so it is of every line without LF that keeps the limit
 abbrev pub EarHearsEachLine : Type 0
-EarHearsEachLine = (limit : ℕ) (text : List ℕ) → Lacks LF text → line_len text + 2 ≤ limit → EarHearsLine limit text
+EarHearsEachLine = (limit : ℕ) (text : List ℕ) → IsNoneOf LF text → line_len text + 2 ≤ limit → EarHearsLine limit text
 
 -- the answer to a Telnet octet, which the other end is owed (RFC 854)
 abbrev pub answer_of : ℕ → ℕ → List ℕ

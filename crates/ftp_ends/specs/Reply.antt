@@ -1,7 +1,7 @@
 -- A reply as a value, its octets on the control connection, and which replies can be written (RFC 959, section 4.2).
 use Rattle.std.specs.Prelude.{ℕ, ◌+◌, ◌<◌, ◌≤◌, List, [], ◌∷◌, length}
 use Rattle.std.specs.List.{flat_map, AllByRecursion}
-use Rattle.ftp_nvt.specs.Lines.{Lacks, written_line}
+use Rattle.ftp_nvt.specs.Lines.{IsNoneOf, written_line}
 use Rattle.ftp_nvt.specs.declared.line.TheConstants.{LF}
 use Rattle.ftp_reply.specs.Lines.{AreWithin}
 use Rattle.ftp_reply.specs.Reply.{IsCode, HasPlainLines, written}
@@ -28,8 +28,8 @@ abbrev pub reply_limit : ℕ
 reply_limit = REPLY_LIMIT
 
 -- a line that a control connection can carry to the client
-abbrev pub IsCarried : List ℕ → Type 0
-IsCarried line = Lacks LF line × (line_len line + 2 ≤ reply_limit)
+abbrev pub CanBeCarried : List ℕ → Type 0
+CanBeCarried line = IsNoneOf LF line × (line_len line + 2 ≤ reply_limit)
 
 -- a reply that can be written, and is read again as itself: a code, and lines within the limits of which no inner one begins with
 -- three digits
@@ -38,4 +38,4 @@ pub record IsWritten (code : ℕ) (texts : List (List ℕ)) : Type 0 where
   pub some : 0 < length texts
   pub within : AreWithin texts
   pub plain : HasPlainLines texts
-  pub carried : AllByRecursion IsCarried (written code texts)
+  pub carried : AllByRecursion CanBeCarried (written code texts)

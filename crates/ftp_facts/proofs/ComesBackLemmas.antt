@@ -14,10 +14,10 @@ use Rattle.ftp_facts.specs.declared.moment.Moment.{Moment}
 use Rattle.ftp_facts.specs.Moment.{two_digits, four_digits, date_digits, time_digits, moment_digits, moment_value, WritesMoment}
 use Rattle.ftp_endpoint.specs.Number.{IsShort, SaysNumber}
 use Rattle.ftp_facts.specs.Fact.{Fact, IsFact, IsValue, IsOtherWord, Lacks, facts_text, first_value, given, is_word, space, equals, semicolon, file_word, dir_word, current_word, parent_word}
-use Rattle.ftp_facts.specs.Entry.{HasParts, IsFit, SaysEntry, SaysFact, entry_line, word_of, listed_of}
+use Rattle.ftp_facts.specs.Entry.{HasParts, IsFitEntry, SaysEntry, SaysFact, entry_line, word_of_kind, listed_of}
 use Rattle.ftp_facts.specs.Line.{facts_among, facts_of, if_chosen, listed_line, said_texts}
-use Rattle.ftp_facts.specs.Listed.{Listed, entry_value, fact_value, kind_word, text_in}
-use Rattle.ftp_facts.specs.Name.{all_facts, fact_names, fact_word, is_chosen}
+use Rattle.ftp_facts.specs.Listed.{Listed, entry_value, fact_value, kind_word, fact_text_in}
+use Rattle.ftp_facts.specs.Name.{all_facts, fact_names, fact_word, is_in_force}
 use Rattle.ftp_facts.specs.Value.{number_value}
 use Rattle.ftp_facts.specs.declared.name.FactName.{FactName}
 use Rattle.ftp_facts.specs.declared.name.FactName.TheVariants.{Kind, Size, Modify, Perm}
@@ -72,7 +72,7 @@ lacks_decimal c n lt apart =
     All-from_get_or (λ each. each ≢ c) (decimal n) 0 (not_in_digits own (decimal n) c (digits_decimal own n lt) apart)
 
 -- each value of an entry can stand in a fact
-kind_value : {A : Type 0} (kind : Option (EntryKind A)) → ((word : List ℕ) → kind ≡ Some (Other word) → IsOtherWord word) → ForSome (option_map word_of kind) IsValue
+kind_value : {A : Type 0} (kind : Option (EntryKind A)) → ((word : List ℕ) → kind ≡ Some (Other word) → IsOtherWord word) → ForSome (option_map word_of_kind kind) IsValue
 kind_value None fits = λ text e. cc
 kind_value (Some File) fits = λ text e. let same : text ≡ file_word = cc in rw same (lacks_by space file_word refl, lacks_by semicolon file_word refl)
 kind_value (Some Dir) fits = λ text e. let same : text ≡ dir_word = cc in rw same (lacks_by space dir_word refl, lacks_by semicolon dir_word refl)
@@ -178,7 +178,7 @@ values line name texts fit is = record {
 }
 
 -- the word of a type names it, a decimal number is a size, and the digits of a moment say it
-kind_said : {A : Type 0} (kind : Option (EntryKind A)) → ((word : List ℕ) → kind ≡ Some (Other word) → IsOtherWord word) → option_map word_of kind ≡ option_map kind_word (option_map word_of kind)
+kind_said : {A : Type 0} (kind : Option (EntryKind A)) → ((word : List ℕ) → kind ≡ Some (Other word) → IsOtherWord word) → option_map word_of_kind kind ≡ option_map kind_word (option_map word_of_kind kind)
 kind_said None fits = refl
 kind_said (Some File) fits = refl
 kind_said (Some Dir) fits = refl
@@ -202,26 +202,26 @@ modify_said (Some moment) early =
 
 -- an entry that its line says: it can be kept, its type is told by a word as it is written, and its moment is one that there is
 pub record IsSayable (entry : Listed) : Type 0 where
-  pub fit : IsFit entry
+  pub fit : IsFitEntry entry
   pub kind : entry.kind ≡ option_map kind_word entry.kind
   pub modify : ForSome entry.modify IsEarly
 
 -- the text of each fact can be a value, and says what the entry has
-text_fits : (entry : Listed) → IsSayable entry → (fact : FactName) → ForSome (text_in entry fact) IsValue
+text_fits : (entry : Listed) → IsSayable entry → (fact : FactName) → ForSome (fact_text_in entry fact) IsValue
 text_fits entry s Kind = s.fit.kind
 text_fits entry s Size = size_value entry.size s.fit.size
 text_fits entry s Modify = modify_value entry.modify s.modify
 text_fits entry s Perm = s.fit.perm
 
-text_says : (entry : Listed) → IsSayable entry → (fact : FactName) → SaysFact entry fact (text_in entry fact)
+text_says : (entry : Listed) → IsSayable entry → (fact : FactName) → SaysFact entry fact (fact_text_in entry fact)
 text_says entry s Kind = s.kind
 text_says entry s Size = size_said entry.size s.fit.size
 text_says entry s Modify = modify_said entry.modify s.modify
 text_says entry s Perm = refl
 
 -- where all facts are in force each is said
-all_said : (entry : Listed) (fact : FactName) → text_in entry fact ≡ said_texts all_facts entry fact
-all_said entry fact = ap (λ b. if_chosen b (text_in entry fact)) (sym (every (is_chosen all_facts) refl fact))
+all_said : (entry : Listed) (fact : FactName) → fact_text_in entry fact ≡ said_texts all_facts entry fact
+all_said entry fact = ap (λ b. if_chosen b (fact_text_in entry fact)) (sym (every (is_in_force all_facts) refl fact))
 
 -- the line of an entry with all facts says it
 pub listed_line-says : (entry : Listed) → IsSayable entry → entry_value (listed_line all_facts entry) ≡ Some entry

@@ -11,7 +11,7 @@ use Rattle.ftp_facts.specs.declared.fault.FactFault.{FactFault}
 use Rattle.ftp_facts.specs.declared.fault.FactFault.TheVariants.{NoSpace, BadFact, BadMoment, Memory, BadName}
 use Rattle.ftp_facts.specs.declared.name.FactName.{FactName}
 use Rattle.ftp_facts.specs.declared.name.FactName.TheVariants.{Kind, Size}
-use Rattle.ftp_facts.specs.Entry.{HasParts, NoParts, IsSized, IsSound, Refuses}
+use Rattle.ftp_facts.specs.Entry.{HasParts, NoParts, IsSized, IsSoundFact, Refuses}
 use Rattle.ftp_facts.specs.Fact.{Fact, IsFact, Lacks, IsValue, AreFacts, HasValue, facts_text, first_value, is_named, space, equals, semicolon}
 use Rattle.ftp_facts.specs.Listed.{fact_value}
 use Rattle.ftp_facts.specs.Name.{fact_word}
@@ -110,16 +110,16 @@ no_name line name texts h empty =
     (has_space line (facts_text h.facts) name h.written, λ n t sound. sound.named (sym (HasParts-same line name n texts t h sound.parts).0 ∙ empty))
 
 -- a value that a fact says, or none
-pub is_sound : {V : Type 0} (f : List ℕ → Option V) (text : Option (List ℕ)) (value : Option V) → fact_value f text ≡ Some value → IsSound f text
+pub is_sound : {V : Type 0} (f : List ℕ → Option V) (text : Option (List ℕ)) (value : Option V) → fact_value f text ≡ Some value → IsSoundFact f text
 is_sound f text value e = ap is_some e
 
-pub not_sound : {V : Type 0} (f : List ℕ → Option V) (text : Option (List ℕ)) → fact_value f text ≡ None → ¬ (IsSound f text)
+pub not_sound : {V : Type 0} (f : List ℕ → Option V) (text : Option (List ℕ)) → fact_value f text ≡ None → ¬ (IsSoundFact f text)
 not_sound f text e is = let b : false ≡ true = sym (ap is_some e) ∙ is in cc
 
-pub no_number : (line name : List ℕ) (texts : FactName → Option (List ℕ)) → HasParts line name texts → ¬ (IsSound number_value (texts Size)) → Refuses line BadFact
+pub no_number : (line name : List ℕ) (texts : FactName → Option (List ℕ)) → HasParts line name texts → ¬ (IsSoundFact number_value (texts Size)) → Refuses line BadFact
 no_number line name texts h denies = (
   has_space line (facts_text h.facts) name h.written,
-  λ n t sound. denies (subst (IsSound number_value) (sym ((HasParts-same line name n texts t h sound.parts).1 Size)) sound.sized),
+  λ n t sound. denies (subst (IsSoundFact number_value) (sym ((HasParts-same line name n texts t h sound.parts).1 Size)) sound.sized),
 )
 
 -- a line with a pathname and a Size that is a number

@@ -6,9 +6,9 @@ use Rattle.std.proofs.lemmas.List.Folds.{list_all-append}
 use Rattle.ftp_facts.specs.Calendar.{month_and_place, year_and_place}
 use Rattle.ftp_facts.specs.Fact.{facts_text, given, equals, semicolon, space}
 use Rattle.ftp_facts.specs.Line.{facts_among, if_chosen, listed_line, said_texts, facts_of}
-use Rattle.ftp_facts.specs.Listed.{Listed, text_in}
+use Rattle.ftp_facts.specs.Listed.{Listed, fact_text_in}
 use Rattle.ftp_facts.specs.Moment.{date_digits, day_digits, four_digits, moment_digits, month_digits, second_digits, time_digits, two_digits}
-use Rattle.ftp_facts.specs.Name.{fact_names, fact_word, is_chosen}
+use Rattle.ftp_facts.specs.Name.{fact_names, fact_word, is_in_force}
 use Rattle.ftp_facts.specs.declared.name.FactName.{FactName}
 use Rattle.ftp_facts.specs.declared.name.Facts.{Facts}
 use Rattle.ftp_facts.proofs.FactLemmas.{facts_text-append}
@@ -49,11 +49,11 @@ chosen_passes p true value passes = passes
 chosen_passes p false value passes = λ text e. cc
 
 -- a line is of such octets where the values and the pathname of its entry are
-pub line_passes : (p : ℕ → Bool) → Lets p → (facts : Facts) (entry : Listed) → ((name : FactName) → Passes p (text_in entry name)) → list_all p entry.name ≡ true
+pub line_passes : (p : ℕ → Bool) → Lets p → (facts : Facts) (entry : Listed) → ((name : FactName) → Passes p (fact_text_in entry name)) → list_all p entry.name ≡ true
     → list_all p (listed_line facts entry) ≡ true
 line_passes p lets facts entry pass named =
     both_pass p (facts_text (facts_of (said_texts facts entry))) (space ∷ entry.name)
-    (facts_pass p lets (said_texts facts entry) (λ name. chosen_passes p (is_chosen facts name) (text_in entry name) (pass name)) fact_names)
+    (facts_pass p lets (said_texts facts entry) (λ name. chosen_passes p (is_in_force facts name) (fact_text_in entry name) (pass name)) fact_names)
     (and_both _ _ lets.at_space named)
 
 -- ---- how many
@@ -91,13 +91,13 @@ chosen_few most true value few = few
 chosen_few most false value few = λ text e. cc
 
 -- a line has at most so many octets beside its pathname
-pub line_few : (most : ℕ) (facts : Facts) (entry : Listed) → ((name : FactName) → IsFew most (text_in entry name))
+pub line_few : (most : ℕ) (facts : Facts) (entry : Listed) → ((name : FactName) → IsFew most (fact_text_in entry name))
     → length (listed_line facts entry) ≤ most_octets most fact_names + 1 + length entry.name
 line_few most facts entry few =
     omega (
       arith,
       length-append (facts_text (facts_of (said_texts facts entry))) (space ∷ entry.name),
-      facts_few most (said_texts facts entry) (λ name. chosen_few most (is_chosen facts name) (text_in entry name) (few name)) fact_names,
+      facts_few most (said_texts facts entry) (λ name. chosen_few most (is_in_force facts name) (fact_text_in entry name) (few name)) fact_names,
     )
 
 -- ---- the digits of a moment

@@ -11,7 +11,7 @@ use Rattle.ftp_facts.specs.declared.entry.EntryKind.{EntryKind}
 use Rattle.ftp_facts.specs.declared.entry.EntryKind.TheVariants.{File, Dir, CurrentDir, ParentDir, Other}
 use Rattle.ftp_facts.specs.declared.entry.Entry.{Entry}
 use Rattle.ftp_facts.specs.declared.moment.Moment.{Moment}
-use Rattle.ftp_facts.specs.Entry.{IsSized, IsSound, Refuses, SaysEntry, SaysListed, listed_of, word_of}
+use Rattle.ftp_facts.specs.Entry.{IsSized, IsSoundFact, Refuses, SaysEntry, SaysListed, listed_of, word_of_kind}
 use Rattle.ftp_facts.specs.Fact.{IsOtherWord, IsValue, Lacks, facts_text, is_word, space, file_word, dir_word, current_word, parent_word}
 use Rattle.ftp_facts.specs.Listed.{Listed}
 use Rattle.ftp_facts.specs.Moment.{moment_value}
@@ -30,7 +30,7 @@ kind_at value =
     else (if is_word value parent_word then ParentDir else Other value)))
 
 -- a type is the one that its word names
-kind_is : {A : Type 0} (kind : EntryKind A) → ((word : List ℕ) → kind ≡ Other word → IsOtherWord word) → kind ≡ kind_at (word_of kind)
+kind_is : {A : Type 0} (kind : EntryKind A) → ((word : List ℕ) → kind ≡ Other word → IsOtherWord word) → kind ≡ kind_at (word_of_kind kind)
 unfolding kind_at
 kind_is File fits = refl
 kind_is Dir fits = refl
@@ -39,12 +39,12 @@ kind_is ParentDir fits = refl
 kind_is (Other word) fits = let other = fits word refl in rw (other.1, other.2, other.3, other.4) refl
 
 kinds_same : {A : Type 0} (k l : Option (EntryKind A)) → ((word : List ℕ) → k ≡ Some (Other word) → IsOtherWord word) → ((word : List ℕ) → l ≡ Some (Other word) → IsOtherWord word)
-    → option_map word_of k ≡ option_map word_of l → k ≡ l
+    → option_map word_of_kind k ≡ option_map word_of_kind l → k ≡ l
 kinds_same None None a b e = refl
 kinds_same None (Some l) a b e = absurd (let f : false ≡ true = ap is_some e in cc)
 kinds_same (Some k) None a b e = absurd (let f : true ≡ false = ap is_some e in cc)
 kinds_same (Some k) (Some l) a b e =
-    let words : word_of k ≡ word_of l = ap (λ o. unwrap_or o (word_of k)) e in
+    let words : word_of_kind k ≡ word_of_kind l = ap (λ o. unwrap_or o (word_of_kind k)) e in
     let one = kind_is k (λ word f. a word (ap Some f)) in
     let other = kind_is l (λ word f. b word (ap Some f)) in
     ap Some (one ∙ ap kind_at words ∙ sym other)
@@ -107,7 +107,7 @@ moment_apart : (line : List ℕ) → Refuses line BadMoment → Refuses line Mem
 moment_apart line a m =
     let s = says line m in
     let same = one line a.0 m.0.name a.1 s.texts a.2 (sized line m.0 s) in
-    a.3 (subst (IsSound moment_value) (sym same.modifies) (is_sound moment_value (s.texts Modify) m.0.modify (s.says Modify)))
+    a.3 (subst (IsSoundFact moment_value) (sym same.modifies) (is_sound moment_value (s.texts Modify) m.0.modify (s.says Modify)))
 
 name_apart : (line : List ℕ) → Refuses line BadName → Refuses line Memory → ⊥
 name_apart line a m =
@@ -116,7 +116,7 @@ name_apart line a m =
     a.4 (subst IsPathText same.names s.named)
 
 moment_first : (line : List ℕ) → Refuses line BadMoment → Refuses line BadName → ⊥
-moment_first line a b = let same = one line a.0 b.0 a.1 b.1 a.2 b.2 in a.3 (subst (IsSound moment_value) (sym same.modifies) b.3)
+moment_first line a b = let same = one line a.0 b.0 a.1 b.1 a.2 b.2 in a.3 (subst (IsSoundFact moment_value) (sym same.modifies) b.3)
 
 pub Refuses-same : (line : List ℕ) (a b : FactFault) → Refuses line a → Refuses line b → a ≡ b
 Refuses-same line NoSpace NoSpace p q = refl

@@ -3,9 +3,9 @@ use Rattle.std.proofs.Common.{◌≡◌, ℕ, ◌+◌, ◌<◌, ◌≤◌, true,
 use Rattle.std.proofs.lemmas.List.{drop_all, drop_more}
 use Rattle.ftp_facts.specs.Fact.{facts_text, given}
 use Rattle.ftp_facts.specs.Line.{facts_among, facts_of, if_chosen, said_texts}
-use Rattle.ftp_facts.specs.Listed.{Listed, text_in}
-use Rattle.ftp_facts.specs.Name.{fact_names, fact_word, is_chosen}
-use Rattle.ftp_facts.specs.Sink.{BreaksOff, GoesOn, Writes}
+use Rattle.ftp_facts.specs.Listed.{Listed, fact_text_in}
+use Rattle.ftp_facts.specs.Name.{fact_names, fact_word, is_in_force}
+use Rattle.ftp_facts.specs.Sink.{WritesPart, GoesOn, Writes}
 use Rattle.ftp_facts.specs.declared.name.FactName.{FactName}
 use Rattle.ftp_facts.specs.declared.name.Facts.{Facts}
 use Rattle.ftp_facts.proofs.FactLemmas.{facts_text-append}
@@ -28,14 +28,14 @@ module _ {S : Type 0} (held : S → List ℕ) (form : List ℕ → List ℕ) (le
   writes_none empty s = record { octets = sym (append-nil (held s)) ∙ ap (λ l. held s ++ l) (sym empty); room = omega arith }
 
   -- the second of two texts is refused
-  pub breaks_then : (a b : List ℕ) (old mid new : S) → Writes held form left a old mid → BreaksOff held left b mid new → BreaksOff held left (a ++ b) old new
+  pub breaks_then : (a b : List ℕ) (old mid new : S) → Writes held form left a old mid → WritesPart held left b mid new → WritesPart held left (a ++ b) old new
   breaks_then a b old mid new one other = record {
     front = GoesOn-trans (held old) (held mid) (held new) (form a, one.octets) other.front;
     full = omega (arith, one.room, other.full, length-append a b);
   }
 
   -- the first is
-  pub breaks_first : (a b : List ℕ) (old new : S) → BreaksOff held left a old new → BreaksOff held left (a ++ b) old new
+  pub breaks_first : (a b : List ℕ) (old new : S) → WritesPart held left a old new → WritesPart held left (a ++ b) old new
   breaks_first a b old new one = record { front = one.front; full = omega (arith, one.full, length-append a b) }
 
   -- ---- facts, one after another
@@ -90,12 +90,12 @@ module _ {S : Type 0} (held : S → List ℕ) (form : List ℕ → List ℕ) (le
       subst P (sym whole) so.written
 
   so_far_breaks : (texts : FactName → Option (List ℕ)) (names : List FactName) (place : ℕ) (d : FactName) (old mid new : S) → place < length names
-      → SoFar texts names place old mid → BreaksOff held left (fact_at texts (get_or names place d)) mid new → BreaksOff held left (facts_text (facts_among texts names)) old new
+      → SoFar texts names place old mid → WritesPart held left (fact_at texts (get_or names place d)) mid new → WritesPart held left (facts_text (facts_among texts names)) old new
   so_far_breaks texts names place d old mid new within so one =
       let name = get_or names place d in
       let rest = facts_text (facts_among texts (drop (place + 1) names)) in
       let whole = so.whole ∙ ap (λ l. so.done ++ l) (one_more texts names place d within) in
-      let P : List ℕ → Type 0 = λ l. BreaksOff held left l old new in
+      let P : List ℕ → Type 0 = λ l. WritesPart held left l old new in
       subst P (sym whole) (breaks_then so.done (fact_at texts name ++ rest) old mid new so.written (breaks_first (fact_at texts name) rest mid new one))
 
   -- ---- the facts of an entry that are in force
@@ -105,27 +105,27 @@ module _ {S : Type 0} (held : S → List ℕ) (form : List ℕ → List ℕ) (le
     name = get_or fact_names place d
 
     -- one that is in force is written
-    pub chosen_more : ((front back : List ℕ) → form (front ++ back) ≡ form front ++ form back) → (value : Option (List ℕ)) (old mid new last : S) → true ≡ is_chosen facts name
-        → value ≡ text_in entry name → SoFar (said_texts facts entry) fact_names place old mid → Writes held form left (facts_text (given (fact_word name) value)) mid new → last ≡ new
+    pub chosen_more : ((front back : List ℕ) → form (front ++ back) ≡ form front ++ form back) → (value : Option (List ℕ)) (old mid new last : S) → true ≡ is_in_force facts name
+        → value ≡ fact_text_in entry name → SoFar (said_texts facts entry) fact_names place old mid → Writes held form left (facts_text (given (fact_word name) value)) mid new → last ≡ new
         → SoFar (said_texts facts entry) fact_names (place + 1) old last
     chosen_more joins value old mid new last chosen is so one same =
-        let said : value ≡ said_texts facts entry name = is ∙ ap (λ b. if_chosen b (text_in entry name)) chosen in
+        let said : value ≡ said_texts facts entry name = is ∙ ap (λ b. if_chosen b (fact_text_in entry name)) chosen in
         let P : Option (List ℕ) → Type 0 = λ text. Writes held form left (facts_text (given (fact_word name) text)) mid new in
         let Q : S → Type 0 = λ s. SoFar (said_texts facts entry) fact_names (place + 1) old s in
         subst Q (sym same) (so_far_more joins (said_texts facts entry) fact_names place d old mid new within so (subst P said one))
 
     -- one that is not is passed over
-    pub chosen_passed : (old now last : S) → false ≡ is_chosen facts name → SoFar (said_texts facts entry) fact_names place old now → last ≡ now
+    pub chosen_passed : (old now last : S) → false ≡ is_in_force facts name → SoFar (said_texts facts entry) fact_names place old now → last ≡ now
         → SoFar (said_texts facts entry) fact_names (place + 1) old last
     chosen_passed old now last other so same =
-        let none : said_texts facts entry name ≡ None = ap (λ b. if_chosen b (text_in entry name)) (sym other) in
+        let none : said_texts facts entry name ≡ None = ap (λ b. if_chosen b (fact_text_in entry name)) (sym other) in
         let Q : S → Type 0 = λ s. SoFar (said_texts facts entry) fact_names (place + 1) old s in
         subst Q (sym same) (so_far_passed (said_texts facts entry) fact_names place d old now within none so)
 
     -- one that is refused breaks them off
-    pub chosen_breaks : (value : Option (List ℕ)) (old mid new : S) → true ≡ is_chosen facts name → value ≡ text_in entry name → SoFar (said_texts facts entry) fact_names place old mid
-        → BreaksOff held left (facts_text (given (fact_word name) value)) mid new → BreaksOff held left (facts_text (facts_of (said_texts facts entry))) old new
+    pub chosen_breaks : (value : Option (List ℕ)) (old mid new : S) → true ≡ is_in_force facts name → value ≡ fact_text_in entry name → SoFar (said_texts facts entry) fact_names place old mid
+        → WritesPart held left (facts_text (given (fact_word name) value)) mid new → WritesPart held left (facts_text (facts_of (said_texts facts entry))) old new
     chosen_breaks value old mid new chosen is so one =
-        let said : value ≡ said_texts facts entry name = is ∙ ap (λ b. if_chosen b (text_in entry name)) chosen in
-        let P : Option (List ℕ) → Type 0 = λ text. BreaksOff held left (facts_text (given (fact_word name) text)) mid new in
+        let said : value ≡ said_texts facts entry name = is ∙ ap (λ b. if_chosen b (fact_text_in entry name)) chosen in
+        let P : Option (List ℕ) → Type 0 = λ text. WritesPart held left (facts_text (given (fact_word name) text)) mid new in
         so_far_breaks (said_texts facts entry) fact_names place d old mid new within so (subst P said one)

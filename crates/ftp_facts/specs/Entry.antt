@@ -44,18 +44,18 @@ texts_of parts Modify = option_copied parts.modify
 texts_of parts Perm = option_copied parts.perm
 
 -- the word of a type
-abbrev pub word_of : {A : Type 0} → EntryKind A → List ℕ
-word_of File = file_word
-word_of Dir = dir_word
-word_of CurrentDir = current_word
-word_of ParentDir = parent_word
-word_of (Other word) = word
+abbrev pub word_of_kind : {A : Type 0} → EntryKind A → List ℕ
+word_of_kind File = file_word
+word_of_kind Dir = dir_word
+word_of_kind CurrentDir = current_word
+word_of_kind ParentDir = parent_word
+word_of_kind (Other word) = word
 
 -- the entry's values: its name, the word of its type, its size, its moment in seconds and its Perm
 abbrev pub listed_of : {A : Type 0} → Entry A → Listed
 listed_of entry = record {
   name = entry.name;
-  kind = option_map word_of entry.kind;
+  kind = option_map word_of_kind entry.kind;
   size = entry.size;
   modify = option_map (λ moment. moment.seconds) entry.modify;
   perm = entry.perm;
@@ -104,31 +104,31 @@ pub record SaysListed (line : List ℕ) (entry : Listed) : Type 0 where
   pub says : (fact : FactName) → SaysFact entry fact (texts fact)
 
 -- an entry can be kept: its texts are those that an entry can have
-pub record IsFit (entry : Listed) : Type 0 where
+pub record IsFitEntry (entry : Listed) : Type 0 where
   pub name : IsPathText entry.name
   pub kind : ForSome entry.kind IsValue
   pub size : ForSome entry.size IsShort
   pub perm : ForSome entry.perm IsValue
 
 -- a fact is left out, or says a value
-abbrev pub IsSound : {V : Type 0} → (List ℕ → Option V) → Option (List ℕ) → Type 0
-IsSound f text = IsSome (fact_value f text)
+abbrev pub IsSoundFact : {V : Type 0} → (List ℕ → Option V) → Option (List ℕ) → Type 0
+IsSoundFact f text = IsSome (fact_value f text)
 
 -- the line has this pathname, not an empty one, and these values, of which its Size is a number
 pub record IsSized (line name : List ℕ) (texts : FactName → Option (List ℕ)) : Type 0 where
   pub parts : HasParts line name texts
   pub named : name ≢ []
-  pub sized : IsSound number_value (texts Size)
+  pub sized : IsSoundFact number_value (texts Size)
 
 -- The line meets this fault and none of a lower number, want of memory aside: that comes only where the line says an entry.
 abbrev pub Refuses : List ℕ → FactFault → Type 0
 Refuses line NoSpace = Lacks line space
 Refuses line BadFact = (¬ (Lacks line space)) × ((name : List ℕ) (texts : FactName → Option (List ℕ)) → ¬ (IsSized line name texts))
 Refuses line BadMoment =
-    (name : List ℕ) × (texts : FactName → Option (List ℕ)) × IsSized line name texts × (¬ (IsSound moment_value (texts Modify)))
+    (name : List ℕ) × (texts : FactName → Option (List ℕ)) × IsSized line name texts × (¬ (IsSoundFact moment_value (texts Modify)))
 Refuses line Memory = (entry : Listed) × (entry_value line ≡ Some entry)
 Refuses line BadName =
-    (name : List ℕ) × (texts : FactName → Option (List ℕ)) × IsSized line name texts × IsSound moment_value (texts Modify) × (¬ (IsPathText name))
+    (name : List ℕ) × (texts : FactName → Option (List ℕ)) × IsSized line name texts × IsSoundFact moment_value (texts Modify) × (¬ (IsPathText name))
 
 -- the line of an entry: its facts, a space and its pathname
 abbrev pub entry_line : {A : Type 0} → Entry A → List ℕ

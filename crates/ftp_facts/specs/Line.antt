@@ -2,8 +2,8 @@
 use Rattle.std.specs.Prelude.{ℕ, Bool, true, false, List, ◌∷◌, ◌++◌, Option, None}
 use Rattle.std.specs.List.{flat_map}
 use Rattle.ftp_facts.specs.Fact.{Fact, facts_text, given, space}
-use Rattle.ftp_facts.specs.Listed.{Listed, text_in}
-use Rattle.ftp_facts.specs.Name.{fact_names, fact_word, is_chosen}
+use Rattle.ftp_facts.specs.Listed.{Listed, fact_text_in}
+use Rattle.ftp_facts.specs.Name.{fact_names, fact_word, is_in_force}
 use Rattle.ftp_facts.specs.declared.name.FactName.{FactName}
 use Rattle.ftp_facts.specs.declared.name.Facts.{Facts}
 
@@ -22,7 +22,7 @@ if_chosen false value = None
 
 -- the text of each fact that is in force and that an entry has
 abbrev pub said_texts : Facts → Listed → FactName → Option (List ℕ)
-said_texts facts entry name = if_chosen (is_chosen facts name) (text_in entry name)
+said_texts facts entry name = if_chosen (is_in_force facts name) (fact_text_in entry name)
 
 -- the line of an entry with the facts that are in force, without its end
 abbrev pub listed_line : Facts → Listed → List ℕ

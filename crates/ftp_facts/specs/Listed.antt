@@ -19,11 +19,11 @@ pub record Listed : Type 0 where
   pub perm : Option (List ℕ)
 
 -- the text of a fact of an entry, where it has one: a size in decimal, a moment by its fourteen digits
-abbrev pub text_in : Listed → FactName → Option (List ℕ)
-text_in entry Kind = entry.kind
-text_in entry Size = option_map decimal entry.size
-text_in entry Modify = option_map moment_digits entry.modify
-text_in entry Perm = entry.perm
+abbrev pub fact_text_in : Listed → FactName → Option (List ℕ)
+fact_text_in entry Kind = entry.kind
+fact_text_in entry Size = option_map decimal entry.size
+fact_text_in entry Modify = option_map moment_digits entry.modify
+fact_text_in entry Perm = entry.perm
 
 -- ---- facts
 

@@ -32,12 +32,12 @@ is_shown_kind None = true
 is_shown_kind (Some word) = is_word word file_word || is_word word dir_word
 
 -- own choice: entries of the directory itself, of its parent and of types of another word are left out
-abbrev pub is_shown : Listed → Bool
-is_shown entry = is_shown_kind entry.kind
+abbrev pub is_entry_shown : Listed → Bool
+is_entry_shown entry = is_shown_kind entry.kind
 
 -- the entries of a machine listing, one a line, where each line says one (RFC 3659, section 7)
 abbrev pub entries_value : List ℕ → Option (List Listed)
-entries_value octets = option_map (filter is_shown) (all_values entry_value (lines_of octets))
+entries_value octets = option_map (filter is_entry_shown) (all_values entry_value (lines_of octets))
 
 -- a line of a listing of names; own choice: it has to be a text as a pathname is, of any length, so an empty one is no name
 abbrev pub name_value : List ℕ → Option (List ℕ)

@@ -18,11 +18,11 @@ abbrev pub fact_names : List FactName
 fact_names = Kind ∷ Size ∷ Modify ∷ Perm ∷ []
 
 -- the fact is in force
-abbrev pub is_chosen : Facts → FactName → Bool
-is_chosen facts Kind = facts.kind
-is_chosen facts Size = facts.size
-is_chosen facts Modify = facts.modify
-is_chosen facts Perm = facts.perm
+abbrev pub is_in_force : Facts → FactName → Bool
+is_in_force facts Kind = facts.kind
+is_in_force facts Size = facts.size
+is_in_force facts Modify = facts.modify
+is_in_force facts Perm = facts.perm
 
 -- the facts that pass a test are in force
 abbrev pub facts_by : (FactName → Bool) → Facts
@@ -34,7 +34,7 @@ all_facts = facts_by (λ name. true)
 
 -- some fact is in force
 abbrev pub is_any_chosen : Facts → Bool
-is_any_chosen facts = list_any (is_chosen facts) fact_names
+is_any_chosen facts = list_any (is_in_force facts) fact_names
 
 -- one of the words names the fact, whose letters have no case
 abbrev pub names_fact : List (List ℕ) → FactName → Bool

@@ -11,6 +11,6 @@ pub record Writes {S : Type 0} (held : S → List ℕ) (form : List ℕ → List
   pub room : left old ≤ left new + 2 * length text
 
 -- a text was refused, a part of it may stand there; so much room was not there
-pub record BreaksOff {S : Type 0} (held : S → List ℕ) (left : S → ℕ) (text : List ℕ) (old new : S) : Type 0 where
+pub record WritesPart {S : Type 0} (held : S → List ℕ) (left : S → ℕ) (text : List ℕ) (old new : S) : Type 0 where
   pub front : GoesOn (held old) (held new)
   pub full : left old ≤ 2 * length text

@@ -65,11 +65,11 @@ pub(crate) enum FactValue<'a> {
 impl<'a> LentEntry<'a> {
     ghost use Rattle.std.specs.Option.{option_map};
     ghost use Rattle.ftp_facts.specs.Entry.{listed_lent, value_text};
-    ghost use Rattle.ftp_facts.specs.Listed.{text_in};
+    ghost use Rattle.ftp_facts.specs.Listed.{fact_text_in};
 
     /// The value of a fact, where the entry has it.
     pub(crate) fn value(self, name: FactName) -> Option<FactValue<'a>>
-        ensures { option_map value_text result ≡ text_in (listed_lent self.entry) name }
+        ensures { option_map value_text result ≡ fact_text_in (listed_lent self.entry) name }
     {
         match name {
             FactName::Kind => Some(FactValue::Text(self.kind?)),
@@ -83,11 +83,11 @@ impl<'a> LentEntry<'a> {
 impl<A: Allocator + Copy> Entry<A> {
     ghost use Rattle.std.specs.Prelude.{IfOk};
     ghost use Rattle.std.specs.Option.{option_copied, option_map};
-    ghost use Rattle.ftp_facts.specs.Entry.{IsFit, listed_in, listed_lent, listed_of};
+    ghost use Rattle.ftp_facts.specs.Entry.{IsFitEntry, listed_in, listed_lent, listed_of};
 
     /// A copy of an entry that is lent. One of the four words of a type, in whatever case, is that type.
     pub fn copy_of(alloc: A, lent: LentEntry<'_>) -> Result<Entry<A>, AllocError>
-        requires { IsFit (listed_lent lent) }
+        requires { IsFitEntry (listed_lent lent) }
         // Witness: equations; callers: `read_entry`, `says`, and `write_entry`, `line`.
         ensures { IfOk result (λ entry. listed_of entry ≡ listed_in lent.entry) }
     {
@@ -139,12 +139,12 @@ impl<A: Allocator + Copy> Entry<A> {
 impl<A: Allocator + Copy> EntryKind<A> {
     ghost use Rattle.std.specs.Prelude.{IfOk};
     ghost use Rattle.std.specs.Option.{option_copied, option_map};
-    ghost use Rattle.ftp_facts.specs.Entry.{word_of};
+    ghost use Rattle.ftp_facts.specs.Entry.{word_of_kind};
     ghost use Rattle.ftp_facts.specs.Listed.{kind_word};
 
     fn copy_of(alloc: A, word: Option<&[u8]>) -> Result<Option<EntryKind<A>>, AllocError>
         requires { ForSome (option_copied word) IsValue }
-        ensures word { IfOk result (λ kind. option_map word_of kind ≡ option_map kind_word (option_copied word.entry)) }
+        ensures word { IfOk result (λ kind. option_map word_of_kind kind ≡ option_map kind_word (option_copied word.entry)) }
         ensures fits { IfOk result (λ kind. (other : List ℕ) → kind ≡ Some (Other other) → IsOtherWord other) }
     {
         match word {
@@ -155,7 +155,7 @@ impl<A: Allocator + Copy> EntryKind<A> {
 
     fn of_word(alloc: A, word: &[u8]) -> Result<EntryKind<A>, AllocError>
         requires { IsValue word.now }
-        ensures word { IfOk result (λ kind. word_of kind ≡ kind_word word.now) }
+        ensures word { IfOk result (λ kind. word_of_kind kind ≡ kind_word word.now) }
         ensures fits { IfOk result (λ kind. (other : List ℕ) → kind ≡ Other other → IsOtherWord other) }
     {
         if is_word(word, b"file") {
@@ -172,7 +172,7 @@ impl<A: Allocator + Copy> EntryKind<A> {
     }
 
     fn lent(kind: &Option<EntryKind<A>>) -> Option<&[u8]>
-        ensures { option_copied result ≡ option_map word_of kind.now }
+        ensures { option_copied result ≡ option_map word_of_kind kind.now }
     {
         match kind {
             None => None,
@@ -181,7 +181,7 @@ impl<A: Allocator + Copy> EntryKind<A> {
     }
 
     fn word(&self) -> &[u8]
-        ensures { result.now ≡ word_of self.now }
+        ensures { result.now ≡ word_of_kind self.now }
     {
         match self {
             EntryKind::File => b"file",

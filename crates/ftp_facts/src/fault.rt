@@ -1,6 +1,6 @@
 //! Why a line is no entry, or a text no moment.
 ghost use Rattle.std.specs.Prelude.{Some};
-ghost use Rattle.ftp_facts.specs.Fault.{fault_text};
+ghost use Rattle.ftp_facts.specs.Fault.{fact_fault_text};
 
 use std::error::Error;
 use std::fmt;
@@ -25,7 +25,7 @@ impl FactFault {
 
     /// The number and the name, as `Display` prints them.
     pub fn text(self) -> &'static str
-        ensures { result.now ≡ fault_text self }
+        ensures { result.now ≡ fact_fault_text self }
     {
         match self {
             FactFault::NoSpace => "F1 NoSpace",
@@ -38,7 +38,7 @@ impl FactFault {
 }
 
 impl fmt::Display for FactFault {
-    ghost output = { λ fault. Some (fault_text fault) };
+    ghost output = { λ fault. Some (fact_fault_text fault) };
 
     fn fmt<W: fmt::Write>(&self, f: &mut fmt::Formatter<W>) -> fmt::Result {
         f.write_str(self.text())

@@ -2,7 +2,7 @@
 ghost use Rattle.std.specs.Prelude.{◌≡◌, ◌≤◌, length};
 ghost use Rattle.std.specs.List.{slice_split};
 ghost use Rattle.ftp_facts.specs.Listed.{is_semicolon};
-ghost use Rattle.ftp_facts.specs.Name.{fact_word, facts_named, is_any_chosen, is_chosen, names_fact};
+ghost use Rattle.ftp_facts.specs.Name.{fact_word, facts_named, is_any_chosen, is_in_force, names_fact};
 
 /// A fact of an entry, of those that are said and read here (RFC 3659, section 7.5; which these are is an own choice).
 #[derive(Clone, Copy, Debug, PartialEq, Eq)]
@@ -74,7 +74,7 @@ impl Facts {
 
     /// Whether a fact is in force.
     pub fn has(self, name: FactName) -> bool
-        ensures { result ≡ is_chosen self name }
+        ensures { result ≡ is_in_force self name }
     {
         match name {
             FactName::Kind => self.kind,

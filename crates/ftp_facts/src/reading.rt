@@ -4,7 +4,7 @@ ghost use Rattle.std.specs.Option.{option_copied};
 ghost use Rattle.ftp_facts.specs.Value.{number_value};
 ghost use Rattle.ftp_facts.specs.Moment.{moment_value};
 ghost use Rattle.ftp_facts.specs.Listed.{fact_value};
-ghost use Rattle.ftp_facts.specs.Entry.{HasParts, IsFit, NoParts, Refuses, SaysEntry, SaysListed, listed_in, listed_lent, texts_of};
+ghost use Rattle.ftp_facts.specs.Entry.{HasParts, IsFitEntry, NoParts, Refuses, SaysEntry, SaysListed, listed_in, listed_lent, texts_of};
 
 use crate::cutting::cut_at;
 use crate::facts::value_of;
@@ -33,7 +33,7 @@ pub fn read_entry<A: Allocator + Copy>(alloc: A, line: &[u8]) -> Result<Entry<A>
 /// What a line says, lent from it.
 fn see(line: &[u8]) -> Result<LentEntry<'_>, FactFault>
     ensures says { IfOk result (λ seen. SaysListed line.now (listed_in seen)) }
-    ensures fits { IfOk result (λ seen. IsFit (listed_lent seen)) }
+    ensures fits { IfOk result (λ seen. IsFitEntry (listed_lent seen)) }
     ensures refuses { IfErr result (Refuses line.now) }
 {
     let parts = parts_of(line)?;

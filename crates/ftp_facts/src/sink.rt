@@ -1,6 +1,6 @@
 // What the line of an entry is written into.
 ghost use Rattle.std.specs.Prelude.{◌≡◌, ◌++◌, ℕ, List, [], OnErr, OnOk, refl};
-ghost use Rattle.ftp_facts.specs.Sink.{BreaksOff, Writes};
+ghost use Rattle.ftp_facts.specs.Sink.{WritesPart, Writes};
 
 use std::alloc::{AllocError, Allocator};
 
@@ -19,7 +19,7 @@ pub trait LineSink {
     fn write_text(&mut self, text: &[u8]) -> Result<(), AllocError>
         // Witness: caller: `write_entry_line`, `ok` and `err`.
         ensures ok { OnOk result (Writes held form left text.now self.old self.new) }
-        ensures err { OnErr result (BreaksOff held left text.now self.old self.new) };
+        ensures err { OnErr result (WritesPart held left text.now self.old self.new) };
 
     /// Texts one after another stand there as one.
     ghost joins: { (front back : List ℕ) → form (front ++ back) ≡ form front ++ form back };

@@ -4,7 +4,7 @@ ghost use Rattle.ftp_facts.specs.Entry.{entry_line, listed_lent, value_text};
 ghost use Rattle.ftp_facts.specs.Fact.{facts_text, given};
 ghost use Rattle.ftp_facts.specs.Line.{facts_of, listed_line, said_texts};
 ghost use Rattle.ftp_facts.specs.Name.{fact_word};
-ghost use Rattle.ftp_facts.specs.Sink.{BreaksOff, Writes};
+ghost use Rattle.ftp_facts.specs.Sink.{WritesPart, Writes};
 
 use crate::entry::FactValue;
 use crate::{Entry, FactFault, FactName, Facts, LentEntry, LineSink, moment_text};
@@ -42,7 +42,7 @@ pub fn write_entry_line<S: LineSink>(
     // Witness of ok: equation; caller: `write_entry`, `line`.
     ensures ok { OnOk result (Writes S.held S.form S.left (listed_line facts (listed_lent lent.entry)) out.old out.new) }
     // Witness of err: caller: `write_entry`, `unchanged`; `put_listed` of `ftp_server_replies`.
-    ensures err { OnErr result (BreaksOff S.held S.left (listed_line facts (listed_lent lent.entry)) out.old out.new) }
+    ensures err { OnErr result (WritesPart S.held S.left (listed_line facts (listed_lent lent.entry)) out.old out.new) }
 {
     write_facts(lent, facts, out)?;
     out.write_text(b" ")?;
@@ -56,7 +56,7 @@ fn write_facts<S: LineSink>(
     out: &mut S,
 ) -> Result<(), AllocError>
     ensures ok { OnOk result (Writes S.held S.form S.left (facts_text (facts_of (said_texts facts (listed_lent lent.entry)))) out.old out.new) }
-    ensures err { OnErr result (BreaksOff S.held S.left (facts_text (facts_of (said_texts facts (listed_lent lent.entry)))) out.old out.new) }
+    ensures err { OnErr result (WritesPart S.held S.left (facts_text (facts_of (said_texts facts (listed_lent lent.entry)))) out.old out.new) }
 {
     for name in FactName::ALL {
         if facts.has(name) {
@@ -73,7 +73,7 @@ fn write_given<S: LineSink>(
     out: &mut S,
 ) -> Result<(), AllocError>
     ensures ok { OnOk result (Writes S.held S.form S.left (facts_text (given (fact_word name) (option_map value_text value.entry))) out.old out.new) }
-    ensures err { OnErr result (BreaksOff S.held S.left (facts_text (given (fact_word name) (option_map value_text value.entry))) out.old out.new) }
+    ensures err { OnErr result (WritesPart S.held S.left (facts_text (given (fact_word name) (option_map value_text value.entry))) out.old out.new) }
 {
     match value {
         None => Ok(()),
@@ -88,7 +88,7 @@ fn write_given<S: LineSink>(
 /// Writes `name=value;`.
 fn write_fact<S: LineSink>(name: FactName, value: &[u8], out: &mut S) -> Result<(), AllocError>
     ensures ok { OnOk result (Writes S.held S.form S.left (facts_text (given (fact_word name) (Some value.now))) out.old out.new) }
-    ensures err { OnErr result (BreaksOff S.held S.left (facts_text (given (fact_word name) (Some value.now))) out.old out.new) }
+    ensures err { OnErr result (WritesPart S.held S.left (facts_text (given (fact_word name) (Some value.now))) out.old out.new) }
 {
     out.write_text(name.word())?;
     out.write_text(b"=")?;

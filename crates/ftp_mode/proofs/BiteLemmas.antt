@@ -16,11 +16,11 @@ use Rattle.ftp_repr.specs.Signs.{octet}
 use Rattle.ftp_mode.specs.Block.{ends_of}
 use Rattle.ftp_mode.specs.Count.{count_on}
 use Rattle.ftp_mode.specs.Reading.{Reading, IsGoing, going, Place, plain, outside, inside, after_block, reader}
-use Rattle.ftp_mode.specs.Deframing.{reading_of, reading, owed, last_marker, gave_said, part_said, Moves, Bites, Refuses, Fails, Hears, SaysLast}
+use Rattle.ftp_mode.specs.Deframing.{reading_of, reading, owed, last_marker, gave_said, part_said, MovesReading, Bites, Refuses, Fails, Hears, SaysLast}
 use Rattle.ftp_mode.proofs.ReaderRuns.{run_after, run_gives, plain_runs, outside_runs, ended_after, ended_gives, short_after, short_gives, full_after, full_gives}
 
 pub plain_moves : (s t : State) (n m : ℕ) (a b w : List ℕ) → 0 < length w → s ≡ Plain → t ≡ s → m ≡ count_on n (length w)
-    → Moves (reading_of s n a) (reading_of t m b) w (octets_said w)
+    → MovesReading (reading_of s n a) (reading_of t m b) w (octets_said w)
 plain_moves s t n m a b [] some is same place = absurd (omega arith)
 plain_moves s t n m a b (c ∷ w) some is same place = record {
   state = rw (same, is, place) (sym (run_after plain n c w (plain_runs (c ∷ w))));
@@ -28,7 +28,7 @@ plain_moves s t n m a b (c ∷ w) some is same place = record {
 }
 
 pub outside_moves : (s t : State) (n m : ℕ) (a b w : List ℕ) → 0 < length w → s ≡ Outside → t ≡ s → m ≡ count_on n (length w)
-    → AllByRecursion (λ c. (c == 255) ≡ false) w → Moves (reading_of s n a) (reading_of t m b) w (octets_said w)
+    → AllByRecursion (λ c. (c == 255) ≡ false) w → MovesReading (reading_of s n a) (reading_of t m b) w (octets_said w)
 outside_moves s t n m a b [] some is same place all = absurd (omega arith)
 outside_moves s t n m a b (c ∷ w) some is same place all = record {
   state = rw (same, is, place) (sym (run_after outside n c w (outside_runs (c ∷ w) all)));
@@ -36,7 +36,7 @@ outside_moves s t n m a b (c ∷ w) some is same place all = record {
 }
 
 pub ended_moves : (s t : State) (n m : ℕ) (a b w : List ℕ) → 0 < length w → s ≡ Ended → t ≡ s → m ≡ count_on n (length w)
-    → Moves (reading_of s n a) (reading_of t m b) w []
+    → MovesReading (reading_of s n a) (reading_of t m b) w []
 ended_moves s t n m a b [] some is same place = absurd (omega arith)
 ended_moves s t n m a b (c ∷ w) some is same place = record {
   state = rw (same, is, place) (sym (ended_after n c w));
@@ -45,7 +45,7 @@ ended_moves s t n m a b (c ∷ w) some is same place = record {
 
 pub short_moves : (s : State) (n m d more rest : ℕ) (a b w : List ℕ) → 0 < length w → s ≡ Inside d more → length w < more + 1
     → rest ≡ more + 1 - length w - 1 → m ≡ count_on n (length w)
-    → Moves (reading_of s n a) (reading_of (Inside d rest) m b) w (octets_said w)
+    → MovesReading (reading_of s n a) (reading_of (Inside d rest) m b) w (octets_said w)
 short_moves s n m d more rest a b [] some is short left place = absurd (omega arith)
 short_moves s n m d more rest a b (c ∷ w) some is short left place = record {
   state = let e : rest + 1 ≡ more + 1 - length (c ∷ w) = omega arith in
@@ -55,7 +55,7 @@ short_moves s n m d more rest a b (c ∷ w) some is short left place = record {
 
 pub full_moves : (s : State) (now : Reading) (n m d more : ℕ) (a w : List ℕ) → s ≡ Inside d more → length w ≡ more + 1
     → now ≡ going m (after_block d) → m ≡ count_on n (length w)
-    → Moves (reading_of s n a) now w (octets_said w ++ ends_of d)
+    → MovesReading (reading_of s n a) now w (octets_said w ++ ends_of d)
 full_moves s now n m d more a [] is full at place = absurd (omega arith)
 full_moves s now n m d more a (c ∷ w) is full at place = record {
   state = at ∙ ap (λ k. going k (after_block d)) place ∙ rw is (sym (full_after n d (more + 1) c w full));
@@ -82,16 +82,16 @@ outside_gives s n a piece run i is few all =
     ap (λ t. gives reader (reading_of t n a) (take i piece)) is ∙ run_gives outside n (take i piece) (outside_runs (take i piece) front)
 
 -- octets behind others
-pub moves_more : (a b c : Reading) (xs ys : List ℕ) (said : List Said) → Moves a b xs [] → Moves b c ys said → Moves a c (xs ++ ys) said
+pub moves_more : (a b c : Reading) (xs ys : List ℕ) (said : List Said) → MovesReading a b xs [] → MovesReading b c ys said → MovesReading a c (xs ++ ys) said
 moves_more a b c xs ys said first then = record {
   state = then.state ∙ ap (λ s. after reader s ys) first.state ∙ sym (after-append reader a xs ys);
   says = then.says ∙ ap (λ s. gives reader s ys) first.state ∙ ap (λ l. l ++ gives reader (after reader a xs) ys) first.says ∙ sym (gives-append reader a xs ys);
 }
 
-pub moves_take : (a b c : Reading) (piece : List ℕ) (at n : ℕ) (said : List Said) → Moves a b (take at piece) [] → Moves b c (take n (drop at piece)) said
-    → Moves a c (take (at + n) piece) said
+pub moves_take : (a b c : Reading) (piece : List ℕ) (at n : ℕ) (said : List Said) → MovesReading a b (take at piece) [] → MovesReading b c (take n (drop at piece)) said
+    → MovesReading a c (take (at + n) piece) said
 moves_take a b c piece at n said first then =
-    let P : List ℕ → Type 0 = λ l. Moves a c l said in
+    let P : List ℕ → Type 0 = λ l. MovesReading a c l said in
     subst P (sym (take-add at n piece)) (moves_more a b c (take at piece) (take n (drop at piece)) said first then)
 
 pub same_going : (r s : Reading) → s ≡ r → IsGoing r → IsGoing s
@@ -102,11 +102,11 @@ first_one [] some = absurd (omega arith)
 first_one (c ∷ piece) some = refl
 
 pub refused_at : (old mid new : Deframer) (piece : List ℕ) (at : ℕ) (fault : FrameFault) → at < length piece → owed old ≡ [] → owed mid ≡ []
-    → Moves (reading old) (reading mid) (take at piece) [] → IsGoing (reading mid) → Refuses mid (get_or (drop at piece) 0 0) fault new
+    → MovesReading (reading old) (reading mid) (take at piece) [] → IsGoing (reading mid) → Refuses mid (get_or (drop at piece) 0 0) fault new
     → Fails old piece (at + 1) fault (record new { with_fault = at + 1 })
 refused_at old mid new piece at fault less owes owed_mid moves fine refuses =
-    let one : Moves (reading mid) (reading new) (take 1 (drop at piece)) [] =
-    (let P : List ℕ → Type 0 = λ l. Moves (reading mid) (reading new) l [] in
+    let one : MovesReading (reading mid) (reading new) (take 1 (drop at piece)) [] =
+    (let P : List ℕ → Type 0 = λ l. MovesReading (reading mid) (reading new) l [] in
     subst P (sym (first_one (drop at piece) (omega (arith, length-drop at piece)))) (record { state = refuses.state; says = sym (append-nil _ ∙ refuses.quiet) })) in
     let all = moves_take (reading old) (reading mid) (reading new) piece at 1 [] moves one in
     let before : at + 1 - 1 ≡ at = omega arith in
@@ -150,7 +150,7 @@ pub none_last : (from : Reading) (piece : List ℕ) (n : ℕ) → SaysLast from 
 none_last from piece n = record { fits = omega arith; each = λ i less. absurd (omega (arith, less)) }
 
 -- behind octets that say nothing
-pub last_more : (a b : Reading) (piece : List ℕ) (at n : ℕ) (said : List Said) → Moves a b (take at piece) [] → SaysLast b (drop at piece) n said
+pub last_more : (a b : Reading) (piece : List ℕ) (at n : ℕ) (said : List Said) → MovesReading a b (take at piece) [] → SaysLast b (drop at piece) n said
     → SaysLast a piece (at + n) said
 last_more a b piece at n said first then = record {
   fits = omega (arith, then.fits);
@@ -164,18 +164,18 @@ last_more a b piece at n said first then = record {
       ∙ ap (λ r. gives reader r rest) (sym first.state) ∙ then.each i less;
 }
 
-pub next_last : (old mid new : Deframer) (piece rest : List ℕ) (at : ℕ) (bite : Bite) → rest ≡ drop at piece → Moves (reading old) (reading mid) (take at piece) []
+pub next_last : (old mid new : Deframer) (piece rest : List ℕ) (at : ℕ) (bite : Bite) → rest ≡ drop at piece → MovesReading (reading old) (reading mid) (take at piece) []
     → Bites mid rest bite new → SaysLast (reading old) piece (at + bite.taken) (gave_said bite.gave (take bite.taken rest) (last_marker new))
 next_last old mid new piece rest at bite cut first bites =
     let P : List ℕ → Type 0 = λ l. SaysLast (reading mid) l bite.taken (gave_said bite.gave (take bite.taken rest) (last_marker new)) in
     last_more (reading old) (reading mid) piece at bite.taken (gave_said bite.gave (take bite.taken rest) (last_marker new)) first (subst P cut bites.by_last)
 
 -- a bite behind octets that gave nothing
-pub next_bite : (old mid new : Deframer) (piece rest : List ℕ) (at : ℕ) (bite : Bite) → rest ≡ drop at piece → Moves (reading old) (reading mid) (take at piece) []
+pub next_bite : (old mid new : Deframer) (piece rest : List ℕ) (at : ℕ) (bite : Bite) → rest ≡ drop at piece → MovesReading (reading old) (reading mid) (take at piece) []
     → Bites mid rest bite new
-    → Moves (reading old) (reading new) (take (at + bite.taken) piece) (gave_said bite.gave (take bite.taken rest) (last_marker new) ++ owed new)
+    → MovesReading (reading old) (reading new) (take (at + bite.taken) piece) (gave_said bite.gave (take bite.taken rest) (last_marker new) ++ owed new)
 next_bite old mid new piece rest at bite cut first bites =
-    let P : List ℕ → Type 0 = λ l. Moves (reading mid) (reading new) (take bite.taken l) (gave_said bite.gave (take bite.taken rest) (last_marker new) ++ owed new) in
+    let P : List ℕ → Type 0 = λ l. MovesReading (reading mid) (reading new) (take bite.taken l) (gave_said bite.gave (take bite.taken rest) (last_marker new) ++ owed new) in
     moves_take (reading old) (reading mid) (reading new) piece at bite.taken (gave_said bite.gave (take bite.taken rest) (last_marker new) ++ owed new) first (subst P cut bites.moves)
 
 pub next_within : (mid new : Deframer) (piece rest : List ℕ) (at : ℕ) (bite : Bite) → rest ≡ drop at piece → at < length piece
@@ -185,7 +185,7 @@ next_within mid new piece rest at bite cut less bites =
 
 -- the part that ends a call
 pub heard : (old new : Deframer) (piece : List ℕ) (n : ℕ) (part : Part) (said : List Said) → n ≤ length piece → owed old ≡ []
-    → Moves (reading old) (reading new) (take n piece) said → part_said part (last_marker new) ++ owed new ≡ said
+    → MovesReading (reading old) (reading new) (take n piece) said → part_said part (last_marker new) ++ owed new ≡ said
     → 0 < length (part_said part (last_marker new)) → SaysLast (reading old) piece n (part_said part (last_marker new)) → IsGoing (reading new)
     → Hears old piece (record { taken = n; part = part }) new
 heard old new piece n part said within none moves gave some last fine = record {

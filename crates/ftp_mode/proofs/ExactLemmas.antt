@@ -12,10 +12,10 @@ use Rattle.ftp_mode.specs.declared.fault.FrameFault.TheVariants.{BadEscape, Susp
 use Rattle.ftp_mode.specs.Said.{Said, says, octets_said}
 use Rattle.ftp_mode.specs.Units.{units_octets, units_said, IsText, Reads}
 use Rattle.ftp_mode.specs.Fault.{Begins, IsFault}
-use Rattle.ftp_mode.specs.Front.{IsCut, IsOpen, Front}
+use Rattle.ftp_mode.specs.Front.{IsCutUnit, IsOpenWire, Front}
 use Rattle.ftp_mode.specs.Count.{count_on, next}
-use Rattle.ftp_mode.specs.Reading.{Reading, going, failed, Place, plain, ended, is_complete_at, is_complete, first_place, start, at_end, reader}
-use Rattle.ftp_mode.specs.Deframing.{Moves}
+use Rattle.ftp_mode.specs.Reading.{Reading, going, failed, Place, plain, ended, is_complete_at, is_complete, first_place, start, at_wire_end, reader}
+use Rattle.ftp_mode.specs.Deframing.{MovesReading}
 use Rattle.ftp_mode.specs.Laws.{ReadsTo}
 use Rattle.ftp_mode.proofs.ReaderRuns.{run_gives, plain_runs}
 use Rattle.ftp_mode.proofs.MoveLemmas.{moves_append}
@@ -28,21 +28,21 @@ pub record Stands (m : Mode) (s : Structure) (w : List ℕ) (said : List Said) :
   pub count : ℕ
   pub at : Place
   pub early : is_complete_at at ≡ is_complete_at (first_place m s)
-  pub moves : Moves (start m s) (going count at) w said
+  pub moves : MovesReading (start m s) (going count at) w said
 
-stands_cut : (m : Mode) (s : Structure) (n : ℕ) (w : List ℕ) (said : List Said) → IsCut m s w said → (k : ℕ) × (p : Place) × (is_complete_at p ≡ is_complete_at (first_place m s)) × Moves (going n (first_place m s)) (going k p) w said
+stands_cut : (m : Mode) (s : Structure) (n : ℕ) (w : List ℕ) (said : List Said) → IsCutUnit m s w said → (k : ℕ) × (p : Place) × (is_complete_at p ≡ is_complete_at (first_place m s)) × MovesReading (going n (first_place m s)) (going k p) w said
 stands_cut Stream File n w said c = absurd c
 stands_cut Stream Record n w said c = let o = cut_moves Stream Record n w said c in (o.count, o.at, o.early, o.moves)
 stands_cut Blocks s n w said c = let o = cut_moves Blocks s n w said c in (o.count, o.at, o.early, o.moves)
 
-stands_kind : (m : Mode) (s : Structure) (n : ℕ) (w : List ℕ) (said : List Said) → ((w ≡ []) × (said ≡ [])) ⊎ IsCut m s w said
-    → (k : ℕ) × (p : Place) × (is_complete_at p ≡ is_complete_at (first_place m s)) × Moves (going n (first_place m s)) (going k p) w said
+stands_kind : (m : Mode) (s : Structure) (n : ℕ) (w : List ℕ) (said : List Said) → ((w ≡ []) × (said ≡ [])) ⊎ IsCutUnit m s w said
+    → (k : ℕ) × (p : Place) × (is_complete_at p ≡ is_complete_at (first_place m s)) × MovesReading (going n (first_place m s)) (going k p) w said
 stands_kind m s n w said kind = elim kind [
   | inl e ↦ (n, first_place m s, refl, record { state = sym (ap (after reader (going n (first_place m s))) e.0); says = e.1 ∙ sym (ap (gives reader (going n (first_place m s))) e.0) })
   | inr c ↦ stands_cut m s n w said c
 ]
 
-pub open_stands : (m : Mode) (s : Structure) (w : List ℕ) (said : List Said) → IsOpen m s w said → Stands m s w said
+pub open_stands : (m : Mode) (s : Structure) (w : List ℕ) (said : List Said) → IsOpenWire m s w said → Stands m s w said
 open_stands m s w said o =
     let n = count_on 0 (length (units_octets o.units)) in
     let cut = stands_kind m s n o.rest o.cut o.kind in
@@ -164,33 +164,33 @@ no_early Blocks s place w b = elim b [
   ]
 ]
 
-complete_end : (r : Reading) → is_complete r → at_end r ≡ failed EndedEarly → ⊥
+complete_end : (r : Reading) → is_complete r → at_wire_end r ≡ failed EndedEarly → ⊥
 complete_end (going n p) done e = absurd (let x : going n p ≡ failed EndedEarly = sym (rw done refl) ∙ e in cc)
 complete_end (failed f) done e = absurd done
 
-pub early_reads : (m : Mode) (s : Structure) (w : List ℕ) (said : List Said) → at_end (after reader (start m s) w) ≡ failed EndedEarly → Reads m s w said → ⊥
+pub early_reads : (m : Mode) (s : Structure) (w : List ℕ) (said : List Said) → at_wire_end (after reader (start m s) w) ≡ failed EndedEarly → Reads m s w said → ⊥
 early_reads m s w said e r = complete_end (after reader (start m s) w) (reads_to m s w said r).complete e
 
-pub early_faults : (m : Mode) (s : Structure) (w : List ℕ) (fault : FrameFault) → length w < 2 ^ 64 → at_end (after reader (start m s) w) ≡ failed EndedEarly → IsFault m s w fault → ⊥
+pub early_faults : (m : Mode) (s : Structure) (w : List ℕ) (fault : FrameFault) → length w < 2 ^ 64 → at_wire_end (after reader (start m s) w) ≡ failed EndedEarly → IsFault m s w fault → ⊥
 early_faults m s w fault fits e f =
-    let same : fault ≡ EndedEarly = same_fault fault EndedEarly (sym (ap at_end (fault_fails m s w fault fits f)) ∙ e) in
+    let same : fault ≡ EndedEarly = same_fault fault EndedEarly (sym (ap at_wire_end (fault_fails m s w fault fits f)) ∙ e) in
     let P : FrameFault → Type 0 = λ g. Begins m s (length (units_octets f.units)) f.rest g in
     no_early m s (length (units_octets f.units)) f.rest (subst P same f.begins)
 
-early_stands : (m : Mode) (s : Structure) (w : List ℕ) (said : List Said) → is_complete_at (first_place m s) ≡ false → IsOpen m s w said → at_end (after reader (start m s) w) ≡ failed EndedEarly
+early_stands : (m : Mode) (s : Structure) (w : List ℕ) (said : List Said) → is_complete_at (first_place m s) ≡ false → IsOpenWire m s w said → at_wire_end (after reader (start m s) w) ≡ failed EndedEarly
 early_stands m s w said early o =
     let x = open_stands m s w said o in
     let none : is_complete_at x.at ≡ false = x.early ∙ early in
-    ap at_end (sym x.moves.state) ∙ rw none refl
+    ap at_wire_end (sym x.moves.state) ∙ rw none refl
 
 early_by : (m : Mode) (s : Structure) (w : List ℕ) → is_complete_at (first_place m s) ≡ false → Shape m s w
-    → ((said : List Said) → IsText m s w said → ⊥) → ((fault : FrameFault) → IsFault m s w fault → ⊥) → at_end (after reader (start m s) w) ≡ failed EndedEarly
+    → ((said : List Said) → IsText m s w said → ⊥) → ((fault : FrameFault) → IsFault m s w fault → ⊥) → at_wire_end (after reader (start m s) w) ≡ failed EndedEarly
 early_by m s w early (is_open said o) no_text no_fault = early_stands m s w said early o
 early_by m s w early (is_text said t) no_text no_fault = absurd (no_text said t)
 early_by m s w early (is_bad b) no_text no_fault = absurd (let f = bad_fault m s w b in no_fault f.0 f.1)
 
 pub neither_early : (m : Mode) (s : Structure) (w : List ℕ) → ((said : List Said) → Reads m s w said → ⊥) → ((fault : FrameFault) → IsFault m s w fault → ⊥)
-    → at_end (after reader (start m s) w) ≡ failed EndedEarly
+    → at_wire_end (after reader (start m s) w) ≡ failed EndedEarly
 neither_early Stream File w no_text no_fault = absurd (no_text (octets_said w ++ says end_file ∷ []) refl)
 neither_early Stream Record w no_text no_fault = early_by Stream Record w refl (shape_of Stream Record w) no_text no_fault
 neither_early Blocks s w no_text no_fault = early_by Blocks s w refl (shape_of Blocks s w) no_text no_fault

@@ -10,7 +10,7 @@ use Rattle.ftp_settings.specs.declared.representation.Mode.TheVariants.{Block as
 use Rattle.ftp_mode.specs.Said.{Said, says, marker, octets_said, file_signs}
 use Rattle.ftp_settings.specs.Marker.{is_marker_octet, IsMarker}
 use Rattle.ftp_mode.specs.Marker.{to_place, places}
-use Rattle.ftp_mode.specs.Block.{Block, IsBlock, count_of, marker_text, data_text, marks_text, marked_text}
+use Rattle.ftp_mode.specs.Block.{Block, IsBlock, block_count, marker_text, data_text, marks_text, marked_text}
 use Rattle.ftp_mode.specs.Units.{whole, IsText}
 use Rattle.ftp_mode.proofs.TextLemmas.{text_is, text_more, blocks_more, blocks_last}
 use Rattle.ftp_mode.proofs.MarkLemmas.{plain_row}
@@ -42,7 +42,7 @@ marker_block n = record { descriptor = 16; high = length (decimal n) / 256; low 
 marker_more : (s : Structure) (n : ℕ) (w : List ℕ) (said : List Said) → n < 2 ^ 64 → IsText Blocks s w said → IsText Blocks s (marker_text n ++ w) (marker (decimal n) ∷ said)
 unfolding marker_block
 marker_more s n w said fits t =
-    let is : IsBlock (marker_block n) = record { sound = refl; counted = let e : count_of (length (decimal n) / 256) (length (decimal n) % 256) ≡ length (decimal n) = omega arith in e; marked = λ e. decimal_marker n fits } in
+    let is : IsBlock (marker_block n) = record { sound = refl; counted = let e : block_count (length (decimal n) / 256) (length (decimal n) % 256) ≡ length (decimal n) = omega arith in e; marked = λ e. decimal_marker n fits } in
     text_more Blocks s (whole (marker_block n)) w said (is, refl) t
 
 pub file-octets : (xs : List ℕ) (rest : List Said) → file_signs (octets_said xs ++ rest) ≡ map octet xs ++ file_signs rest

@@ -7,14 +7,14 @@ use Rattle.ftp_pieces.proofs.MachineLemmas.{after-append, gives-append}
 use Rattle.ftp_mode.specs.declared.fault.FrameFault.TheVariants.{BadMarker}
 use Rattle.ftp_mode.specs.Said.{Said, marker, octets_said}
 use Rattle.ftp_settings.specs.Marker.{is_marker_octet, IsMarker}
-use Rattle.ftp_mode.specs.Block.{Block, block_octets, block_said, IsBlock, has, count_of, ends_of}
+use Rattle.ftp_mode.specs.Block.{Block, block_octets, block_said, IsBlock, has, block_count, ends_of}
 use Rattle.ftp_mode.specs.Fault.{is_no_length}
 use Rattle.ftp_mode.specs.Count.{count_on, next}
 use Rattle.ftp_mode.specs.Reading.{Reading, going, failed, Place, at_head, at_low, inside, marking, after_block, is_complete_at, place_step, place_out, reader}
-use Rattle.ftp_mode.specs.Deframing.{Moves}
+use Rattle.ftp_mode.specs.Deframing.{MovesReading}
 use Rattle.ftp_mode.proofs.ReaderRuns.{full_after, full_gives, failed_after, failed_gives}
 
-pub moves_append : (a b c : Reading) (xs ys : List ℕ) (s t : List Said) → Moves a b xs s → Moves b c ys t → Moves a c (xs ++ ys) (s ++ t)
+pub moves_append : (a b c : Reading) (xs ys : List ℕ) (s t : List Said) → MovesReading a b xs s → MovesReading b c ys t → MovesReading a c (xs ++ ys) (s ++ t)
 moves_append a b c xs ys s t first second = record {
   state = second.state ∙ ap (λ r. after reader r ys) first.state ∙ sym (after-append reader a xs ys);
   says = ap (λ l. s ++ l) (second.says ∙ ap (λ r. gives reader r ys) first.state) ∙ ap (λ l. l ++ gives reader (after reader a xs) ys) first.says
@@ -29,7 +29,7 @@ counted n (x ∷ xs) = counted (next n) xs
 -- the octets of a marker
 pub mark_moves : (n d left : ℕ) (text : List ℕ) (c : ℕ) (xs : List ℕ) → AllByRecursion (λ x. is_marker_octet x ≡ true) (c ∷ xs)
     → length (c ∷ xs) ≡ left → length text + left ≤ 255
-    → Moves (going n (marking d left text)) (going (count_on n (length (c ∷ xs))) (after_block d)) (c ∷ xs) (marker (text ++ c ∷ xs) ∷ ends_of d)
+    → MovesReading (going n (marking d left text)) (going (count_on n (length (c ∷ xs))) (after_block d)) (c ∷ xs) (marker (text ++ c ∷ xs) ∷ ends_of d)
 mark_moves n d left text c [] each full short =
     let good : is_marker_octet c ≡ true = each.0 in
     let fits : ltb (length text) 255 ≡ true = lt-ltb (length text) 255 (omega arith) in
@@ -53,20 +53,20 @@ third_more n d h l xs = omega arith
 
 -- a header
 pub head_moves : (n d h l : ℕ) (now : Reading) (said : List Said) → has d 32 ≡ false → place_step (next (next n)) (at_low d h) l ≡ now → place_out (at_low d h) l ≡ said
-    → Moves (going n at_head) now (d ∷ h ∷ l ∷ []) said
+    → MovesReading (going n at_head) now (d ∷ h ∷ l ∷ []) said
 head_moves n d h l now said sound is gives = record {
   state = rw sound (sym is);
   says = rw sound (sym (append-nil (place_out (at_low d h) l) ∙ gives));
 }
 
-empty_moves : (n d h l : ℕ) → has d 32 ≡ false → has d 16 ≡ false → count_of h l ≡ 0
-    → Moves (going n at_head) (going (third n) (after_block d)) (d ∷ h ∷ l ∷ []) (ends_of d)
+empty_moves : (n d h l : ℕ) → has d 32 ≡ false → has d 16 ≡ false → block_count h l ≡ 0
+    → MovesReading (going n at_head) (going (third n) (after_block d)) (d ∷ h ∷ l ∷ []) (ends_of d)
 empty_moves n d h l sound kind none =
-    let zero_is : (count_of h l == 0) ≡ true = rw none refl in
+    let zero_is : (block_count h l == 0) ≡ true = rw none refl in
     head_moves n d h l (going (third n) (after_block d)) (ends_of d) sound (rw (kind, zero_is) refl) (rw (kind, zero_is) refl)
 
-pub into_data : (n d h l k : ℕ) → has d 32 ≡ false → has d 16 ≡ false → count_of h l ≡ k → 0 < k
-    → Moves (going n at_head) (going (third n) (inside d k)) (d ∷ h ∷ l ∷ []) []
+pub into_data : (n d h l k : ℕ) → has d 32 ≡ false → has d 16 ≡ false → block_count h l ≡ k → 0 < k
+    → MovesReading (going n at_head) (going (third n) (inside d k)) (d ∷ h ∷ l ∷ []) []
 into_data n d h l k sound kind is some =
     let some_is : (k == 0) ≡ false = ne_eqb k 0 (λ q. omega arith) in
     head_moves n d h l (going (third n) (inside d k)) [] sound (rw (kind, is, some_is) refl) (rw (kind, is, some_is) refl)
@@ -77,14 +77,14 @@ fits_length k some short =
     let b : ltb 255 k ≡ false = le-ltb 255 k short in
     rw (a, b) refl
 
-pub into_marker : (n d h l k : ℕ) → has d 32 ≡ false → has d 16 ≡ true → count_of h l ≡ k → is_no_length k ≡ false
-    → Moves (going n at_head) (going (third n) (marking d k [])) (d ∷ h ∷ l ∷ []) []
+pub into_marker : (n d h l k : ℕ) → has d 32 ≡ false → has d 16 ≡ true → block_count h l ≡ k → is_no_length k ≡ false
+    → MovesReading (going n at_head) (going (third n) (marking d k [])) (d ∷ h ∷ l ∷ []) []
 into_marker n d h l k sound kind is fits =
     head_moves n d h l (going (third n) (marking d k [])) [] sound (rw (kind, is, fits) refl) (rw kind refl)
 
 -- a block of data
-pub data_moves : (n d h l : ℕ) (xs : List ℕ) → has d 32 ≡ false → has d 16 ≡ false → count_of h l ≡ length xs
-    → Moves (going n at_head) (going (count_on n (length (d ∷ h ∷ l ∷ xs))) (after_block d)) (d ∷ h ∷ l ∷ xs) (octets_said xs ++ ends_of d)
+pub data_moves : (n d h l : ℕ) (xs : List ℕ) → has d 32 ≡ false → has d 16 ≡ false → block_count h l ≡ length xs
+    → MovesReading (going n at_head) (going (count_on n (length (d ∷ h ∷ l ∷ xs))) (after_block d)) (d ∷ h ∷ l ∷ xs) (octets_said xs ++ ends_of d)
 data_moves n d h l [] sound kind is =
     let m = empty_moves n d h l sound kind is in
     record { state = ap (λ k. going k (after_block d)) (omega arith) ∙ m.state; says = m.says }
@@ -95,8 +95,8 @@ data_moves n d h l (x ∷ xs) sound kind is =
     record { state = ap (λ k. going k (after_block d)) (sym (third_more n d h l (x ∷ xs))) ∙ m.state; says = m.says }
 
 -- a block of a marker
-pub marker_moves : (n d h l : ℕ) (xs : List ℕ) → has d 32 ≡ false → has d 16 ≡ true → count_of h l ≡ length xs → IsMarker xs
-    → Moves (going n at_head) (going (count_on n (length (d ∷ h ∷ l ∷ xs))) (after_block d)) (d ∷ h ∷ l ∷ xs) (marker xs ∷ ends_of d)
+pub marker_moves : (n d h l : ℕ) (xs : List ℕ) → has d 32 ≡ false → has d 16 ≡ true → block_count h l ≡ length xs → IsMarker xs
+    → MovesReading (going n at_head) (going (count_on n (length (d ∷ h ∷ l ∷ xs))) (after_block d)) (d ∷ h ∷ l ∷ xs) (marker xs ∷ ends_of d)
 marker_moves n d h l [] sound kind is good = absurd (omega (arith, good.some))
 marker_moves n d h l (x ∷ xs) sound kind is good =
     let m = moves_append (going n at_head) (going (third n) (marking d (length (x ∷ xs)) [])) (going (count_on (third n) (length (x ∷ xs))) (after_block d)) (d ∷ h ∷ l ∷ []) (x ∷ xs) [] (marker (x ∷ xs) ∷ ends_of d)
@@ -104,14 +104,14 @@ marker_moves n d h l (x ∷ xs) sound kind is good =
     (mark_moves (third n) d (length (x ∷ xs)) [] x xs good.each refl (omega (arith, good.short))) in
     record { state = ap (λ k. going k (after_block d)) (sym (third_more n d h l (x ∷ xs))) ∙ m.state; says = m.says }
 
-block_by : (marked : Bool) (n d h l : ℕ) (xs : List ℕ) → has d 16 ≡ marked → has d 32 ≡ false → count_of h l ≡ length xs → (marked ≡ true → IsMarker xs)
-    → Moves (going n at_head) (going (count_on n (length (d ∷ h ∷ l ∷ xs))) (after_block d)) (d ∷ h ∷ l ∷ xs) ((if marked then marker xs ∷ [] else octets_said xs) ++ ends_of d)
+block_by : (marked : Bool) (n d h l : ℕ) (xs : List ℕ) → has d 16 ≡ marked → has d 32 ≡ false → block_count h l ≡ length xs → (marked ≡ true → IsMarker xs)
+    → MovesReading (going n at_head) (going (count_on n (length (d ∷ h ∷ l ∷ xs))) (after_block d)) (d ∷ h ∷ l ∷ xs) ((if marked then marker xs ∷ [] else octets_said xs) ++ ends_of d)
 block_by true n d h l xs e sound is good = marker_moves n d h l xs sound e is (good refl)
 block_by false n d h l xs e sound is good = data_moves n d h l xs sound e is
 
 -- a block
 pub block_moves : (n : ℕ) (b : Block) → IsBlock b
-    → Moves (going n at_head) (going (count_on n (length (block_octets b))) (after_block b.descriptor)) (block_octets b) (block_said b)
+    → MovesReading (going n at_head) (going (count_on n (length (block_octets b))) (after_block b.descriptor)) (block_octets b) (block_said b)
 block_moves n b is = block_by (has b.descriptor 16) n b.descriptor b.high b.low b.octets refl is.sound is.counted is.marked
 
 -- a place where no connection ends well
@@ -119,11 +119,11 @@ pub record Opens (before : Reading) (w : List ℕ) (said : List Said) : Type 0 w
   pub count : ℕ
   pub at : Place
   pub early : is_complete_at at ≡ false
-  pub moves : Moves before (going count at) w said
+  pub moves : MovesReading before (going count at) w said
 
 -- octets of a marker that do not end it
 pub cut_mark : (n d left : ℕ) (text xs : List ℕ) → AllByRecursion (λ x. is_marker_octet x ≡ true) xs → length xs < left → length text + left ≤ 255
-    → Moves (going n (marking d left text)) (going (counted n xs) (marking d (left - length xs) (text ++ xs))) xs []
+    → MovesReading (going n (marking d left text)) (going (counted n xs) (marking d (left - length xs) (text ++ xs))) xs []
 cut_mark n d left text [] each cut short =
     let whole : left - 0 ≡ left = omega arith in
     record { state = ap (λ k. going n (marking d k (text ++ []))) whole ∙ ap (λ l. going n (marking d left l)) (append-nil text); says = refl }
@@ -141,7 +141,7 @@ cut_mark n d left text (x ∷ xs) each cut short =
 
 -- an octet that no marker has
 pub bad_mark : (n d left : ℕ) (text xs : List ℕ) (bad : ℕ) (w : List ℕ) → AllByRecursion (λ x. is_marker_octet x ≡ true) xs → length xs < left → length text + left ≤ 255
-    → is_marker_octet bad ≡ false → Moves (going n (marking d left text)) (failed (BadMarker (counted n xs))) (xs ++ bad ∷ w) []
+    → is_marker_octet bad ≡ false → MovesReading (going n (marking d left text)) (failed (BadMarker (counted n xs))) (xs ++ bad ∷ w) []
 bad_mark n d left text xs bad w each cut short wrong =
     moves_append (going n (marking d left text)) (going (counted n xs) (marking d (left - length xs) (text ++ xs))) (failed (BadMarker (counted n xs))) xs (bad ∷ w) [] []
     (cut_mark n d left text xs each cut short)

@@ -9,7 +9,7 @@ use Rattle.ftp_mode.specs.Block.{block_text}
 use Rattle.ftp_mode.specs.Count.{count_on}
 use Rattle.ftp_mode.specs.declared.framer.Framer.{Framer}
 use Rattle.ftp_mode.specs.Writing.{Counting, never, unmarked, counted, filling, is_due, counted_on, counted_far, IsCount, IsFar, writer}
-use Rattle.ftp_mode.specs.Framing.{writing, writing_of, counting, still_to_write, is_open, IsClear, Fills, TakesRun}
+use Rattle.ftp_mode.specs.Framing.{writing, writing_of, counting, still_to_write, is_open, IsClear, FillsBlock, TakesRun}
 use Rattle.ftp_mode.proofs.FramingLemmas.{clear_owes}
 
 -- behind the header stand the octets
@@ -65,7 +65,7 @@ filled_run xs n (c ∷ ys) fits room far =
       quiet = ap (λ l. l ++ gives writer (writer.step (filling xs n) (octet c)) (map octet ys)) out ∙ ap (λ s. gives writer s (map octet ys)) step ∙ rest.quiet;
     }
 
-pub fill_takes : (f g : Framer) (xs : List ℕ) → IsClear f → Fills f (length xs) → IsCount (counting f.marks) → g.stage ≡ f.stage → g.block.items ≡ f.block.items ++ xs
+pub fill_takes : (f g : Framer) (xs : List ℕ) → IsClear f → FillsBlock f (length xs) → IsCount (counting f.marks) → g.stage ≡ f.stage → g.block.items ≡ f.block.items ++ xs
     → counting g.marks ≡ counted_far (counting f.marks) (length xs) → g.owed.items ≡ f.owed.items → TakesRun f xs g
 fill_takes f g xs clear fills fits stage block marks owes =
     let before : writing f ≡ filling f.block.items (counting f.marks) = ap (λ s. writing_of s f.block.items (counting f.marks)) fills.stage in

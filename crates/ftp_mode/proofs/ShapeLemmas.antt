@@ -13,10 +13,10 @@ use Rattle.ftp_mode.specs.declared.fault.FrameFault.TheVariants.{BadEscape, Susp
 use Rattle.ftp_mode.specs.Said.{Said, octets_said}
 use Rattle.ftp_mode.specs.Stream.{is_code}
 use Rattle.ftp_settings.specs.Marker.{is_marker_octet, IsMarker}
-use Rattle.ftp_mode.specs.Block.{Block, IsBlock, has, count_of}
+use Rattle.ftp_mode.specs.Block.{Block, IsBlock, has, block_count}
 use Rattle.ftp_mode.specs.Units.{WireUnit, one, escape, whole, unit_octets, unit_said, unit_ends, IsUnit, GoesOn, units_octets, units_said, IsText}
 use Rattle.ftp_mode.specs.Fault.{is_no_length, Begins}
-use Rattle.ftp_mode.specs.Front.{IsCut, IsOpen}
+use Rattle.ftp_mode.specs.Front.{IsCutUnit, IsOpenWire}
 use Rattle.ftp_mode.proofs.CutLemmas.{length_fits}
 
 -- what begins stands in no text, wherever it begins
@@ -31,7 +31,7 @@ pub record IsBad (m : Mode) (s : Structure) (w : List ℕ) : Type 0 where
   pub stops : Stops m s rest
 
 pub data Shape (m : Mode) (s : Structure) (w : List ℕ) : Type 0 where
-  is_open : (said : List Said) → IsOpen m s w said → Shape m s w
+  is_open : (said : List Said) → IsOpenWire m s w said → Shape m s w
   is_text : (said : List Said) → IsText m s w said → Shape m s w
   is_bad : IsBad m s w → Shape m s w
 
@@ -79,7 +79,7 @@ shape_unit m s u w h rest =
 shape_none : (m : Mode) (s : Structure) → Shape m s []
 shape_none m s = is_open [] (record { units = []; each = tt; rest = []; cut = []; is = refl; says = refl; kind = inl (refl, refl) })
 
-shape_cut : (m : Mode) (s : Structure) (w : List ℕ) (said : List Said) → IsCut m s w said → Shape m s w
+shape_cut : (m : Mode) (s : Structure) (w : List ℕ) (said : List Said) → IsCutUnit m s w said → Shape m s w
 shape_cut m s w said c = is_open said (record { units = []; each = tt; rest = w; cut = said; is = refl; says = refl; kind = inr c })
 
 shape_stops : (m : Mode) (s : Structure) (w : List ℕ) → Stops m s w → Shape m s w
@@ -133,28 +133,28 @@ abbrev pub headed : ℕ → ℕ → ℕ → List ℕ → List ℕ
 headed d h l w = d ∷ h ∷ l ∷ w
 
 -- a block with all of its octets
-block_shape : (s : Structure) (d h l : ℕ) (w : List ℕ) → has d 32 ≡ false → count_of h l ≤ length w
-    → (has d 16 ≡ true → IsMarker (take (count_of h l) w)) → Shape Blocks s (drop (count_of h l) w) → Shape Blocks s (headed d h l w)
+block_shape : (s : Structure) (d h l : ℕ) (w : List ℕ) → has d 32 ≡ false → block_count h l ≤ length w
+    → (has d 16 ≡ true → IsMarker (take (block_count h l) w)) → Shape Blocks s (drop (block_count h l) w) → Shape Blocks s (headed d h l w)
 block_shape s d h l w sound full marked rest =
-    let n = count_of h l in
+    let n = block_count h l in
     let b : Block = record { descriptor = d; high = h; low = l; octets = take n w } in
     let is : IsBlock b = record { sound = sound; counted = sym (length-take-le n w full); marked = marked } in
     let P : List ℕ → Type 0 = λ v. Shape Blocks s (headed d h l v) in
     subst P (take-append-drop n w) (shape_unit Blocks s (whole b) (drop n w) is rest)
 
 data_shape : (s : Structure) (d h l : ℕ) (w : List ℕ) → has d 32 ≡ false → has d 16 ≡ false
-    → Shape Blocks s (drop (count_of h l) w) → Shape Blocks s (headed d h l w)
+    → Shape Blocks s (drop (block_count h l) w) → Shape Blocks s (headed d h l w)
 data_shape s d h l w sound plain rest =
-    elim (cases_lt (length w) (count_of h l)) [
+    elim (cases_lt (length w) (block_count h l)) [
       | inl less ↦ shape_cut Blocks s (headed d h l w) (octets_said w)
           (inr (inl (record { descriptor = d; high = h; low = l; octets = w; is = refl; sound = sound; plain = plain; short = less; says = refl })))
       | inr full ↦ block_shape s d h l w sound full (λ e. absurd (false≢true (sym plain ∙ e))) rest
     ]
 
-wrong_octet : (s : Structure) (d h l : ℕ) (w : List ℕ) → has d 32 ≡ false → has d 16 ≡ true → is_no_length (count_of h l) ≡ false
-    → FirstBad (take (count_of h l) w) → Shape Blocks s (headed d h l w)
+wrong_octet : (s : Structure) (d h l : ℕ) (w : List ℕ) → has d 32 ≡ false → has d 16 ≡ true → is_no_length (block_count h l) ≡ false
+    → FirstBad (take (block_count h l) w) → Shape Blocks s (headed d h l w)
 wrong_octet s d h l w sound kind fits b =
-    let n = count_of h l in
+    let n = block_count h l in
     let cut : w ≡ b.good ++ b.bad ∷ (b.rest ++ drop n w) =
     sym (take-append-drop n w) ∙ ap (λ v. v ++ drop n w) b.is ∙ append_assoc b.good (b.bad ∷ b.rest) (drop n w) in
     let less : length b.good < n = omega (arith, ap length b.is, length-append b.good (b.bad ∷ b.rest), length-take n w) in
@@ -178,10 +178,10 @@ wrong_octet s d h l w sound kind fits b =
       })),
     ))
 
-marker_shape : (s : Structure) (d h l : ℕ) (w : List ℕ) → has d 32 ≡ false → has d 16 ≡ true → is_no_length (count_of h l) ≡ false
-    → Shape Blocks s (drop (count_of h l) w) → Shape Blocks s (headed d h l w)
+marker_shape : (s : Structure) (d h l : ℕ) (w : List ℕ) → has d 32 ≡ false → has d 16 ≡ true → is_no_length (block_count h l) ≡ false
+    → Shape Blocks s (drop (block_count h l) w) → Shape Blocks s (headed d h l w)
 marker_shape s d h l w sound kind fits rest =
-    let n = count_of h l in
+    let n = block_count h l in
     elim (scan (take n w)) [
       | inl all ↦ elim (cases_lt (length w) n) [
         | inl less ↦ (let P : List ℕ → Type 0 = λ v. AllByRecursion (λ c. is_marker_octet c ≡ true) v in
@@ -207,10 +207,10 @@ marker_shape s d h l w sound kind fits rest =
       | inr b ↦ wrong_octet s d h l w sound kind fits b
     ]
 
-head_shape : (s : Structure) (d h l : ℕ) (w : List ℕ) → has d 32 ≡ false → Shape Blocks s (drop (count_of h l) w) → Shape Blocks s (headed d h l w)
+head_shape : (s : Structure) (d h l : ℕ) (w : List ℕ) → has d 32 ≡ false → Shape Blocks s (drop (block_count h l) w) → Shape Blocks s (headed d h l w)
 head_shape s d h l w sound rest =
     elim (decided (has d 16)) [
-      | inl kind ↦ elim (decided (is_no_length (count_of h l))) [
+      | inl kind ↦ elim (decided (is_no_length (block_count h l))) [
         | inl wrong ↦ shape_stops Blocks s (headed d h l w) (λ place. (
           BadMarker place,
           inr (inl (record {
@@ -249,7 +249,7 @@ blocks_shape s (suc k) (d ∷ h ∷ []) less =
 blocks_shape s (suc k) (d ∷ h ∷ l ∷ w) less =
     elim (decided (has d 32)) [
       | inl e ↦ suspect_shape s d (h ∷ l ∷ w) e
-      | inr e ↦ head_shape s d h l w e (blocks_shape s k (drop (count_of h l) w) (omega (arith, length-drop (count_of h l) w)))
+      | inr e ↦ head_shape s d h l w e (blocks_shape s k (drop (block_count h l) w) (omega (arith, length-drop (block_count h l) w)))
     ]
 
 -- every wire is one of the three

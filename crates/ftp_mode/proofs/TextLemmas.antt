@@ -11,7 +11,7 @@ use Rattle.ftp_settings.specs.declared.representation.Mode.{Mode}
 use Rattle.ftp_settings.specs.declared.representation.Mode.TheVariants.{Stream, Block as Blocks}
 use Rattle.ftp_mode.specs.Said.{Said, says, octets_said, file_signs}
 use Rattle.ftp_mode.specs.Stream.{escaped_octet, plain_text, record_text}
-use Rattle.ftp_mode.specs.Block.{Block, block_said, IsBlock, has, count_of, ends_of, block_text, blocks_text, data_text, rows_text}
+use Rattle.ftp_mode.specs.Block.{Block, block_said, IsBlock, has, block_count, ends_of, block_text, blocks_text, data_text, rows_text}
 use Rattle.ftp_mode.specs.Units.{WireUnit, one, escape, whole, unit_octets, unit_said, unit_ends, IsUnit, GoesOn, units_octets, units_said, IsText}
 
 -- one more unit in front of a text
@@ -87,7 +87,7 @@ plain_says (end_file ∷ ss) h = ap (λ l. says end_file ∷ row_said l) h
 written_block : ℕ → List ℕ → Block
 written_block d xs = record { descriptor = d; high = length xs / 256; low = length xs % 256; octets = xs }
 
-count_is : (n : ℕ) → count_of (n / 256) (n % 256) ≡ n
+count_is : (n : ℕ) → block_count (n / 256) (n % 256) ≡ n
 count_is n = omega arith
 
 written_is : (d : ℕ) (xs : List ℕ) → has d 32 ≡ false → has d 16 ≡ false → IsBlock (written_block d xs)

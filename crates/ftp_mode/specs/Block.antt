@@ -22,8 +22,8 @@ pub record Block : Type 0 where
 abbrev pub block_octets : Block → List ℕ
 block_octets b = b.descriptor ∷ b.high ∷ b.low ∷ b.octets
 
-abbrev pub count_of : ℕ → ℕ → ℕ
-count_of high low = high * 256 + low
+abbrev pub block_count : ℕ → ℕ → ℕ
+block_count high low = high * 256 + low
 
 -- the ends that a descriptor names, that of the record first
 abbrev pub ends_of : ℕ → List Said
@@ -40,7 +40,7 @@ block_said b = octets_of b.descriptor b.octets ++ ends_of b.descriptor
 -- a block of a text: no suspected errors, as many octets as it counts, and those of a marker are one
 pub record IsBlock (b : Block) : Type 0 where
   pub sound : has b.descriptor SUSPECTED_ERRORS ≡ false
-  pub counted : count_of b.high b.low ≡ length b.octets
+  pub counted : block_count b.high b.low ≡ length b.octets
   pub marked : has b.descriptor RESTART_MARKER ≡ true → IsMarker b.octets
 
 -- the block that is written for octets

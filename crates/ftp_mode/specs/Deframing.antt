@@ -90,7 +90,7 @@ gave_said GaveOctets xs text = octets_said xs
 gave_said GaveMarker xs text = marker text ∷ []
 
 -- octets bring a reader from a state to a state, and say this
-pub record Moves (before now : Reading) (w : List ℕ) (said : List Said) : Type 0 where
+pub record MovesReading (before now : Reading) (w : List ℕ) (said : List Said) : Type 0 where
   pub state : now ≡ after reader before w
   pub says : said ≡ gives reader before w
 
@@ -98,7 +98,7 @@ pub record Moves (before now : Reading) (w : List ℕ) (said : List Said) : Type
 pub record Bites (old : Deframer) (piece : List ℕ) (bite : Bite) (new : Deframer) : Type 0 where
   pub some : 0 < bite.taken
   pub within : bite.taken ≤ length piece
-  pub moves : Moves (reading old) (reading new) (take bite.taken piece)
+  pub moves : MovesReading (reading old) (reading new) (take bite.taken piece)
       (gave_said bite.gave (take bite.taken piece) (last_marker new) ++ owed new)
   pub by_last : SaysLast (reading old) piece bite.taken (gave_said bite.gave (take bite.taken piece) (last_marker new))
   pub alone : bite.gave ≡ GaveNothing → (bite.taken ≡ 1) ⊎ (owed new ≡ [])

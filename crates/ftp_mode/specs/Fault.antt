@@ -8,7 +8,7 @@ use Rattle.ftp_settings.specs.declared.representation.Mode.TheVariants.{Stream, 
 use Rattle.ftp_mode.specs.declared.fault.FrameFault.{FrameFault}
 use Rattle.ftp_mode.specs.declared.fault.FrameFault.TheVariants.{BadEscape, Suspect, BadMarker}
 use Rattle.ftp_mode.specs.Stream.{is_code}
-use Rattle.ftp_mode.specs.Block.{has, count_of}
+use Rattle.ftp_mode.specs.Block.{has, block_count}
 use Rattle.ftp_settings.specs.Marker.{is_marker_octet}
 use Rattle.ftp_settings.specs.declared.marker.TheConstants.{MARKER_LIMIT}
 use Rattle.ftp_mode.specs.Units.{WireUnit, GoesOn, units_octets}
@@ -44,7 +44,7 @@ pub record IsBadLength (place : ℕ) (w : List ℕ) (fault : FrameFault) : Type 
   pub is : w ≡ descriptor ∷ high ∷ low ∷ rest
   pub sound : has descriptor SUSPECTED_ERRORS ≡ false
   pub marker : has descriptor RESTART_MARKER ≡ true
-  pub wrong : is_no_length (count_of high low) ≡ true
+  pub wrong : is_no_length (block_count high low) ≡ true
   pub named : fault ≡ BadMarker place
 
 -- an octet in a marker that is not printable, at its place
@@ -58,8 +58,8 @@ pub record IsBadOctet (place : ℕ) (w : List ℕ) (fault : FrameFault) : Type 0
   pub is : w ≡ descriptor ∷ high ∷ low ∷ (good ++ bad ∷ rest)
   pub sound : has descriptor SUSPECTED_ERRORS ≡ false
   pub marker : has descriptor RESTART_MARKER ≡ true
-  pub fits : is_no_length (count_of high low) ≡ false
-  pub within : length good < count_of high low
+  pub fits : is_no_length (block_count high low) ≡ false
+  pub within : length good < block_count high low
   pub each : AllByRecursion (λ c. is_marker_octet c ≡ true) good
   pub wrong : is_marker_octet bad ≡ false
   pub named : fault ≡ BadMarker (place + 3 + length good)

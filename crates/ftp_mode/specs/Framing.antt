@@ -77,7 +77,7 @@ pub record Waits (old : Framer) (x : Sign) (new : Framer) : Type 0 where
   pub some : 0 < length (owed_octets new)
 
 -- so many octets go into the block, and nothing is written before them
-pub record Fills (f : Framer) (len : ℕ) : Type 0 where
+pub record FillsBlock (f : Framer) (len : ℕ) : Type 0 where
   pub stage : f.stage ≡ Filling
   pub room : length f.block.items + len ≤ BLOCK_LIMIT
   pub far : IsFar (counting f.marks) len

@@ -7,7 +7,7 @@ use Rattle.ftp_settings.specs.declared.representation.Mode.{Mode}
 use Rattle.ftp_settings.specs.declared.representation.Mode.TheVariants.{Stream, Block as Blocks}
 use Rattle.ftp_mode.specs.declared.fault.FrameFault.{FrameFault}
 use Rattle.ftp_mode.specs.Said.{Said, octets_said}
-use Rattle.ftp_mode.specs.Block.{has, count_of}
+use Rattle.ftp_mode.specs.Block.{has, block_count}
 use Rattle.ftp_settings.specs.Marker.{is_marker_octet}
 use Rattle.ftp_mode.specs.Units.{WireUnit, GoesOn, units_octets, units_said, IsText}
 use Rattle.ftp_mode.specs.Fault.{is_no_length, IsFault}
@@ -27,7 +27,7 @@ pub record IsCutData (w : List ℕ) (said : List Said) : Type 0 where
   pub is : w ≡ descriptor ∷ high ∷ low ∷ octets
   pub sound : has descriptor SUSPECTED_ERRORS ≡ false
   pub plain : has descriptor RESTART_MARKER ≡ false
-  pub short : length octets < count_of high low
+  pub short : length octets < block_count high low
   pub says : said ≡ octets_said octets
 
 -- a cut marker says nothing
@@ -39,32 +39,32 @@ pub record IsCutMarker (w : List ℕ) : Type 0 where
   pub is : w ≡ descriptor ∷ high ∷ low ∷ octets
   pub sound : has descriptor SUSPECTED_ERRORS ≡ false
   pub marker : has descriptor RESTART_MARKER ≡ true
-  pub fits : is_no_length (count_of high low) ≡ false
-  pub short : length octets < count_of high low
+  pub fits : is_no_length (block_count high low) ≡ false
+  pub short : length octets < block_count high low
   pub each : AllByRecursion (λ c. is_marker_octet c ≡ true) octets
 
 -- a unit that was cut, and what it says
-abbrev pub IsCut : Mode → Structure → List ℕ → List Said → Type 0
-IsCut Stream File w said = ⊥
-IsCut Stream Record w said = (w ≡ ESCAPE ∷ []) × (said ≡ [])
-IsCut Blocks s w said = (IsCutHeader w × (said ≡ [])) ⊎ IsCutData w said ⊎ (IsCutMarker w × (said ≡ []))
+abbrev pub IsCutUnit : Mode → Structure → List ℕ → List Said → Type 0
+IsCutUnit Stream File w said = ⊥
+IsCutUnit Stream Record w said = (w ≡ ESCAPE ∷ []) × (said ≡ [])
+IsCutUnit Blocks s w said = (IsCutHeader w × (said ≡ [])) ⊎ IsCutData w said ⊎ (IsCutMarker w × (said ≡ []))
 
 -- a wire that something may still follow: whole units, and perhaps one that was cut
-pub record IsOpen (m : Mode) (s : Structure) (w : List ℕ) (said : List Said) : Type 0 where
+pub record IsOpenWire (m : Mode) (s : Structure) (w : List ℕ) (said : List Said) : Type 0 where
   pub units : List WireUnit
   pub each : AllByRecursion (GoesOn m s) units
   pub rest : List ℕ
   pub cut : List Said
   pub is : w ≡ units_octets units ++ rest
   pub says : said ≡ units_said units ++ cut
-  pub kind : ((rest ≡ []) × (cut ≡ [])) ⊎ IsCut m s rest cut
+  pub kind : ((rest ≡ []) × (cut ≡ [])) ⊎ IsCutUnit m s rest cut
 
 -- a wire with a fault settles what stands before it
-pub record IsFaulty (m : Mode) (s : Structure) (w : List ℕ) (said : List Said) : Type 0 where
+pub record IsFaultyWire (m : Mode) (s : Structure) (w : List ℕ) (said : List Said) : Type 0 where
   pub fault : FrameFault
   pub is : IsFault m s w fault
   pub says : said ≡ units_said is.units
 
 -- what a wire settles: all that it says up to where it was cut, ended or stands in no text
 abbrev pub Front : Mode → Structure → List ℕ → List Said → Type 0
-Front m s w said = IsOpen m s w said ⊎ IsText m s w said ⊎ IsFaulty m s w said
+Front m s w said = IsOpenWire m s w said ⊎ IsText m s w said ⊎ IsFaultyWire m s w said

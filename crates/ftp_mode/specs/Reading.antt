@@ -12,7 +12,7 @@ use Rattle.ftp_mode.specs.Said.{Said, says, marker}
 use Rattle.ftp_mode.specs.Stream.{is_code, code_said, code_ends}
 use Rattle.ftp_settings.specs.Marker.{is_marker_octet}
 use Rattle.ftp_settings.specs.declared.marker.TheConstants.{MARKER_LIMIT}
-use Rattle.ftp_mode.specs.Block.{has, count_of, ends_of}
+use Rattle.ftp_mode.specs.Block.{has, block_count, ends_of}
 use Rattle.ftp_mode.specs.Count.{next}
 use Rattle.ftp_mode.specs.Fault.{is_no_length}
 use Rattle.ftp_mode.specs.declared.descriptor.TheConstants.{END_OF_FILE, SUSPECTED_ERRORS, RESTART_MARKER}
@@ -51,7 +51,7 @@ place_step n escaped c =
     if is_code c then going (next n) (if code_ends c then ended else outside) else failed (BadEscape n)
 place_step n at_head c = if has c SUSPECTED_ERRORS then failed (Suspect n) else going (next n) (at_high c)
 place_step n (at_high d) c = going (next n) (at_low d c)
-place_step n (at_low d high) c = if has d RESTART_MARKER then marker_begins n d (count_of high c) else data_begins n d (count_of high c)
+place_step n (at_low d high) c = if has d RESTART_MARKER then marker_begins n d (block_count high c) else data_begins n d (block_count high c)
 place_step n (inside d left) c = going (next n) (if left == 1 then after_block d else inside d (left - 1))
 place_step n (marking d left text) c =
     if is_marker_octet c && nat_lt (length text) MARKER_LIMIT then going (next n) (if left == 1 then after_block d else marking d (left - 1) (text ++ c ∷ []))
@@ -64,7 +64,7 @@ place_out outside c = if c == ESCAPE then [] else says (octet c) ∷ []
 place_out escaped c = code_said c
 place_out at_head c = []
 place_out (at_high d) c = []
-place_out (at_low d high) c = if has d RESTART_MARKER then [] else (if count_of high c == 0 then ends_of d else [])
+place_out (at_low d high) c = if has d RESTART_MARKER then [] else (if block_count high c == 0 then ends_of d else [])
 place_out (inside d left) c = says (octet c) ∷ (if left == 1 then ends_of d else [])
 place_out (marking d left text) c =
     if is_marker_octet c && nat_lt (length text) MARKER_LIMIT then (if left == 1 then marker (text ++ c ∷ []) ∷ ends_of d else []) else []
@@ -112,9 +112,9 @@ is_complete (going n at) = IsTrue (is_complete_at at)
 is_complete (failed fault) = ⊥
 
 -- the state once the connection has ended: without an end of file that came it ended early, if nothing was wrong before
-abbrev pub at_end : Reading → Reading
-at_end (going n at) = if is_complete_at at then going n at else failed EndedEarly
-at_end (failed fault) = failed fault
+abbrev pub at_wire_end : Reading → Reading
+at_wire_end (going n at) = if is_complete_at at then going n at else failed EndedEarly
+at_wire_end (failed fault) = failed fault
 
 -- the state once the connection broke: behind the end of file nothing is missing
 abbrev pub broken_at : ℕ → Place → Reading

@@ -123,11 +123,11 @@ abbrev pub writer : Machine Writing Sign ℕ
 writer = record { step = write_step; out = write_out }
 
 -- nothing was taken
-abbrev pub blank : Mode → Structure → Writing
-blank Stream File = copying
-blank Stream Record = free
-blank InBlocks File = filling [] unmarked
-blank InBlocks Record = filling [] never
+abbrev pub blank_writing : Mode → Structure → Writing
+blank_writing Stream File = copying
+blank_writing Stream Record = free
+blank_writing InBlocks File = filling [] unmarked
+blank_writing InBlocks Record = filling [] never
 
 abbrev pub count_from : ℕ → Counting → Counting
 count_from start never = never

@@ -1,7 +1,7 @@
 ghost use Rattle.std.specs.Prelude.{◌≡◌, ◌≢◌, ◌+◌, ◌<◌, ◌≤◌, ◌⊎◌, ◌++◌, ℕ, List, [], ◌∷◌, ◌-◌, ◌^◌, ◌↔◌, min, length, take, drop, IfOk, IfErr, OnOk, OnErr, IsOk, IsTrue, IsFalse, true, IfSome, IfNone, slice_index};
 ghost use Rattle.ftp_mode.specs.Block.{ends_of};
 ghost use Rattle.ftp_mode.specs.Count.{count_on};
-ghost use Rattle.ftp_mode.specs.Reading.{Reading, start, at_end, broken_state, going, failed, after_block, is_complete};
+ghost use Rattle.ftp_mode.specs.Reading.{Reading, start, at_wire_end, broken_state, going, failed, after_block, is_complete};
 ghost use Rattle.ftp_mode.specs.Deframing.{reading, owed, last_marker, taken_with_fault, part_said, gave_said, Hears, Fails, Bites, Reads, Refuses, IsControl};
 
 use crate::Mode;
@@ -166,7 +166,7 @@ impl Deframer {
     /// answers it again.
     pub fn end(&mut self) -> Result<(), FrameFault>
         // Witness of state, ok, err: an equation, and two that `state` decides; `edits/record_link_that_ends_is_the_end_of_file`.
-        ensures state { reading self.new ≡ at_end (reading self.old) }
+        ensures state { reading self.new ≡ at_wire_end (reading self.old) }
         ensures ok { OnOk result (is_complete (reading self.new)) }
         ensures err { IfErr result (λ fault. reading self.new ≡ failed fault) }
         ensures owes { owed self.new ≡ owed self.old }

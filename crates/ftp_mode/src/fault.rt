@@ -1,5 +1,5 @@
 ghost use Rattle.std.specs.Prelude.{Some};
-ghost use Rattle.ftp_mode.specs.FaultText.{fault_text};
+ghost use Rattle.ftp_mode.specs.FaultText.{frame_fault_text};
 
 use std::error::Error;
 use std::fmt;
@@ -20,7 +20,7 @@ pub enum FrameFault {
 
 /// The number, the name and the place, as `M1 BadEscape(2)`.
 impl fmt::Display for FrameFault {
-    ghost output = { λ fault. Some (fault_text fault) };
+    ghost output = { λ fault. Some (frame_fault_text fault) };
 
     fn fmt<W: fmt::Write>(&self, f: &mut fmt::Formatter<W>) -> fmt::Result {
         match self {

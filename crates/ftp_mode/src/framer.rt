@@ -2,8 +2,8 @@ ghost use Rattle.std.specs.Prelude.{◌≡◌, ◌≢◌, ◌+◌, ◌/◌, ◌%
 ghost use Rattle.ftp_repr.specs.Signs.{Sign, octet as sign, end_record, end_file};
 ghost use Rattle.ftp_repr.specs.Items.{signs, given_signs};
 ghost use Rattle.ftp_mode.specs.Block.{block_text, marker_text};
-ghost use Rattle.ftp_mode.specs.Writing.{blank, with_marks, is_due, due_text, marked, counted_on, counted_far, IsCount, IsFar, writer, write_step, closed, manner};
-ghost use Rattle.ftp_mode.specs.Framing.{writing, counting, owed_block, owed_octets, still_to_write, is_open, IsClear, Takes, Waits, AreRun, Fills, TakesRun};
+ghost use Rattle.ftp_mode.specs.Writing.{blank_writing, with_marks, is_due, due_text, marked, counted_on, counted_far, IsCount, IsFar, writer, write_step, closed, manner};
+ghost use Rattle.ftp_mode.specs.Framing.{writing, counting, owed_block, owed_octets, still_to_write, is_open, IsClear, Takes, Waits, AreRun, FillsBlock, TakesRun};
 
 use crate::block_output::copy_to;
 use crate::descriptor::{END_OF_BOTH, END_OF_FILE, END_OF_RECORD, GOES_ON, RESTART_MARKER};
@@ -117,7 +117,7 @@ impl Framer {
     /// A writer of one file in this mode and structure.
     pub fn new(mode: Mode, structure: Structure) -> Framer
         // Witness: equations; `edits/stream_of_a_file_is_written_with_escapes`.
-        ensures state { writing result ≡ blank mode structure }
+        ensures state { writing result ≡ blank_writing mode structure }
         ensures owes { owed_octets result ≡ [] }
     {
         let stage = match mode {
@@ -328,7 +328,7 @@ impl Framer {
     /// How many octets in front go into the block with nothing written before them.
     fn fill_len(&self, piece: &[u8]) -> usize
         ensures within { result ≤ length piece.now }
-        ensures fills { 0 < result → Fills self.now result }
+        ensures fills { 0 < result → FillsBlock self.now result }
     {
         match self.stage {
             Stage::Filling => piece
@@ -355,7 +355,7 @@ impl Framer {
     /// Takes octets for which there is place in the block.
     fn fill_run(&mut self, piece: &[u8])
         requires clear { IsClear self.old }
-        requires fills { Fills self.old (length piece.now) }
+        requires fills { FillsBlock self.old (length piece.now) }
         ensures { TakesRun self.old piece.now self.new }
     {
         let _ = self.block.try_extend_from_slice(piece);

@@ -15,7 +15,7 @@ ghost use Rattle.ftp_mode.specs.Block.{marked_text};
 ghost use Rattle.ftp_mode.specs.Units.{Reads};
 ghost use Rattle.ftp_mode.specs.Fault.{IsFault};
 ghost use Rattle.ftp_mode.specs.Front.{Front};
-ghost use Rattle.ftp_mode.specs.Reading.{reader, start, failed, at_end};
+ghost use Rattle.ftp_mode.specs.Reading.{reader, start, failed, at_wire_end};
 ghost use Rattle.ftp_mode.specs.Wire.{wire, image_file};
 ghost use Rattle.ftp_mode.specs.Laws.{ReadsTo, settled_content, ended_content, EndsItself};
 
@@ -55,7 +55,7 @@ pub fn faults()
 
 /// A connection ended early exactly where the wire reads as nothing and has no fault.
 pub fn early()
-    ensures { (m : Mode) (s : Structure) (w : List ℕ) → length w < 2 ^ 64 → (at_end (after reader (start m s) w) ≡ failed EndedEarly)
+    ensures { (m : Mode) (s : Structure) (w : List ℕ) → length w < 2 ^ 64 → (at_wire_end (after reader (start m s) w) ≡ failed EndedEarly)
         ↔ (((said : List Said) → Reads m s w said → ⊥) × ((fault : FrameFault) → IsFault m s w fault → ⊥)) }
 {}
 

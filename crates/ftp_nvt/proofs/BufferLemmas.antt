@@ -3,7 +3,7 @@ use Rattle.std.proofs.Common.{◌≡◌, ◌≢◌, ℕ, ◌+◌, ◌-◌, ◌<�
 use Rattle.std.specs.Prelude.{nat_le, if◌then◌else◌}
 use Rattle.ftp_nvt.specs.Lines.{NvtEvent, line, cut, last_octet, text_behind, text_of, without_return, lines, settled}
 use Rattle.ftp_nvt.specs.Event.{event_list}
-use Rattle.ftp_nvt.specs.LineBuffer.{IsWithin, StandsAt, Stands, HasRead, Reads, Steps}
+use Rattle.ftp_nvt.specs.LineBuffer.{IsWithin, StandsAtStage, Stands, CanHaveRead, Reads, Steps}
 use Rattle.ftp_nvt.specs.declared.event.Event.{Event}
 use Rattle.ftp_nvt.specs.declared.event.Event.TheVariants.{More, Line}
 use Rattle.ftp_nvt.specs.declared.line.Stage.{Stage}
@@ -15,7 +15,7 @@ use Rattle.ftp_nvt.proofs.CutLemmas.{decided, no_leb, NoLineEnd, NoReturn, rest-
 pub Reads-trans : {A : Type 0} (a b c : LineBuffer A) (xs ys : List ℕ) (first second : List NvtEvent) → Reads a xs first b → Reads b ys second c → Reads a (xs ++ ys) (first ++ second) c
 Reads-trans a b c xs ys first second before later = record {
   limit = later.limit ∙ before.limit;
-  has_read = λ octets h. subst (λ l. HasRead c l) (append_assoc octets xs ys) (later.has_read (octets ++ xs) (before.has_read octets h));
+  has_read = λ octets h. subst (λ l. CanHaveRead c l) (append_assoc octets xs ys) (later.has_read (octets ++ xs) (before.has_read octets h));
   said = λ octets h.
       ap (lines a.limit) (sym (append_assoc octets xs ys))
       ∙ ap (λ n. lines n (octets ++ xs ++ ys)) (sym before.limit)
@@ -29,7 +29,7 @@ Reads-trans a b c xs ys first second before later = record {
 pub Reads-nil : {A : Type 0} (buffer : LineBuffer A) → Reads buffer [] [] buffer
 Reads-nil buffer = record {
   limit = refl;
-  has_read = λ octets h. subst (λ l. HasRead buffer l) (sym (append-nil octets)) h;
+  has_read = λ octets h. subst (λ l. CanHaveRead buffer l) (sym (append-nil octets)) h;
   said = λ octets h. ap (lines buffer.limit) (append-nil octets) ∙ sym (append-nil (lines buffer.limit octets));
 }
 
@@ -43,14 +43,14 @@ Steps-Reads old new octet event step = record {
 }
 
 -- where a buffer stands, at an equal place
-at_place : (s t : Stage) (limit count : ℕ) (text rest : List ℕ) → s ≡ t → StandsAt s limit count text rest → StandsAt t limit count text rest
-at_place s t limit count text rest is stands = subst (λ v. StandsAt v limit count text rest) is stands
+at_place : (s t : Stage) (limit count : ℕ) (text rest : List ℕ) → s ≡ t → StandsAtStage s limit count text rest → StandsAtStage t limit count text rest
+at_place s t limit count text rest is stands = subst (λ v. StandsAtStage v limit count text rest) is stands
 
 -- in a line that keeps the limit so far
 abbrev pub IsOpen : Stage → Type 0
 IsOpen stage = (stage ≡ Inside) ⊎ (stage ≡ AfterReturn)
 
-within : (s : Stage) (limit count : ℕ) (text rest : List ℕ) → IsOpen s → StandsAt s limit count text rest → IsWithin count text rest
+within : (s : Stage) (limit count : ℕ) (text rest : List ℕ) → IsOpen s → StandsAtStage s limit count text rest → IsWithin count text rest
 within s limit count text rest (inl is) stands = (at_place s Inside limit count text rest is stands).0
 within s limit count text rest (inr is) stands = (at_place s AfterReturn limit count text rest is stands).0
 
@@ -64,7 +64,7 @@ begin_reads old new is at same none empty = record {
   limit = same;
   has_read = λ octets h.
       let rest : (cut octets).rest ≡ [] = at_place old.stage Start old.limit old.count old.text.items (cut octets).rest is h.stands in
-      let ready : StandsAt Inside new.limit new.count new.text.items [] = (record { counted = none; said = empty ∙ sym text-nil }, refl) in
+      let ready : StandsAtStage Inside new.limit new.count new.text.items [] = (record { counted = none; said = empty ∙ sym text-nil }, refl) in
       let placed : Stands new [] = at_place Inside new.stage new.limit new.count new.text.items [] (sym at) ready in
       record { stands = subst (λ l. Stands new (cut l).rest) (sym (append-nil octets)) (subst (λ r. Stands new r) (sym rest) placed) };
   said = λ octets h. ap (lines old.limit) (append-nil octets) ∙ sym (append-nil (lines old.limit octets));
@@ -76,7 +76,7 @@ skip_reads buffer plain is none = record {
   limit = refl;
   has_read = λ octets h.
       let past = at_place buffer.stage Past buffer.limit buffer.count buffer.text.items (cut octets).rest is h.stands in
-      let further : StandsAt Past buffer.limit buffer.count buffer.text.items (cut (octets ++ plain)).rest =
+      let further : StandsAtStage Past buffer.limit buffer.count buffer.text.items (cut (octets ++ plain)).rest =
       subst (λ r. buffer.limit < length r) (sym (ap (λ k. k.rest) (cut-append-inside octets plain none))) (omega (arith, past, length-append (cut octets).rest plain)) in
       record { stands = at_place Past buffer.stage buffer.limit buffer.count buffer.text.items (cut (octets ++ plain)).rest (sym is) further };
   said = λ octets h.
@@ -106,7 +106,7 @@ run_reads old new plain is at same count text none free fits = record {
       let before = at_place old.stage Inside old.limit old.count old.text.items rest is h.stands in
       let counted : new.count ≡ length (rest ++ plain) = count ∙ ap (λ n. n + length plain) before.0.counted ∙ sym (length-append rest plain) in
       let said : new.text.items ≡ text_of (rest ++ plain) = text ∙ ap (λ l. l ++ plain) before.0.said ∙ sym (text_behind-append-plain 10 rest plain before.1 free) in
-      let later : StandsAt Inside new.limit new.count new.text.items (rest ++ plain) = (record { counted = counted; said = said }, last_octet-append-plain 10 rest plain before.1 free) in
+      let later : StandsAtStage Inside new.limit new.count new.text.items (rest ++ plain) = (record { counted = counted; said = said }, last_octet-append-plain 10 rest plain before.1 free) in
       let placed : Stands new (rest ++ plain) = at_place Inside new.stage new.limit new.count new.text.items (rest ++ plain) (sym at) later in
       record { stands = subst (λ r. Stands new r) (sym (ap (λ k. k.rest) (cut-append-inside octets plain none))) placed };
   said = λ octets h.

@@ -2,7 +2,7 @@
 use Rattle.std.proofs.Common.{◌≡◌, ℕ, zero, suc, get_or, ◌||◌, ◌+◌, ◌-◌, ◌<◌, ◌≤◌, List, [], ◌∷◌, ◌++◌, Bool, true, false, ◌==◌, ◌&&◌, ◌⊎◌, inl, inr, refl, ap, sym, ◌∙◌, append_assoc, append-nil, arith, length, length-append, take, map, eqb-true, le-leb, leb-true, ne_eqb, eq-eqb, lt_irrefl, lt_of_le_of_lt, true≢false}
 use Rattle.std.specs.List.{AllByRecursion}
 use Rattle.memchr.specs.Find.{is_byte3}
-use Rattle.ftp_nvt.specs.Lines.{Lacks}
+use Rattle.ftp_nvt.specs.Lines.{IsNoneOf}
 use Rattle.std.proofs.Math.Bool.{and-false}
 use Rattle.std.proofs.Math.Seq.{take-append_seam}
 use Rattle.std.proofs.lemmas.Bool.{cases_lt}
@@ -320,5 +320,5 @@ no_line_end octets none = all_give (λ x e. first_false (x == 10) (x == 13) (fir
 pub no_return : (octets : List ℕ) → NoEnds octets → NoReturn octets
 no_return octets none = all_give (λ x e. second_false (x == 10) (x == 13) (first_false ((x == 10) || (x == 13)) (x == 255) e)) octets none
 
-pub no_command : (octets : List ℕ) → NoEnds octets → Lacks 255 octets
+pub no_command : (octets : List ℕ) → NoEnds octets → IsNoneOf 255 octets
 no_command octets none = all_give (λ x e. second_false ((x == 10) || (x == 13)) (x == 255) e) octets none

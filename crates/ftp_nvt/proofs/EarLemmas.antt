@@ -1,9 +1,9 @@
 -- What an ear has heard, step by step.
 use Rattle.std.proofs.Common.{◌≡◌, ◌≢◌, ◌==◌, ◌⊎◌, inl, inr, false, ne_eqb, ℕ, ◌+◌, List, [], ◌∷◌, ◌++◌, map, refl, ap, sym, subst, ◌∙◌, append_assoc, append-nil, take, drop, take-add}
 use Rattle.std.specs.List.{flat_map}
-use Rattle.ftp_nvt.specs.Lines.{NvtEvent, owed, Lacks, lines_added, events_behind, events}
+use Rattle.ftp_nvt.specs.Lines.{NvtEvent, owed, IsNoneOf, lines_added, events_behind, events}
 use Rattle.ftp_nvt.specs.Telnet.{TelnetUnit, data_octet, option, is_verb, place_from, units_from, place_behind, unit_ended, bare_of, owed_of, bare}
-use Rattle.ftp_nvt.specs.LineBuffer.{HasRead, Reads}
+use Rattle.ftp_nvt.specs.LineBuffer.{CanHaveRead, Reads}
 use Rattle.ftp_nvt.specs.Ear.{limit_of, HasHeard, Hears}
 use Rattle.ftp_nvt.specs.declared.telnet.TelnetState.{TelnetState}
 use Rattle.ftp_nvt.specs.declared.telnet.TelnetState.TheVariants as At
@@ -51,7 +51,7 @@ units_hear old new taken us added said leads ends reads adds = record {
       bare-append octets taken ∙ ap (λ p. bare octets ++ flat_map bare_of (units_from p taken)) (sym h.place) ∙ ap (λ l. bare octets ++ flat_map bare_of l) ends in
       record {
         place = sym leads ∙ ap (λ p. place_from p taken) h.place ∙ sym (place-append octets taken);
-        line = subst (λ l. HasRead new.line l) (sym bare_is) (reads.has_read (bare octets) h.line);
+        line = subst (λ l. CanHaveRead new.line l) (sym bare_is) (reads.has_read (bare octets) h.line);
       };
   said = λ octets h.
       events-append (limit_of old) octets taken
@@ -62,7 +62,7 @@ units_hear old new taken us added said leads ends reads adds = record {
 }
 
 -- octets without IAC between units
-pub data_hears : {A : Type 0} (old new : Ear A) (taken : List ℕ) (added : List NvtEvent) → old.place ≡ At.Between → new.place ≡ old.place → Lacks 255 taken
+pub data_hears : {A : Type 0} (old new : Ear A) (taken : List ℕ) (added : List NvtEvent) → old.place ≡ At.Between → new.place ≡ old.place → IsNoneOf 255 taken
     → Reads old.line taken added new.line → Hears old taken added new
 data_hears old new taken added is same lacks reads =
     units_hear old new taken (map data_octet taken) added added
@@ -72,7 +72,7 @@ data_hears old new taken added is same lacks reads =
     (λ before grown. events_behind-data old.line.limit before taken ∙ ap (lines_added old.line.limit before) (sym (bare-data taken)) ∙ grown)
 
 -- octets without IAC in a subnegotiation
-pub inside_hears : {A : Type 0} (ear : Ear A) (taken : List ℕ) → ear.place ≡ At.Inside → Lacks 255 taken → Hears ear taken [] ear
+pub inside_hears : {A : Type 0} (ear : Ear A) (taken : List ℕ) → ear.place ≡ At.Inside → IsNoneOf 255 taken → Hears ear taken [] ear
 inside_hears ear taken is lacks =
     units_hear ear ear taken [] [] [] (ap (λ p. place_from p taken) is ∙ place_from-inside taken lacks ∙ sym is)
     (ap (λ p. units_from p taken) is ∙ units_from-inside taken lacks) (Reads-nil ear.line) (λ before grown. refl)

@@ -3,7 +3,7 @@ use Rattle.std.proofs.Common.{◌≡◌, ℕ, List, [], ◌∷◌, ◌++◌, len
 use Rattle.std.specs.List.{flat_map}
 use Rattle.std.proofs.Math.Seq.{drop-append_seam}
 use Rattle.ftp_nvt.specs.Lines.{NvtEvent, owed, lines, lines_added, events_behind, events}
-use Rattle.ftp_nvt.specs.Telnet.{TelnetUnit, data_octet, units_from, units, place, bare_of, owed_of, bare}
+use Rattle.ftp_nvt.specs.Telnet.{TelnetUnit, data_octet, units_from, units, place_in_unit, bare_of, owed_of, bare}
 use Rattle.ftp_nvt.proofs.CutLemmas.{lines_after, lines-append}
 use Rattle.ftp_nvt.proofs.TelnetLemmas.{units-append, units-nil}
 
@@ -49,13 +49,13 @@ events-nil limit = ap (events_behind limit []) units-nil
 
 -- what octets add, behind others
 abbrev pub events_after : ℕ → List ℕ → List ℕ → List NvtEvent
-events_after limit before octets = events_behind limit (bare before) (units_from (place before) octets)
+events_after limit before octets = events_behind limit (bare before) (units_from (place_in_unit before) octets)
 
 -- the events of a front are a front of the events
 pub events-append : (limit : ℕ) (xs ys : List ℕ) → events limit (xs ++ ys) ≡ events limit xs ++ events_after limit xs ys
 unfolding events bare
 events-append limit xs ys =
-    ap (events_behind limit []) (units-append xs ys) ∙ events_behind-append limit [] (units xs) (units_from (place xs) ys)
+    ap (events_behind limit []) (units-append xs ys) ∙ events_behind-append limit [] (units xs) (units_from (place_in_unit xs) ys)
 
 -- units without a bare octet and an answer say nothing
 pub events_behind-quiet : (limit : ℕ) (before : List ℕ) (us : List TelnetUnit) → flat_map bare_of us ≡ [] → flat_map owed_of us ≡ [] → events_behind limit before us ≡ []

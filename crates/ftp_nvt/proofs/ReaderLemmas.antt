@@ -3,8 +3,8 @@ use Rattle.std.proofs.Common.{◌≡◌, ℕ, ◌≤◌, inl, inr, List, [], ◌
 use Rattle.std.specs.Prelude.{if◌then◌else◌}
 use Rattle.std.specs.List.{flat_map}
 use Rattle.ftp_nvt.specs.Lines.{cut, last_octet, text_of}
-use Rattle.ftp_nvt.specs.Telnet.{TelnetUnit, place_behind, unit_ended, place_from, units_from, units, place, bare_of, bare}
-use Rattle.ftp_nvt.specs.LineBuffer.{StandsAt}
+use Rattle.ftp_nvt.specs.Telnet.{TelnetUnit, place_behind, unit_ended, place_from, units_from, units, place_in_unit, bare_of, bare}
+use Rattle.ftp_nvt.specs.LineBuffer.{StandsAtStage}
 use Rattle.ftp_nvt.specs.Ear.{limit_of}
 use Rattle.ftp_nvt.specs.declared.ear.Ear.{Ear as Reader}
 use Rattle.ftp_nvt.specs.declared.line.Stage.{Stage}
@@ -16,7 +16,7 @@ use Rattle.ftp_nvt.specs.Fold.{Unfinished, no_line, liner, line_at, Ear, quiet, 
 use Rattle.ftp_nvt.proofs.FoldLemmas.{Stands, StandsBehind, same_line, stands_nil, say_all, first_stands}
 
 -- what is kept of a line stands where the buffer does
-line_stands : (stage : Stage) (limit count : ℕ) (text rest : List ℕ) → count ≤ limit → StandsAt stage limit count text rest → Stands limit (line_at stage count text) rest
+line_stands : (stage : Stage) (limit count : ℕ) (text rest : List ℕ) → count ≤ limit → StandsAtStage stage limit count text rest → Stands limit (line_at stage count text) rest
 line_stands Start limit count text rest keeps is = let P : List ℕ → Type 0 = λ r. Stands limit no_line r in subst P (sym is) (stands_nil limit)
 line_stands Inside limit count text rest keeps (here, last) =
     inl (
@@ -66,7 +66,7 @@ pub same_ear : (p q : TelnetState) (u v : Unfinished) → p ≡ q → u ≡ v �
 same_ear p q u v e f i = record { place = e i; line = f i }
 
 pub reader_is_ear : {A : Type 0} (reader : Reader A) → ReaderIsEar reader
-unfolding place bare units
+unfolding place_in_unit bare units
 reader_is_ear reader octets h =
     let limit : ℕ = limit_of reader in
     let l = leads limit At.Between no_line [] octets (first_stands limit) in

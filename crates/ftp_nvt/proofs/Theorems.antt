@@ -3,9 +3,9 @@ use Rattle.std.proofs.Common.{◌≡◌, ℕ, ◌+◌, ◌≤◌, List, [], ◌�
 use Rattle.std.specs.Prelude.{nat_le, if◌then◌else◌}
 use Rattle.std.specs.List.{flat_map, AllByRecursion}
 use Rattle.std.proofs.Math.Seq.{take-append_seam}
-use Rattle.ftp_nvt.specs.Telnet.{TelnetUnit, data_octet, option, subnegotiation, command, is_verb, Content, octet_alone, behind_command, IsContent, content_text, IsUnit, place_behind, unit_ended, place_from, units_from, units, place, bare_of, owed_of, bare, owed_answers}
-use Rattle.ftp_nvt.specs.Lines.{NvtEvent, line, too_long, owed, Lacks, cut, text_behind, text_of, without_return, said_early, lines, lines_added, events_behind, events, settled, written_octet, written_line}
-use Rattle.ftp_nvt.specs.Laws.{lines_in, answers_in}
+use Rattle.ftp_nvt.specs.Telnet.{TelnetUnit, data_octet, option, subnegotiation, command, is_verb, Content, octet_alone, behind_command, IsContent, content_text, IsTelnetUnit, place_behind, unit_ended, place_from, units_from, units, place_in_unit, bare_of, owed_of, bare, owed_answers}
+use Rattle.ftp_nvt.specs.Lines.{NvtEvent, line, too_long, owed, IsNoneOf, cut, text_behind, text_of, without_return, said_early, lines, lines_added, events_behind, events, settled, written_octet, written_line}
+use Rattle.ftp_nvt.specs.Laws.{line_events, answers_in}
 use Rattle.ftp_nvt.specs.declared.telnet.TelnetState.{TelnetState}
 use Rattle.ftp_nvt.specs.declared.telnet.TelnetState.TheVariants as At
 use Rattle.ftp_nvt.proofs.CutLemmas.{decided, all_append, cut_behind, cut-nil, cut-append, cut-append-inside, last_octet-append, lines_of, lines-cut, lines_after, lines-append, lines-nil, rest-append-octet, rest-nil}
@@ -14,7 +14,7 @@ use Rattle.ftp_nvt.proofs.LineLemmas.{lines_added-is, lines-grow, events_behind-
 
 -- the lines and the answers among events, part by part
 
-lines_in-append : (xs ys : List NvtEvent) → lines_in (xs ++ ys) ≡ lines_in xs ++ lines_in ys
+lines_in-append : (xs ys : List NvtEvent) → line_events (xs ++ ys) ≡ line_events xs ++ line_events ys
 lines_in-append [] ys = refl
 lines_in-append (line text ∷ xs) ys = ap (λ l. line text ∷ l) (lines_in-append xs ys)
 lines_in-append (too_long ∷ xs) ys = ap (λ l. too_long ∷ l) (lines_in-append xs ys)
@@ -26,7 +26,7 @@ answers_in-append (line text ∷ xs) ys = answers_in-append xs ys
 answers_in-append (too_long ∷ xs) ys = answers_in-append xs ys
 answers_in-append (owed answer ∷ xs) ys = ap (λ l. answer ∷ l) (answers_in-append xs ys)
 
-lines_in-owed : (answers : List (List ℕ)) → lines_in (map owed answers) ≡ []
+lines_in-owed : (answers : List (List ℕ)) → line_events (map owed answers) ≡ []
 lines_in-owed [] = refl
 lines_in-owed (answer ∷ answers) = lines_in-owed answers
 
@@ -36,7 +36,7 @@ answers_in-owed (answer ∷ answers) = ap (λ l. answer ∷ l) (answers_in-owed 
 
 -- lines alone, without an answer
 abbrev AreLines : List NvtEvent → Type 0
-AreLines xs = (lines_in xs ≡ xs) × (answers_in xs ≡ [])
+AreLines xs = (line_events xs ≡ xs) × (answers_in xs ≡ [])
 
 lines-settled : (limit : ℕ) (rest : List ℕ) (octet : ℕ) → AreLines (settled limit rest octet)
 lines-settled limit rest octet =
@@ -53,7 +53,7 @@ lines-settled limit rest octet =
 
 lines-both : (xs ys : List NvtEvent) → AreLines xs → AreLines ys → AreLines (xs ++ ys)
 lines-both xs ys a b =
-    (lines_in-append xs ys ∙ ap (λ l. l ++ lines_in ys) a.0 ∙ ap (λ l. xs ++ l) b.0, answers_in-append xs ys ∙ ap (λ l. l ++ answers_in ys) a.1 ∙ b.1)
+    (lines_in-append xs ys ∙ ap (λ l. l ++ line_events ys) a.0 ∙ ap (λ l. xs ++ l) b.0, answers_in-append xs ys ∙ ap (λ l. l ++ answers_in ys) a.1 ∙ b.1)
 
 lines-lines_after : (limit : ℕ) (before octets : List ℕ) → AreLines (lines_after limit before octets)
 lines-lines_after limit before [] = (refl, refl)
@@ -66,17 +66,17 @@ lines_added-after limit before more = lines_added-is limit before more (lines_af
 lines-lines_added : (limit : ℕ) (before more : List ℕ) → AreLines (lines_added limit before more)
 lines-lines_added limit before more = subst AreLines (sym (lines_added-after limit before more)) (lines-lines_after limit before more)
 
-lines_in-behind : (limit : ℕ) (before : List ℕ) (us : List TelnetUnit) → lines limit before ++ lines_in (events_behind limit before us) ≡ lines limit (before ++ flat_map bare_of us)
+lines_in-behind : (limit : ℕ) (before : List ℕ) (us : List TelnetUnit) → lines limit before ++ line_events (events_behind limit before us) ≡ lines limit (before ++ flat_map bare_of us)
 lines_in-behind limit before [] = append-nil (lines limit before) ∙ ap (lines limit) (sym (append-nil before))
 lines_in-behind limit before (u ∷ us) =
     let added = lines_added limit before (bare_of u) in
     let answers = map owed (owed_of u) in
     let later = events_behind limit (before ++ bare_of u) us in
-    let none : lines_in (added ++ answers) ≡ added =
-    lines_in-append added answers ∙ ap (λ l. lines_in added ++ l) (lines_in-owed (owed_of u)) ∙ append-nil (lines_in added) ∙ (lines-lines_added limit before (bare_of u)).0 in
-    ap (λ l. lines limit before ++ l) (lines_in-append (added ++ answers) later ∙ ap (λ l. l ++ lines_in later) none)
-    ∙ sym (append_assoc (lines limit before) added (lines_in later))
-    ∙ ap (λ l. l ++ lines_in later) (sym (lines-grow limit before (bare_of u)))
+    let none : line_events (added ++ answers) ≡ added =
+    lines_in-append added answers ∙ ap (λ l. line_events added ++ l) (lines_in-owed (owed_of u)) ∙ append-nil (line_events added) ∙ (lines-lines_added limit before (bare_of u)).0 in
+    ap (λ l. lines limit before ++ l) (lines_in-append (added ++ answers) later ∙ ap (λ l. l ++ line_events later) none)
+    ∙ sym (append_assoc (lines limit before) added (line_events later))
+    ∙ ap (λ l. l ++ line_events later) (sym (lines-grow limit before (bare_of u)))
     ∙ lines_in-behind limit (before ++ bare_of u) us ∙ ap (lines limit) (append_assoc before (bare_of u) (flat_map bare_of us))
 
 answers_in-behind : (limit : ℕ) (before : List ℕ) (us : List TelnetUnit) → answers_in (events_behind limit before us) ≡ flat_map owed_of us
@@ -90,10 +90,10 @@ answers_in-behind limit before (u ∷ us) =
     ∙ ap (λ l. owed_of u ++ l) (answers_in-behind limit (before ++ bare_of u) us)
 
 -- the lines of events are those of the bare octets
-pub lines_in-events : (limit : ℕ) (octets : List ℕ) → lines_in (events limit octets) ≡ lines limit (bare octets)
+pub lines_in-events : (limit : ℕ) (octets : List ℕ) → line_events (events limit octets) ≡ lines limit (bare octets)
 unfolding events bare
 lines_in-events limit octets =
-    ap (λ l. l ++ lines_in (events_behind limit [] (units octets))) (sym (lines-nil limit)) ∙ lines_in-behind limit [] (units octets)
+    ap (λ l. l ++ line_events (events_behind limit [] (units octets))) (sym (lines-nil limit)) ∙ lines_in-behind limit [] (units octets)
 
 -- the answers of events are those that units are owed
 pub answers_in-events : (limit : ℕ) (octets : List ℕ) → answers_in (events limit octets) ≡ owed_answers octets
@@ -137,7 +137,7 @@ units_of_content (octet_alone octet ∷ content) more all = rw all.0 (units_of_c
 units_of_content (behind_command octet ∷ content) more all = rw all.0 (units_of_content content more all.1)
 
 -- the octets of a unit are read as that unit, whatever follows
-pub unit_is_read : (unit : TelnetUnit) (text more : List ℕ) → IsUnit unit text → units (text ++ more) ≡ unit ∷ units more
+pub unit_is_read : (unit : TelnetUnit) (text more : List ℕ) → IsTelnetUnit unit text → units (text ++ more) ≡ unit ∷ units more
 unfolding units
 unit_is_read (data_octet octet) text more is = ap (λ l. units_from At.Between (l ++ more)) is ∙ units_of_data octet more
 unit_is_read (option verb octet) text more is = ap (λ l. units_from At.Between (l ++ more)) is.1 ∙ units_of_option verb octet more is.0
@@ -177,7 +177,7 @@ data_front octet front next back same =
     ]
 
 -- a unit that is cut settles nothing
-pub cut_unit_is_none : (unit : TelnetUnit) (front : List ℕ) (octet : ℕ) (back : List ℕ) → IsUnit unit (front ++ octet ∷ back) → units front ≡ []
+pub cut_unit_is_none : (unit : TelnetUnit) (front : List ℕ) (octet : ℕ) (back : List ℕ) → IsTelnetUnit unit (front ++ octet ∷ back) → units front ≡ []
 unfolding units
 cut_unit_is_none (data_octet one) front octet back is = data_front one front octet back is
 cut_unit_is_none (option verb one) front octet back is =
@@ -249,14 +249,14 @@ text_of_written before (octet ∷ text) e =
       | inr f ↦ rw (f, e) (ap (λ l. octet ∷ l) (text_of_written octet text f))
     ]
 
-bare_octet_lacks : (octet : ℕ) → (octet == 10) ≡ false → Lacks 10 (bare_octet octet)
+bare_octet_lacks : (octet : ℕ) → (octet == 10) ≡ false → IsNoneOf 10 (bare_octet octet)
 bare_octet_lacks octet e =
     elim (decided (octet == 13)) [
       | inl f ↦ rw f (refl, (refl, tt))
       | inr f ↦ rw f (e, tt)
     ]
 
-bare_lacks : (text : List ℕ) → Lacks 10 text → Lacks 10 (flat_map bare_octet text)
+bare_lacks : (text : List ℕ) → IsNoneOf 10 text → IsNoneOf 10 (flat_map bare_octet text)
 bare_lacks [] lacks = tt
 bare_lacks (octet ∷ text) lacks = all_append (λ o. (o == 10) ≡ false) (bare_octet octet) (flat_map bare_octet text) (bare_octet_lacks octet lacks.0) (bare_lacks text lacks.1)
 
@@ -286,7 +286,7 @@ behind_same limit a b (u ∷ us) same =
     ap (λ l. l ++ map owed (owed_of u) ++ events_behind limit (a ++ bare_of u) us) (added_same limit a b (bare_of u) same)
     ∙ ap (λ l. lines_added limit b (bare_of u) ++ map owed (owed_of u) ++ l) (behind_same limit (a ++ bare_of u) (b ++ bare_of u) us (rests_same a b (bare_of u) same))
 
-cut_line : (front : List ℕ) → Lacks 10 front → cut (front ++ 13 ∷ 10 ∷ []) ≡ record { ended = (front ++ 13 ∷ []) ∷ []; rest = [] }
+cut_line : (front : List ℕ) → IsNoneOf 10 front → cut (front ++ 13 ∷ 10 ∷ []) ≡ record { ended = (front ++ 13 ∷ []) ∷ []; rest = [] }
 cut_line front lacks =
     let line = front ++ 13 ∷ [] in
     let before : cut line ≡ record { ended = []; rest = line } =
@@ -299,7 +299,7 @@ without_line_return front =
     ∙ ap (λ n. take n (front ++ 13 ∷ [])) (omega (arith, length-append front (13 ∷ []))) ∙ take-append_seam front (13 ∷ [])
 
 -- the lines of a written line that keeps the limit
-lines_of_line : (limit : ℕ) (text : List ℕ) → Lacks 10 text → length (bare_line text) ≤ limit → lines limit (bare_line text) ≡ line text ∷ []
+lines_of_line : (limit : ℕ) (text : List ℕ) → IsNoneOf 10 text → length (bare_line text) ≤ limit → lines limit (bare_line text) ≡ line text ∷ []
 lines_of_line limit text lacks fits =
     let front = flat_map bare_octet text in
     let whole = front ++ 13 ∷ [] in
@@ -311,9 +311,9 @@ lines_of_line limit text lacks fits =
     ∙ ap (λ t. line t ∷ []) is
 
 -- a written line is heard as that line alone, and then what follows
-pub written_line_is_heard : (limit : ℕ) (text more : List ℕ) → Lacks 10 text → length (bare (written_line text)) ≤ limit
+pub written_line_is_heard : (limit : ℕ) (text more : List ℕ) → IsNoneOf 10 text → length (bare (written_line text)) ≤ limit
     → events limit (written_line text ++ more) ≡ line text ∷ events limit more
-unfolding events units place
+unfolding events units place_in_unit
 written_line_is_heard limit text more lacks fits =
     let written = written_line text in
     let kept : length (bare_line text) ≤ limit = subst (λ l. length l ≤ limit) (bare_of_line text) fits in

@@ -1,23 +1,23 @@
 -- What holds of units, events and written lines.
 use Rattle.std.specs.Prelude.{◌≡◌, ◌≤◌, ℕ, List, [], ◌∷◌, ◌++◌, length}
 use Rattle.ftp_nvt.specs.declared.line.TheConstants.{LF}
-use Rattle.ftp_nvt.specs.Telnet.{TelnetUnit, IsUnit, units, bare, owed_answers}
-use Rattle.ftp_nvt.specs.Lines.{NvtEvent, line, too_long, owed, Lacks, lines, events, written_line}
+use Rattle.ftp_nvt.specs.Telnet.{TelnetUnit, IsTelnetUnit, units, bare, owed_answers}
+use Rattle.ftp_nvt.specs.Lines.{NvtEvent, line, too_long, owed, IsNoneOf, lines, events, written_line}
 
 -- the octets of a unit are read as that unit, whatever follows
 abbrev pub UnitIsRead : Type 0
-UnitIsRead = (unit : TelnetUnit) (text more : List ℕ) → IsUnit unit text → units (text ++ more) ≡ unit ∷ units more
+UnitIsRead = (unit : TelnetUnit) (text more : List ℕ) → IsTelnetUnit unit text → units (text ++ more) ≡ unit ∷ units more
 
 -- a unit that is cut settles nothing
 abbrev pub CutUnitIsNone : Type 0
-CutUnitIsNone = (unit : TelnetUnit) (front : List ℕ) (octet : ℕ) (back : List ℕ) → IsUnit unit (front ++ octet ∷ back) → units front ≡ []
+CutUnitIsNone = (unit : TelnetUnit) (front : List ℕ) (octet : ℕ) (back : List ℕ) → IsTelnetUnit unit (front ++ octet ∷ back) → units front ≡ []
 
 -- the lines among events
-abbrev pub lines_in : List NvtEvent → List NvtEvent
-lines_in [] = []
-lines_in (line text ∷ events) = line text ∷ lines_in events
-lines_in (too_long ∷ events) = too_long ∷ lines_in events
-lines_in (owed answer ∷ events) = lines_in events
+abbrev pub line_events : List NvtEvent → List NvtEvent
+line_events [] = []
+line_events (line text ∷ events) = line text ∷ line_events events
+line_events (too_long ∷ events) = too_long ∷ line_events events
+line_events (owed answer ∷ events) = line_events events
 
 -- the answers among events
 abbrev pub answers_in : List NvtEvent → List (List ℕ)
@@ -28,7 +28,7 @@ answers_in (owed answer ∷ events) = answer ∷ answers_in events
 
 -- the lines of events are those of the bare octets
 abbrev pub LinesAreOfBareOctets : Type 0
-LinesAreOfBareOctets = (limit : ℕ) (octets : List ℕ) → lines_in (events limit octets) ≡ lines limit (bare octets)
+LinesAreOfBareOctets = (limit : ℕ) (octets : List ℕ) → line_events (events limit octets) ≡ lines limit (bare octets)
 
 -- the answers of events are those that the units are owed
 abbrev pub AnswersAreOwed : Type 0
@@ -41,5 +41,5 @@ FrontSaysFront = (limit : ℕ) (front back : List ℕ) → (more : List NvtEvent
 -- a line that was written and keeps the limit is heard as that line alone, and then what follows
 abbrev pub WrittenLineIsHeard : Type 0
 WrittenLineIsHeard =
-    (limit : ℕ) (text more : List ℕ) → Lacks LF text → length (bare (written_line text)) ≤ limit
+    (limit : ℕ) (text more : List ℕ) → IsNoneOf LF text → length (bare (written_line text)) ≤ limit
     → events limit (written_line text ++ more) ≡ line text ∷ events limit more

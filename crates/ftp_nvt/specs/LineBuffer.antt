@@ -1,6 +1,6 @@
 -- What the buffer of an unfinished line has read.
 use Rattle.std.specs.Prelude.{◌≡◌, ℕ, ◌<◌, ◌≤◌, List, [], ◌∷◌, ◌++◌, length, take, ◌==◌, true, false, if◌then◌else◌}
-use Rattle.ftp_nvt.specs.Lines.{NvtEvent, Lacks, cut, last_octet, text_of, settled, lines}
+use Rattle.ftp_nvt.specs.Lines.{NvtEvent, IsNoneOf, cut, last_octet, text_of, settled, lines}
 use Rattle.ftp_nvt.specs.declared.event.Event.{Event}
 use Rattle.ftp_nvt.specs.declared.event.Heard.{Heard}
 use Rattle.ftp_nvt.specs.Event.{event_list}
@@ -16,31 +16,31 @@ pub record IsWithin (count : ℕ) (text rest : List ℕ) : Type 0 where
   pub said : text ≡ text_of rest
 
 -- a buffer at this place can stand behind these octets of an unfinished line
-abbrev pub StandsAt : Stage → ℕ → ℕ → List ℕ → List ℕ → Type 0
-StandsAt Start limit count text rest = rest ≡ []
-StandsAt Inside limit count text rest = IsWithin count text rest × ((last_octet LF rest == CR) ≡ false)
-StandsAt AfterReturn limit count text rest = IsWithin count text rest × ((last_octet LF rest == CR) ≡ true)
-StandsAt Past limit count text rest = limit < length rest
+abbrev pub StandsAtStage : Stage → ℕ → ℕ → List ℕ → List ℕ → Type 0
+StandsAtStage Start limit count text rest = rest ≡ []
+StandsAtStage Inside limit count text rest = IsWithin count text rest × ((last_octet LF rest == CR) ≡ false)
+StandsAtStage AfterReturn limit count text rest = IsWithin count text rest × ((last_octet LF rest == CR) ≡ true)
+StandsAtStage Past limit count text rest = limit < length rest
 
 -- the same of a buffer
 abbrev pub Stands : {A : Type 0} → LineBuffer A → List ℕ → Type 0
-Stands buffer rest = StandsAt buffer.stage buffer.limit buffer.count buffer.text.items rest
+Stands buffer rest = StandsAtStage buffer.stage buffer.limit buffer.count buffer.text.items rest
 
 -- this buffer can have read just these octets
-pub record HasRead {A : Type 0} (buffer : LineBuffer A) (octets : List ℕ) : Type 0 where
+pub record CanHaveRead {A : Type 0} (buffer : LineBuffer A) (octets : List ℕ) : Type 0 where
   pub stands : Stands buffer (cut octets).rest
 
 -- a buffer that read some octets before has read these too, and this is what they add to the lines
 pub record Reads {A : Type 0} (old : LineBuffer A) (taken : List ℕ) (added : List NvtEvent) (new : LineBuffer A) : Type 0 where
   pub limit : new.limit ≡ old.limit
-  pub has_read : (octets : List ℕ) → HasRead old octets → HasRead new (octets ++ taken)
-  pub said : (octets : List ℕ) → HasRead old octets → lines old.limit (octets ++ taken) ≡ lines old.limit octets ++ added
+  pub has_read : (octets : List ℕ) → CanHaveRead old octets → CanHaveRead new (octets ++ taken)
+  pub said : (octets : List ℕ) → CanHaveRead old octets → lines old.limit (octets ++ taken) ≡ lines old.limit octets ++ added
 
 -- so many octets in front of a piece were read, one at least and none of them an IAC, and settled this
-pub record Bites {A : Type 0} (old : LineBuffer A) (piece : List ℕ) (heard : Heard) (new : LineBuffer A) : Type 0 where
+pub record ReadsBite {A : Type 0} (old : LineBuffer A) (piece : List ℕ) (heard : Heard) (new : LineBuffer A) : Type 0 where
   pub within : heard.taken ≤ length piece
   pub some : 0 < heard.taken
-  pub bare : Lacks IAC (take heard.taken piece)
+  pub bare : IsNoneOf IAC (take heard.taken piece)
   pub reads : Reads old (take heard.taken piece) (event_list heard.event new.text.items) new
 
 -- a buffer takes one octet, told by its unfinished line

@@ -87,8 +87,8 @@ settled limit rest octet =
     else (if nat_le limit (length rest) then [] else (if octet == LF then line (text_of (without_return rest)) ∷ [] else []))
 
 -- none of these octets is this one
-abbrev pub Lacks : ℕ → List ℕ → Type 0
-Lacks octet octets = AllByRecursion (λ other. (other == octet) ≡ false) octets
+abbrev pub IsNoneOf : ℕ → List ℕ → Type 0
+IsNoneOf octet octets = AllByRecursion (λ other. (other == octet) ≡ false) octets
 
 -- how an octet of a line's text is written: 255 doubled, CR as CR NUL
 abbrev pub written_octet : ℕ → List ℕ

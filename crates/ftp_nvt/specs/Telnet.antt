@@ -33,12 +33,12 @@ content_text (octet_alone octet) = octet ∷ []
 content_text (behind_command octet) = IAC ∷ octet ∷ []
 
 -- the octets of a unit: a data octet 255 is doubled
-abbrev pub IsUnit : TelnetUnit → List ℕ → Type 0
-IsUnit (data_octet octet) text = text ≡ (if octet == IAC then IAC ∷ IAC ∷ [] else octet ∷ [])
-IsUnit (option verb octet) text = (is_verb verb ≡ true) × (text ≡ IAC ∷ verb ∷ octet ∷ [])
-IsUnit subnegotiation text =
+abbrev pub IsTelnetUnit : TelnetUnit → List ℕ → Type 0
+IsTelnetUnit (data_octet octet) text = text ≡ (if octet == IAC then IAC ∷ IAC ∷ [] else octet ∷ [])
+IsTelnetUnit (option verb octet) text = (is_verb verb ≡ true) × (text ≡ IAC ∷ verb ∷ octet ∷ [])
+IsTelnetUnit subnegotiation text =
     (content : List Content) × AllByRecursion IsContent content × (text ≡ IAC ∷ SB ∷ (flat_map content_text content ++ IAC ∷ SE ∷ []))
-IsUnit (command octet) text =
+IsTelnetUnit (command octet) text =
     ((octet == IAC) ≡ false) × ((octet == SB) ≡ false) × (is_verb octet ≡ false) × (text ≡ IAC ∷ octet ∷ [])
 
 -- where in a unit one more octet leads
@@ -74,8 +74,8 @@ unfoldable pub units : List ℕ → List TelnetUnit
 units octets = units_from At.Between octets
 
 -- where in a unit a row of octets ends
-unfoldable pub place : List ℕ → TelnetState
-place octets = place_from At.Between octets
+unfoldable pub place_in_unit : List ℕ → TelnetState
+place_in_unit octets = place_from At.Between octets
 
 -- the octet of a unit that belongs to a line
 abbrev pub bare_of : TelnetUnit → List ℕ

@@ -16,7 +16,7 @@ pub struct Ear<A: Allocator + Copy> {
 }
 
 impl<A: Allocator + Copy> Ear<A> {
-    ghost use Rattle.ftp_nvt.specs.Ear.{HasHeard, Hears, event_list, limit_of, line_of, room_of};
+    ghost use Rattle.ftp_nvt.specs.Ear.{HasHeard, Hears, event_list, limit_of, lent_line, ear_room};
     ghost use Rattle.ftp_nvt.specs.Fold.{ear_of};
 
     /// An ear that has heard nothing, for lines of at most `limit` octets, their ends included and Telnet octets
@@ -25,7 +25,7 @@ impl<A: Allocator + Copy> Ear<A> {
         // Witness of heard, limit: caller: `Reader::new` of `ftp_server` begins with them; edit `new_ear_takes_one_octet_less`.
         ensures heard { IfOk result (λ ear. HasHeard ear []) }
         ensures limit { IfOk result (λ ear. limit_of ear ≡ limit) }
-        ensures room { IfOk result (λ ear. room_of ear ≡ limit) }
+        ensures room { IfOk result (λ ear. ear_room ear ≡ limit) }
         ensures memory { IfErr result (λ fault. fault ≡ NvtFault.Memory) }
     {
         let line = LineBuffer::new(alloc, limit).map_err(|_| NvtFault::Memory)?;
@@ -45,11 +45,11 @@ impl<A: Allocator + Copy> Ear<A> {
         // Witness of hears: edit `return_at_the_end_of_a_piece_is_forgotten`; law `events_are_settled`; caller: `events_in` of `rows_lines`, whose
         // count of events follows from it.
         ensures hears { Hears self.old (take result.taken piece.now)
-            (event_list result.event (line_of self.new)) self.new }
+            (event_list result.event (lent_line self.new)) self.new }
         ensures some { 0 < length piece.now → 0 < result.taken }
         // Witness of all: `leaves_octets` of `rows_lines`.
         ensures all { (result.event ≡ Event.More) → result.taken ≡ length piece.now }
-        ensures room { room_of self.new ≡ room_of self.old }
+        ensures room { ear_room self.new ≡ ear_room self.old }
     {
         let mut taken = 0;
         while taken < piece.len() {
@@ -69,7 +69,7 @@ impl<A: Allocator + Copy> Ear<A> {
 
     /// The line that the last feed ended, without its end, CR NUL being CR.
     pub fn line(&self) -> &[u8]
-        ensures { result.now ≡ line_of self.now }
+        ensures { result.now ≡ lent_line self.now }
     {
         self.line.text()
     }
@@ -87,7 +87,7 @@ impl<A: Allocator + Copy> Ear<A> {
         requires { 0 < length piece.now }
         ensures within { result.taken ≤ length piece.now }
         ensures hears { Hears self.old (take result.taken piece.now)
-            (event_list result.event (line_of self.new)) self.new }
+            (event_list result.event (lent_line self.new)) self.new }
         ensures some { 0 < result.taken }
     {
         let octet = piece[0];
@@ -109,7 +109,7 @@ impl<A: Allocator + Copy> Ear<A> {
         requires place { self.old.place ≡ TelnetState.Inside }
         ensures within { result.taken ≤ length piece.now }
         ensures hears { Hears self.old (take result.taken piece.now)
-            (event_list result.event (line_of self.new)) self.new }
+            (event_list result.event (lent_line self.new)) self.new }
         ensures some { 0 < result.taken }
     {
         Heard {
@@ -121,7 +121,7 @@ impl<A: Allocator + Copy> Ear<A> {
     // Takes one octet that belongs to no line, or ends a doubled 255.
     fn octet(&mut self, octet: u8) -> Event
         requires { (self.old.place ≡ TelnetState.Between) → octet ≡ IAC }
-        ensures { Hears self.old (octet ∷ []) (event_list result (line_of self.new)) self.new }
+        ensures { Hears self.old (octet ∷ []) (event_list result (lent_line self.new)) self.new }
     {
         let place = self.place;
         self.place = place.behind(octet);

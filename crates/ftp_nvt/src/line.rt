@@ -40,12 +40,12 @@ pub struct LineBuffer<A: Allocator + Copy> {
 impl<A: Allocator + Copy> LineBuffer<A> {
     ghost use Rattle.ftp_nvt.specs.Event.{event_list};
     ghost use Rattle.ftp_nvt.specs.Fold.{line_at};
-    ghost use Rattle.ftp_nvt.specs.LineBuffer.{Bites, HasRead, Reads, Steps};
-    ghost use Rattle.ftp_nvt.specs.Lines.{Lacks};
+    ghost use Rattle.ftp_nvt.specs.LineBuffer.{ReadsBite, CanHaveRead, Reads, Steps};
+    ghost use Rattle.ftp_nvt.specs.Lines.{IsNoneOf};
 
     /// A buffer that has read nothing, with room for `limit` octets.
     pub(crate) fn new(alloc: A, limit: usize) -> Result<LineBuffer<A>, AllocError>
-        ensures read { IfOk result (λ buffer. HasRead buffer []) }
+        ensures read { IfOk result (λ buffer. CanHaveRead buffer []) }
         ensures limit { IfOk result (λ buffer. buffer.limit ≡ limit) }
     {
         let text = Vec::with_capacity(alloc, limit)?;
@@ -78,7 +78,7 @@ impl<A: Allocator + Copy> LineBuffer<A> {
     pub(crate) fn bite(&mut self, piece: &[u8]) -> Heard
         requires some { 0 < length piece.now }
         requires bare { slice_index piece.now 0 ≢ IAC }
-        ensures { Bites self.old piece.now result self.new }
+        ensures { ReadsBite self.old piece.now result self.new }
     {
         match self.stage {
             Stage::Start => {
@@ -121,7 +121,7 @@ impl<A: Allocator + Copy> LineBuffer<A> {
         requires some { 0 < length piece.now }
         requires bare { slice_index piece.now 0 ≢ IAC }
         requires stage { self.old.stage ≡ Stage.Past }
-        ensures { Bites self.old piece.now result self.new }
+        ensures { ReadsBite self.old piece.now result self.new }
     {
         let taken = skipped_run(piece);
         if taken < piece.len() && piece[taken] == LF {
@@ -142,7 +142,7 @@ impl<A: Allocator + Copy> LineBuffer<A> {
         requires some { 0 < length piece.now }
         requires bare { slice_index piece.now 0 ≢ IAC }
         requires stage { self.old.stage ≡ Stage.Inside }
-        ensures { Bites self.old piece.now result self.new }
+        ensures { ReadsBite self.old piece.now result self.new }
     {
         let taken = plain_run(piece).min(self.limit - self.count);
         if taken == 0 {
@@ -175,7 +175,7 @@ impl<A: Allocator + Copy> LineBuffer<A> {
         requires some { 0 < length piece.now }
         requires bare { slice_index piece.now 0 ≢ IAC }
         requires stage { (self.old.stage ≡ Stage.Inside) ⊎ (self.old.stage ≡ Stage.AfterReturn) }
-        ensures { Bites self.old piece.now result self.new }
+        ensures { ReadsBite self.old piece.now result self.new }
     {
         let event = self.octet(piece[0]);
         Heard { taken: 1, event }

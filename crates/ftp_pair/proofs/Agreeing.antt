@@ -4,13 +4,13 @@ use Rattle.std.specs.Prelude.{IfOk}
 use Rattle.std.specs.declared.result.Result.{Result}
 use Rattle.laws_agreement.proofs.Theorems.{agrees-always, headline, quiet-is-answered, rest-is-quiet}
 use Rattle.ftp_server_model.specs.Machine.{IsReading, Reading}
-use Rattle.laws_world.specs.Agreement.{AreHonest, IsHonest, Leads, Order, begun_by}
+use Rattle.laws_world.specs.Agreement.{AreHonest, IsHonest, Leads, Order, begun_by_event}
 use Rattle.laws_world.specs.Claims.{AreTimed, Beginning, IsTimed, world_of}
 use Rattle.laws_world.specs.Events as events
 use Rattle.laws_world.specs.Events.{Event, Happens}
 use Rattle.laws_world.specs.Still.{IsStill}
 use Rattle.laws_world.specs.World.{World}
-use Rattle.ftp_pair_events.specs.events.Happening.{IsSmall, event_of}
+use Rattle.ftp_pair_events.specs.events.Happening.{IsSmallDelivery, event_of}
 use Rattle.ftp_pair_events.specs.events.Shown.{Steps}
 use Rattle.ftp_pair_events.specs.declared.events.event.Event.{Event as Given}
 use Rattle.ftp_pair.specs.Session.{AgreesAfter, AgreesBy, AreSmall, GoesOn, IsSettled, LeadsCalmly, LeadsSmall, Seen, Session, SettlesAfter}
@@ -28,7 +28,7 @@ leads_on read (event ∷ front) given begun more old mid new leads rest = (
   leads.1,
   leads.2 ++ more,
   leads.3,
-  ap (λ b. b ++ more) leads.4 ∙ append_assoc (begun_by event leads.0) leads.2 more,
+  ap (λ b. b ++ more) leads.4 ∙ append_assoc (begun_by_event event leads.0) leads.2 more,
   leads_on read front given leads.2 more leads.1 mid new leads.5 rest,
 )
 
@@ -45,7 +45,7 @@ honest_on (event ∷ front) given one other = (one.0, honest_on front given one.
 -- ---- events by which a world comes to rest
 
 -- a small event is timed and honest
-small_is : (event : Event) → IsSmall event → IsTimed event × IsHonest event
+small_is : (event : Event) → IsSmallDelivery event → IsTimed event × IsHonest event
 small_is (events.Deliver queue count) small = (tt, tt)
 small_is events.Open small = (tt, tt)
 small_is (events.End queue) small = (tt, tt)
@@ -112,8 +112,8 @@ all_timed (event ∷ given) = (timed event, all_timed given)
 -- so after one event there is agreement, with what it began
 pub agrees_step : {A E : Type 0} (event : Given A) (result : Result Bool E) (old new : Seen)
     → IfOk result (λ possible. Steps old.calm new.calm (λ read. Happens read (event_of event) old.world possible new.world))
-    → IfOk result (λ possible. AgreesBy (event_of event) (begun_by (event_of event) possible) old new)
+    → IfOk result (λ possible. AgreesBy (event_of event) (begun_by_event (event_of event) possible) old new)
 agrees_step event (Ok possible) old new did = λ calm read reads.
-    goes_on read reads (event_of event ∷ []) (begun_by (event_of event) possible) old.world new.world (timed event, tt)
-    (possible, new.world, [], (did calm).1 read reads, sym (append-nil (begun_by (event_of event) possible)), (refl, refl))
+    goes_on read reads (event_of event ∷ []) (begun_by_event (event_of event) possible) old.world new.world (timed event, tt)
+    (possible, new.world, [], (did calm).1 read reads, sym (append-nil (begun_by_event (event_of event) possible)), (refl, refl))
 agrees_step event (Err e) old new did = tt

@@ -5,10 +5,10 @@ use Rattle.std.specs.Prelude.{OnErr, nat_eq, if◌then◌else◌}
 use Rattle.std.proofs.lemmas.Bool.Decides.{nat_tests}
 use Rattle.std.proofs.lemmas.List.{map-append}
 use Rattle.laws_world.specs.Events.{Event}
-use Rattle.ftp_pair_events.specs.events.Calm.{Keeps, Tally, most_in}
+use Rattle.ftp_pair_events.specs.events.Calm.{KeepsTally, Tally, most_in}
 use Rattle.ftp_pair_events.proofs.events.Keeping.{fewer, none, none_in_all, stayed, then as follows}
 use Rattle.ftp_pair.proofs.Running.{front_more}
-use Rattle.ftp_pair.specs.Session.{AreCounts, Counted, KeepsCalm, KeepsCalmBy, Seen, is_same, most_of}
+use Rattle.ftp_pair.specs.Session.{AreCounts, Counted, KeepsCalm, KeepsCalmBy, Seen, is_same_tally, most_failures_of}
 
 -- where too few failures were counted for a count to come round, it is told by the counts at both ends
 pub keeps_calm : (most : ℕ) (old new : Seen) → most < 2 ^ 64 → Counted most old new → KeepsCalm old new
@@ -27,37 +27,37 @@ same_on_err (Err e) old new same unmoved = λ i. record { world = same.0 i; calm
 -- ---- events one after another
 
 -- one more
-most_last : (given : List Event) (event : Event) → most_of given + most_in event ≡ most_of (given ++ event ∷ [])
+most_last : (given : List Event) (event : Event) → most_failures_of given + most_in event ≡ most_failures_of (given ++ event ∷ [])
 most_last [] event = omega arith
 most_last (first ∷ given) event = let rest = most_last given event in omega (arith, rest)
 
 -- the first of them count no more than all
-most_front : (front rest : List Event) → most_of front ≤ most_of (front ++ rest)
+most_front : (front rest : List Event) → most_failures_of front ≤ most_failures_of (front ++ rest)
 most_front [] rest = omega arith
 most_front (event ∷ front) rest = let less = most_front front rest in omega (arith, less)
 
 -- after one event more
-counted_more : {S : Type 0} (f : S → Event) (given : List S) (event : S) (old mid new : Seen) → Counted (most_of (map f given)) old mid → Counted (most_in (f event)) mid new
-    → Counted (most_of (map f (given ++ event ∷ []))) old new
+counted_more : {S : Type 0} (f : S → Event) (given : List S) (event : S) (old mid new : Seen) → Counted (most_failures_of (map f given)) old mid → Counted (most_in (f event)) mid new
+    → Counted (most_failures_of (map f (given ++ event ∷ []))) old new
 counted_more f given event old mid new so one =
-    follows so one (subst (λ l. most_of (map f given) + most_in (f event) ≤ most_of l) (sym (map-append f given (event ∷ []))) (at_most _ _ (most_last (map f given) (f event))))
+    follows so one (subst (λ l. most_failures_of (map f given) + most_in (f event) ≤ most_failures_of l) (sym (map-append f given (event ∷ []))) (at_most _ _ (most_last (map f given) (f event))))
   where
     at_most : (a b : ℕ) → a ≡ b → a ≤ b
     at_most a b same = omega (arith, same)
 
 -- after the first events of a list, and the next, which happened as a copy of its own
 pub counted_on : {S : Type 0} (f : S → Event) (events : List S) (i : ℕ) (d next own : S) (old mid new : Seen) → i < length events → next ≡ get_or events i d → own ≡ next
-    → Counted (most_of (map f (take i events))) old mid → Counted (most_in (f own)) mid new → Counted (most_of (map f (take (i + 1) events))) old new
+    → Counted (most_failures_of (map f (take i events))) old mid → Counted (most_in (f own)) mid new → Counted (most_failures_of (map f (take (i + 1) events))) old new
 counted_on f events i d next own old mid new inside is same so one =
-    subst (λ l. Counted (most_of (map f l)) old new) (front_more events i d next own inside is same) (counted_more f (take i events) own old mid new so one)
+    subst (λ l. Counted (most_failures_of (map f l)) old new) (front_more events i d next own inside is same) (counted_more f (take i events) own old mid new so one)
 
 -- events that were a front of all
-pub calm_by_front : {S : Type 0} (f : S → Event) (all front rest : List S) (old new : Seen) → all ≡ front ++ rest → Counted (most_of (map f front)) old new → KeepsCalmBy (map f all) old new
+pub calm_by_front : {S : Type 0} (f : S → Event) (all front rest : List S) (old new : Seen) → all ≡ front ++ rest → Counted (most_failures_of (map f front)) old new → KeepsCalmBy (map f all) old new
 calm_by_front f all front rest old new is so few =
-    let less : most_of (map f front) ≤ most_of (map f all) =
-    subst (λ l. most_of (map f front) ≤ most_of (map f l)) (sym is)
-    (subst (λ l. most_of (map f front) ≤ most_of l) (sym (map-append f front rest)) (most_front (map f front) (map f rest))) in
-    keeps_calm (most_of (map f front)) old new (omega (arith, few, less)) so
+    let less : most_failures_of (map f front) ≤ most_failures_of (map f all) =
+    subst (λ l. most_failures_of (map f front) ≤ most_failures_of (map f l)) (sym is)
+    (subst (λ l. most_failures_of (map f front) ≤ most_failures_of l) (sym (map-append f front rest)) (most_front (map f front) (map f rest))) in
+    keeps_calm (most_failures_of (map f front)) old new (omega (arith, few, less)) so
 
 -- one event alone
 pub calm_by_one : (event : Event) (old new : Seen) → Counted (most_in event) old new → KeepsCalmBy (event ∷ []) old new
@@ -66,7 +66,7 @@ calm_by_one event old new so few = keeps_calm (most_in event) old new (omega (ar
 -- ---- turns one after another
 
 -- where a world that was calm is, nothing was counted
-calm_none : (most : ℕ) (was calm : Bool) (old new : Tally) → Keeps most was calm old new → calm ≡ true → Keeps 0 was calm old new
+calm_none : (most : ℕ) (was calm : Bool) (old new : Tally) → KeepsTally most was calm old new → calm ≡ true → KeepsTally 0 was calm old new
 calm_none most true calm old new kept is = record {
   near = kept.near;
   refusals = kept.refusals;

@@ -7,12 +7,12 @@ use Rattle.laws_world.specs.Claims.{Beginning, IsFair, IsTimed, AreTimed, world_
 use Rattle.laws_world.specs.Events.{Happens}
 use Rattle.laws_world.specs.Events as events
 use Rattle.laws_world.specs.World.{World}
-use Rattle.ftp_pair_events.specs.events.Happening.{IsSmall, Progresses, event_of}
+use Rattle.ftp_pair_events.specs.events.Happening.{IsSmallDelivery, Progresses, event_of}
 use Rattle.ftp_pair_events.specs.events.Shown.{Steps}
 use Rattle.ftp_pair_events.specs.declared.events.event.Event.{Event}
 use Rattle.ftp_pair_events.specs.declared.events.event.Event.TheVariants as Given
 use Rattle.laws_settling.proofs.Steady.{stays_steady}
-use Rattle.laws_settling.specs.Steady.{IsSteady}
+use Rattle.laws_settling.specs.Steady.{IsSteadyWorld}
 use Rattle.ftp_pair.specs.Session.{AgreesHere, Seen, Reached, IsReached}
 use Rattle.ftp_server_model.proofs.LinesDecided.{reading_exists}
 use Rattle.laws_agreement.proofs.Theorems.{agrees-always}
@@ -63,7 +63,7 @@ pub reached_calm : (s : Seen) → ∥ IsReached s ∥₁ → s.calm ≡ true →
 reached_calm s was calm = ∥∥₁_elim was ∥∥₁_prop (λ reached. ∣ reached calm ∣₁)
 
 -- a small event is timed
-small_timed : (event : events.Event) → IsSmall event → IsTimed event
+small_timed : (event : events.Event) → IsSmallDelivery event → IsTimed event
 small_timed (events.Deliver queue count) small = tt
 small_timed events.Open small = tt
 small_timed (events.End queue) small = tt
@@ -76,7 +76,7 @@ reached_turn true old new does same was =
 reached_turn false old new does same was = subst (λ s. ∥ IsReached s ∥₁) (sym (same refl)) was
 
 -- a world that is reached is steady
-pub reached_steady : (w : World) → ∥ Reached w ∥₁ → ∥ IsSteady w ∥₁
+pub reached_steady : (w : World) → ∥ Reached w ∥₁ → ∥ IsSteadyWorld w ∥₁
 reached_steady w was = ∥∥₁_elim was ∥∥₁_prop
     (λ reached.
     let so = reached.leads reading_exists.0 reading_exists.1 in

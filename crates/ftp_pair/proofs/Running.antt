@@ -7,7 +7,7 @@ use Rattle.std.specs.Iterator.{Yields}
 use Rattle.std.specs.Vec.Iter.{into_iter_items, into_iter_steps}
 use Rattle.std.specs.declared.vec.IntoIter.{IntoIter}
 use Rattle.ftp_server_model.specs.Machine.{Reading}
-use Rattle.laws_world.specs.Agreement.{Leads, Order, begun_by}
+use Rattle.laws_world.specs.Agreement.{Leads, Order, begun_by_event}
 use Rattle.laws_world.specs.Events.{Event, Happens, can_happen}
 use Rattle.laws_world.specs.World.{World}
 use Rattle.ftp_pair_events.specs.events.Shown.{Steps}
@@ -17,10 +17,10 @@ use Rattle.ftp_pair.specs.Session.{AreIdle, Seen, LeadsCalmly, LeadsPartly}
 pub leads_last : (read : Reading) (given : List Event) (event : Event) (begun : List Order) (possible : Bool) (old mid new : World) → Leads read old given begun mid → Happens read event mid possible new
     → (all : List Order) × Leads read old (given ++ event ∷ []) all new
 leads_last read [] event begun possible old mid new leads happens =
-    (begun_by event possible ++ [], (possible, new, [], subst (λ w. Happens read event w possible new) leads.1 happens, refl, (refl, refl)))
+    (begun_by_event event possible ++ [], (possible, new, [], subst (λ w. Happens read event w possible new) leads.1 happens, refl, (refl, refl)))
 leads_last read (one ∷ given) event begun possible old mid new leads happens =
     let rest = leads_last read given event leads.2 possible leads.1 mid new leads.5 happens in
-    (begun_by one leads.0 ++ rest.0, (leads.0, leads.1, rest.0, leads.3, refl, rest.1))
+    (begun_by_event one leads.0 ++ rest.0, (leads.0, leads.1, rest.0, leads.3, refl, rest.1))
 
 -- no event leads from a world to itself
 pub nothing_yet : (old : Seen) → LeadsCalmly [] old old

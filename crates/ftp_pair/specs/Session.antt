@@ -7,8 +7,8 @@ use Rattle.laws_world.specs.Agreement.{AreHonest, AreSingle, IsDirect, Leads, Or
 use Rattle.laws_world.specs.Claims.{Beginning, IsAnswered, IsFair, AreTimed, state_of, world_of}
 use Rattle.laws_world.specs.Events.{Event, IsQuiet, can_happen}
 use Rattle.laws_world.specs.World.{World}
-use Rattle.ftp_pair_events.specs.events.Calm.{Keeps, Tally, most_in, tally_of}
-use Rattle.ftp_pair_events.specs.events.Happening.{IsSmall}
+use Rattle.ftp_pair_events.specs.events.Calm.{KeepsTally, Tally, most_in, tally_of}
+use Rattle.ftp_pair_events.specs.events.Happening.{IsSmallDelivery}
 use Rattle.ftp_pair_events.specs.events.Shown.{shown}
 use Rattle.ftp_pair_events.specs.declared.events.parts.Parts.{Parts}
 
@@ -29,25 +29,25 @@ abbrev pub AreCounts : Tally → Type 0
 AreCounts t = (t.near < 2 ^ 64) × (t.far.refusals < 2 ^ 64) × (t.far.failures.told < 2 ^ 64)
 
 -- no count has moved
-abbrev pub is_same : Tally → Tally → Bool
-is_same old new = nat_eq new.near old.near && (nat_eq new.far.refusals old.far.refusals && nat_eq new.far.failures.told old.far.failures.told)
+abbrev pub is_same_tally : Tally → Tally → Bool
+is_same_tally old new = nat_eq new.near old.near && (nat_eq new.far.refusals old.far.refusals && nat_eq new.far.failures.told old.far.failures.told)
 
 -- a world is calm just where it was, and each count is what it was
 abbrev pub KeepsCalm : Seen → Seen → Type 0
-KeepsCalm old new = AreCounts old.tally → new.calm ≡ (old.calm && is_same old.tally new.tally)
+KeepsCalm old new = AreCounts old.tally → new.calm ≡ (old.calm && is_same_tally old.tally new.tally)
 
 -- how many failures can be counted in events at most
-abbrev pub most_of : List Event → ℕ
-most_of [] = 0
-most_of (event ∷ events) = most_in event + most_of events
+abbrev pub most_failures_of : List Event → ℕ
+most_failures_of [] = 0
+most_failures_of (event ∷ events) = most_in event + most_failures_of events
 
 -- so it is after events in which so few failures can be counted that no count comes round: 2^64 octets can't be delivered in them, nor so many events be
 abbrev pub KeepsCalmBy : List Event → Seen → Seen → Type 0
-KeepsCalmBy given old new = most_of given < 2 ^ 64 → KeepsCalm old new
+KeepsCalmBy given old new = most_failures_of given < 2 ^ 64 → KeepsCalm old new
 
 -- so many failures at most were counted, and calm is what it was, and that there were none
 abbrev pub Counted : ℕ → Seen → Seen → Type 0
-Counted most old new = Keeps most old.calm new.calm old.tally new.tally
+Counted most old new = KeepsTally most old.calm new.calm old.tally new.tally
 
 -- ---- what events lead to
 
@@ -67,7 +67,7 @@ AreIdle (event ∷ events) w = (can_happen event w ≡ false) × AreIdle events 
 -- each of these is a delivery of at most 4,096 octets, an opening or an end
 abbrev pub AreSmall : List Event → Type 0
 AreSmall [] = Unit {0}
-AreSmall (event ∷ events) = IsSmall event × AreSmall events
+AreSmall (event ∷ events) = IsSmallDelivery event × AreSmall events
 
 -- some of these lead from one to the other, where nothing failed
 abbrev pub LeadsSmall : Seen → Seen → Type 0

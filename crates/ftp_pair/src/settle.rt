@@ -1,6 +1,6 @@
 // A world that comes to rest by itself.
 ghost use Rattle.std.specs.Prelude.{◌≡◌, ◌<◌, ◌-◌, true, false, if◌then◌else◌};
-ghost use Rattle.laws_settling.specs.Steady.{IsSteady};
+ghost use Rattle.laws_settling.specs.Steady.{IsSteadyWorld};
 ghost use Rattle.laws_world.specs.Still.{IsStill};
 ghost use Rattle.ftp_pair_events.specs.events.Happening.{Progresses};
 ghost use Rattle.ftp_pair.specs.Session.{Counted, KeepsCalm, LeadsSmall, SettlesAfter};
@@ -52,7 +52,7 @@ impl<A: Allocator + Copy, T: Tree<A>, N: Near<A>, F: SureFar<A, T>> World<A, T, 
         ensures progresses { result ≡ true → ¬ IsStill self.old.world }
         ensures same { result ≡ false → self.new ≡ self.old }
         ensures counted { Counted 12312 self.old self.new }
-        ensures steady { self.old.calm ≡ true → ∥ IsSteady self.old.world ∥₁ }
+        ensures steady { self.old.calm ≡ true → ∥ IsSteadyWorld self.old.world ∥₁ }
     {
         self.parts.turn()
     }

@@ -2,7 +2,7 @@
 ghost use Rattle.std.specs.Prelude.{◌≡◌, ◌∷◌, [], true, false, length, map, nat_eq, option_map, IfErr, IfOk, OnErr, OnOk};
 ghost use Rattle.std.specs.List.{slice_get};
 ghost use Rattle.ftp_operation.specs.Answer.{said_of};
-ghost use Rattle.laws_world.specs.Agreement.{begun_by};
+ghost use Rattle.laws_world.specs.Agreement.{begun_by_event};
 ghost use Rattle.laws_world.specs.Claims.{Beginning, IsFair, world_of};
 ghost use Rattle.laws_world.specs.Events.{Happens, IsQuiet, can_happen};
 ghost use Rattle.laws_world.specs.World.{world};
@@ -79,7 +79,7 @@ impl<A: Allocator + Copy, T: Tree<A>, N: Near<A>, F: SureFar<A, T>> World<A, T, 
         ensures possible { IfOk result (λ possible. possible ≡ can_happen (event_of event) self.old.world) }
         // Witness of idle: equations; `run` (idle) needs it.
         ensures idle { IfOk result (λ possible. possible ≡ false → (self.new.world ≡ self.old.world) × (self.new.calm ≡ self.old.calm)) }
-        ensures agrees { IfOk result (λ possible. AgreesBy (event_of event) (begun_by (event_of event) possible) self.old self.new) }
+        ensures agrees { IfOk result (λ possible. AgreesBy (event_of event) (begun_by_event (event_of event) possible) self.old self.new) }
         // Witness of calm, counted: the edits of `ftp_pair_events`.
         ensures calm { KeepsCalmBy (event_of event ∷ []) self.old self.new }
         ensures counted { Counted (most_in (event_of event)) self.old self.new }

@@ -2,7 +2,7 @@
 use Rattle.std.proofs.Common.{◌≡◌, ◌<◌, ℕ, List, [], ◌++◌, length, Option, Some, None, refl, sym, ap, subst, Result, Ok, Err, arith}
 use Rattle.std.specs.Prelude.{Bool, IfErr, IsErrAnd, true, false, not}
 use Rattle.ftp_ports.specs.Asking.{Adds, Asked, is_lost, told_lost}
-use Rattle.ftp_ports.specs.Cause.{HasLost, IsCause, IsFault, IsSpent}
+use Rattle.ftp_ports.specs.Cause.{HasLost, IsCause, IsReadOrWriteFault, IsSpent}
 use Rattle.ftp_ports.specs.declared.cause.Cause.{Cause}
 use Rattle.ftp_ports.specs.declared.cause.Cause.TheVariants as Causes
 use Rattle.ftp_ports.specs.declared.ports.Ready.{Ready}
@@ -15,7 +15,7 @@ passes (Ok value) cause P failed holds = tt
 passes (Err e) cause P failed holds = subst P (sym failed) holds
 
 -- a read or a write failed
-pub is_fault : (cause : Cause) (failed may_hear serves : Bool) (asked : Option (List Asked)) (unheard : List ℕ) (want : Wants) → IsFault cause failed
+pub is_fault : (cause : Cause) (failed may_hear serves : Bool) (asked : Option (List Asked)) (unheard : List ℕ) (want : Wants) → IsReadOrWriteFault cause failed
     → IsCause cause failed asked unheard want may_hear serves
 is_fault Causes.Failed failed may_hear serves asked unheard want fault = fault
 is_fault Causes.Lost failed may_hear serves asked unheard want fault = absurd fault

@@ -8,7 +8,7 @@ use Rattle.std.specs.Io.KnownBytes.{Consumes, Keeps}
 use Rattle.ftp_endpoint.specs.declared.host.Host.{Host}
 use Rattle.ftp_ports.specs.Asking.{Asked, Reset, Ended, Shut, Adds, Drops, Leaves, Replaces, told_lost}
 use Rattle.ftp_ports.specs.Carrying.{Sends, on_their_way, told_by}
-use Rattle.ftp_ports.specs.Channel.{IsEnded, with_fate, IsHad, IsLeft, IsOpened, IsRead, IsWaited, IsWritten, Channel, channel_of, no_channel, with_given, with_rest}
+use Rattle.ftp_ports.specs.Channel.{IsEnded, with_fate, IsHad, IsLeft, IsOpened, IsRead, IsWaited, AreOctetsWritten, Channel, channel_of, no_channel, with_given, with_rest}
 use Rattle.ftp_ports.specs.Machine.{IsFairEnd}
 use Rattle.ftp_ports.specs.Whole.{IsWhole, is_well}
 use Rattle.ftp_ports.specs.declared.whole.Fate.{Fate}
@@ -212,7 +212,7 @@ module _ {S : Type 0} (remaining contents : S → Option (List ℕ)) where
       → old.end ≤ length room → new.rest ≡ old.rest → is_some new.stream ≡ is_some old.stream
       → (sends : Sends (told_by contents old.stream) (told_by contents new.stream) (on_their_way old room) (on_their_way new room))
       → Keeps (told_by remaining old.stream) (told_by remaining new.stream)
-      → IsWritten sends.0 (channel_of remaining contents asked old room untold) (with_fate Sound (channel_of remaining contents asked new room untold))
+      → AreOctetsWritten sends.0 (channel_of remaining contents asked old room untold) (with_fate Sound (channel_of remaining contents asked new room untold))
   writes old new asked room untold is_open sound less fits rest stands sends apart = record {
     is_open = (is_open, sound);
     some = way_some old.at old.end room fits less;

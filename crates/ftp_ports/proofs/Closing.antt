@@ -5,7 +5,7 @@ use Rattle.ftp_ports.specs.Asking.{Asked, Came, Connected, Ended, Listened, Lost
 use Rattle.ftp_ports.specs.Closing.{IsOfClosing}
 use Rattle.ftp_ports.specs.Actions.{Action, Done, Heard, Said, Read, Ended as ToldEnded, Other, Stand}
 use Rattle.ftp_ports.specs.Channel.{IsHad}
-use Rattle.ftp_ports.specs.Machine.{AreWanted, IsListening, IsRefused, IsWanted, Machine, awaits, side_of, waits}
+use Rattle.ftp_ports.specs.Machine.{AreWanted, IsListening, IsConnectionRefused, IsWanted, Machine, awaits, side_of, waits}
 use Rattle.ftp_ports.specs.Machine.{Aside, Break, Closed, End, Failed, Gave, Got, Left, LetGo, Listening, NoPort, Opened, Received, Refused, Waited, Wrote}
 use Rattle.ftp_endpoint.specs.declared.host.Host.{Host}
 use Rattle.ftp_ends.specs.declared.link.Wants.{Wants}
@@ -25,7 +25,7 @@ opened_not want host had left written is (inr (endpoint, same, at)) wanted =
     let e : Want.CloseData ≡ Want.Connect endpoint = sym is ∙ subst (λ a. IsWanted want a) same wanted in cc
 
 -- nor is one refused
-refused_not : (want : Wants) (asked : List Asked) → want ≡ Want.CloseData → IsRefused want asked → ⊥
+refused_not : (want : Wants) (asked : List Asked) → want ≡ Want.CloseData → IsConnectionRefused want asked → ⊥
 refused_not want [] is refused = refused
 refused_not want (NotCame ∷ []) is refused = let e : Want.CloseData ≡ Want.Accept = sym is ∙ refused in cc
 refused_not want (NotConnected endpoint ∷ []) is refused = let e : Want.CloseData ≡ Want.Connect endpoint = sym is ∙ refused in cc

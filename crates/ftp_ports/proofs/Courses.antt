@@ -4,15 +4,15 @@ use Rattle.std.proofs.KnownBytes.{Appends-kept, Appends-nil, Appends-trans, Cons
 use Rattle.std.specs.Io.KnownBytes.{Appends, Consumes}
 use Rattle.ftp_ports.proofs.Channels.{adds_then}
 use Rattle.ftp_ports.specs.Asking.{Asked, Adds}
-use Rattle.ftp_ports.specs.Courses.{Course, Carries, IsFair, IsFairLeave, after, asked_by, asked_in, begun, course_of, move_in}
+use Rattle.ftp_ports.specs.Courses.{ConnectionCourse, Carries, IsFairMove, IsFairLeave, after, asked_by, asked_in, begun, course_of, move_in}
 use Rattle.ftp_ports.specs.Actions.{Action, Heard, Said, Read, Ended, Other, Done, Led, Stand}
-use Rattle.ftp_ports.specs.Channel.{IsEnded, Channel, Move, Moves, Stays, Waits, Reads, Writes, Gives, Notes, Takes, Fails, Ends, Breaks, Stops, with_fate, Asks, Opens, Leaves}
+use Rattle.ftp_ports.specs.Channel.{IsEnded, Channel, Move, MovesChannel, Stays, Waits, Reads, Writes, Gives, Notes, Takes, Fails, Ends, Breaks, Stops, with_fate, Asks, Opens, Leaves}
 use Rattle.ftp_ports.specs.Side.{Side}
 use Rattle.ftp_ports.specs.declared.whole.Fate.{Fate}
 use Rattle.ftp_ports.specs.declared.whole.Fate.TheVariants.{Failed, Broken, Over}
 
 -- what is so of the data connection that stands, behind each move
-record Follows (course : Course) (channel : Channel) : Type 0 where
+record Follows (course : ConnectionCourse) (channel : Channel) : Type 0 where
   given : course.given ≡ course.written ++ channel.unwritten
   read : course.read ≡ course.told ++ channel.untold
   consumed : course.is_written ≡ false → Consumes course.at_first channel.left course.read
@@ -28,10 +28,10 @@ follows_begun at_first so_far channel unwritten untold consumed appended =
     record { given = sym unwritten; read = sym untold; consumed = λ e. consumed; appended = λ e. appended }
 
 -- whatever became of it
-fated : (fate : Fate) (course : Course) (channel : Channel) → Follows course channel → Follows course (with_fate fate channel)
+fated : (fate : Fate) (course : ConnectionCourse) (channel : Channel) → Follows course channel → Follows course (with_fate fate channel)
 fated fate course channel before = record { given = before.given; read = before.read; consumed = before.consumed; appended = before.appended }
 
-follows : (move : Move) (course : Course) (old new : Channel) → Follows course old → Moves move old new → Follows (after move course) new
+follows : (move : Move) (course : ConnectionCourse) (old new : Channel) → Follows course old → MovesChannel move old new → Follows (after move course) new
 follows Stays course old new before same = subst (λ l. Follows course l) (sym same) before
 follows (Waits lost) course old new before waited = record {
   given = before.given ∙ ap (λ l. course.written ++ l) (sym waited.holds.unwritten);
@@ -75,10 +75,10 @@ follows (Opens host asked at_first so_far rest) course old new before had = foll
 follows (Leaves asked) course old new before left = follows_begun None None new left.unwritten left.untold tt tt
 
 -- where none is left to be read, all that was read was told
-told_all : (course : Course) (channel : Channel) → Follows course channel → channel.untold ≡ [] → course.told ≡ course.read
+told_all : (course : ConnectionCourse) (channel : Channel) → Follows course channel → channel.untold ≡ [] → course.told ≡ course.read
 told_all course channel before untold = sym (before.read ∙ ap (λ l. course.told ++ l) untold ∙ append-nil course.told)
 
-ended_fair : (stands : Bool) (asked : Asked) (course : Course) (channel : Channel) → Follows course channel → IsEnded stands channel.left channel.written channel.unwritten asked
+ended_fair : (stands : Bool) (asked : Asked) (course : ConnectionCourse) (channel : Channel) → Follows course channel → IsEnded stands channel.left channel.written channel.unwritten asked
     → IsFairLeave asked course
 ended_fair true asked course channel before (inl (none, is)) =
     let all = sym (before.given ∙ ap (λ l. course.written ++ l) none ∙ append-nil course.written) in
@@ -86,7 +86,7 @@ ended_fair true asked course channel before (inl (none, is)) =
 ended_fair true asked course channel before (inr is) = subst (λ a. IsFairLeave a course) (sym is) tt
 ended_fair false asked course channel before is = subst (λ a. IsFairLeave a course) (sym is) tt
 
-fair : (move : Move) (course : Course) (old new : Channel) → Follows course old → Moves move old new → IsFair move course
+fair : (move : Move) (course : ConnectionCourse) (old new : Channel) → Follows course old → MovesChannel move old new → IsFairMove move course
 fair Ends course old new before end =
     let all = told_all course old before end.3 in
     (all, λ e. Consumes-whole course.at_first old.left course.read (λ whole. course.told ≡ whole) (before.consumed e) end.2 all)
@@ -108,7 +108,7 @@ adds_none : (old new : Option (List Asked)) → new ≡ old → Adds old new []
 adds_none None new same = subst (λ n. Adds None n []) (sym same) tt
 adds_none (Some l) new same = subst (λ n. Adds (Some l) n []) (sym same) refl
 
-adds : (move : Move) (old new : Channel) → Moves move old new → Adds old.asked new.asked (asked_by move)
+adds : (move : Move) (old new : Channel) → MovesChannel move old new → Adds old.asked new.asked (asked_by move)
 adds Stays old new same = adds_none old.asked new.asked (ap (λ l. l.asked) same)
 adds (Waits lost) old new waited = waited.asked
 adds (Reads octets) old new read = adds_none old.asked new.asked read.asked
@@ -127,13 +127,13 @@ adds (Leaves asked) old new left = left.adds
 -- the data connection of an end: which call moves it how; what moves control octets leaves it, but for what is seen of it then
 pub record Carrier (side : Side) (move_of : side.Call → Move) : Type 0 where
   pub channel : side.End → Channel
-  pub called : (call : side.Call) (old new : side.End) → side.Called call old new → Moves (move_of call) (channel old) (channel new)
-  pub heard : (octets unheard : List ℕ) (old new : side.End) → side.Hears octets unheard old new → Moves Notes (channel old) (channel new)
+  pub called : (call : side.Call) (old new : side.End) → side.Called call old new → MovesChannel (move_of call) (channel old) (channel new)
+  pub heard : (octets unheard : List ℕ) (old new : side.End) → side.Hears octets unheard old new → MovesChannel Notes (channel old) (channel new)
   pub gave : (octets : List ℕ) (old new : side.End) → side.Gives octets old new → channel new ≡ channel old
-  pub cut : (old new : side.End) → side.IsCut old new → Moves Notes (channel old) (channel new)
+  pub cut : (old new : side.End) → side.IsCut old new → MovesChannel Notes (channel old) (channel new)
 
 module _ {side : Side} (move_of : side.Call → Move) (carrier : Carrier side move_of) where
-  moves : (action : Action side) (old new : Stand side) → Done action old new → Moves (move_in move_of action) (carrier.channel old.owner) (carrier.channel new.owner)
+  moves : (action : Action side) (old new : Stand side) → Done action old new → MovesChannel (move_in move_of action) (carrier.channel old.owner) (carrier.channel new.owner)
   moves (Heard octets) old new done = carrier.heard octets old.unheard old.owner new.owner done.hears
   moves (Said octets) old new done = carrier.gave octets old.owner new.owner done.gives
   moves (Read octets) old new done = ap carrier.channel done.owner

@@ -5,7 +5,7 @@ use Rattle.std.proofs.KnownBytes.{Keeps-refl}
 use Rattle.std.specs.Io.KnownBytes.{Keeps}
 use Rattle.ftp_ports.proofs.Fronts.{AppendsFront-none}
 use Rattle.ftp_ports.specs.Beginning.{AppendsFront}
-use Rattle.ftp_ports.specs.Cause.{IsFault, IsSpent}
+use Rattle.ftp_ports.specs.Cause.{IsReadOrWriteFault, IsSpent}
 use Rattle.ftp_ports.specs.declared.cause.Cause.{Cause}
 use Rattle.ftp_ports.specs.declared.cause.Cause.TheVariants as Causes
 use Rattle.ftp_ports.specs.Side.{Side}
@@ -14,7 +14,7 @@ use Rattle.ftp_ports.specs.Driving.{Fails, Flushes, Goes, Leads, Settles}
 use Rattle.ftp_ports.proofs.Leading.{fails_then, leads_nowhere, leads_then}
 
 -- a read or a write failed, so not all turns were made
-fault_unspent : (cause : Cause) (failed : Bool) → IsFault cause failed → IsSpent cause → ⊥
+fault_unspent : (cause : Cause) (failed : Bool) → IsReadOrWriteFault cause failed → IsSpent cause → ⊥
 fault_unspent Causes.Failed failed fault spent = spent
 fault_unspent Causes.Lost failed fault spent = spent
 fault_unspent Causes.Unheard failed fault spent = spent
@@ -44,7 +44,7 @@ module _ {side : Side} where
   -- ---- reads
 
   -- a read failed
-  pub read_fails : (cause : Cause) (failed : Bool) (old new : Stand side) → IsFault cause failed → Keeps old.left.octets new.left.octets → new.left.ended ≡ old.left.ended
+  pub read_fails : (cause : Cause) (failed : Bool) (old new : Stand side) → IsReadOrWriteFault cause failed → Keeps old.left.octets new.left.octets → new.left.ended ≡ old.left.ended
       → new.unheard ≡ old.unheard → new.written ≡ old.written → new.owner ≡ old.owner → Fails cause old new
   read_fails cause failed old new fault left ended unheard written owner = record {
     mid = old;
@@ -63,7 +63,7 @@ module _ {side : Side} where
   }
 
   -- a write failed
-  pub write_fails : (cause : Cause) (failed : Bool) (start old new : Stand side) (octets : List ℕ) → IsFault cause failed → Leads start old → side.Gives octets old.owner new.owner → AppendsFront old.written new.written octets
+  pub write_fails : (cause : Cause) (failed : Bool) (start old new : Stand side) (octets : List ℕ) → IsReadOrWriteFault cause failed → Leads start old → side.Gives octets old.owner new.owner → AppendsFront old.written new.written octets
       → new.left ≡ old.left → new.unheard ≡ old.unheard → Fails cause start new
   write_fails cause failed start old new octets fault leads gives wrote left unheard = record {
     mid = old;

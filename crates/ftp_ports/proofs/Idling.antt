@@ -7,7 +7,7 @@ use Rattle.std.proofs.lemmas.List.{append-nil, take-append-drop}
 use Rattle.ftp_ports.specs.Asking.{Adds, Asked, told_lost}
 use Rattle.ftp_ports.specs.Actions.{Heard, Other, Stand, with_owner}
 use Rattle.ftp_ports.specs.Driving.{Breaks, Leads, Quietly}
-use Rattle.ftp_ports.specs.Channel.{IsLeft, IsOpen, IsRead, IsWaited, IsWritten, Channel, with_asked, with_fate, with_rest, with_untold}
+use Rattle.ftp_ports.specs.Channel.{IsLeft, IsOpen, IsRead, IsWaited, AreOctetsWritten, Channel, with_asked, with_fate, with_rest, with_untold}
 use Rattle.ftp_ports.proofs.Getting.{progresses_by, progresses_lead, progresses_then}
 use Rattle.ftp_ports.specs.Unheard.{Source}
 use Rattle.ftp_ports.specs.Machine.{Aside, Called, Progresses, awaits, Break, End, Failed, Gives, Got, Held, Idles, IsBroken, IsFairEnd, IsListening, Left, LeavesFlushed, MayLeave, LetGo, Machine, Received, Waited, Wrote, held, move_of, seen, side_of}
@@ -53,7 +53,7 @@ module _ (machine : Machine) where
       → Progresses machine (record { owner = held here old; left = left; unheard = unheard; written = written })
       (record { owner = held here new; left = left; unheard = unheard; written = written })
   sends here old new (inl is) (octets, wrote) left unheard written =
-      progresses_by (Other (Wrote octets)) _ _ tt ((refl, subst (λ l. IsWritten octets old l) (sound_so new is) wrote, tt), refl)
+      progresses_by (Other (Wrote octets)) _ _ tt ((refl, subst (λ l. AreOctetsWritten octets old l) (sound_so new is) wrote, tt), refl)
   sends here old new (inr is) (octets, wrote) left unheard written =
       let mid = with_fate Sound new in
       progresses_then _ (record { owner = held here mid; left = left; unheard = unheard; written = written }) _
@@ -64,7 +64,7 @@ module _ (machine : Machine) where
   pub idles_sent : (old new : Channel) → (new.fate ≡ Sound) ⊎ (new.fate ≡ HasFailed) → IsSent old new → Idles machine old new
   idles_sent old new is (inl same) here = subst (λ l. Idles machine old l) (sym same) (idles_nothing old) here
   idles_sent old new (inl is) (inr (octets, wrote)) here =
-      quiet_call (side_of machine) (Wrote octets) (held here old) (held here new) (refl, subst (λ l. IsWritten octets old l) (sound_so new is) wrote, tt)
+      quiet_call (side_of machine) (Wrote octets) (held here old) (held here new) (refl, subst (λ l. AreOctetsWritten octets old l) (sound_so new is) wrote, tt)
   idles_sent old new (inr is) (inr (octets, wrote)) here =
       let mid = with_fate Sound new in
       idles_then old mid new (λ there. quiet_call (side_of machine) (Wrote octets) (held there old) (held there mid) (refl, wrote, tt))

@@ -5,7 +5,7 @@ use Rattle.std.specs.Option.{is_some}
 use Rattle.ftp_ports.specs.Asking.{Accepts, Adds, Asked, Came, Listened, NotCame, Replaces, told_lost}
 use Rattle.ftp_ports.specs.Actions.{Other, Stand, with_owner}
 use Rattle.ftp_ports.specs.Channel.{IsHad, channel_of, with_asked}
-use Rattle.ftp_ports.specs.Machine.{IsFlushed, IsRefused, IsWanted, Listening, Machine, NoPort, Opened, Refused, Progresses, held, rest_by, side_of}
+use Rattle.ftp_ports.specs.Machine.{IsFlushed, IsConnectionRefused, IsWanted, Listening, Machine, NoPort, Opened, Refused, Progresses, held, rest_by, side_of}
 use Rattle.ftp_ports.specs.declared.whole.Rest.{Rest}
 use Rattle.ftp_ports.specs.declared.data.DataConnection.{DataConnection}
 use Rattle.ftp_ports.specs.declared.whole.Fate.TheVariants.{Sound}
@@ -47,7 +47,7 @@ module _ (machine : Machine) where
 
   -- none is had, and the end is told that
   pub has_none : (old : Stand (side_of machine)) (there : machine.Here) (h1 : Option (List Asked)) (asked : List Asked) → Adds old.owner.channel.asked h1 asked
-      → machine.Refused old.owner.end there → IsRefused (machine.wants old.owner.end) asked → IsFlushed machine old.owner.end
+      → machine.Refused old.owner.end there → IsConnectionRefused (machine.wants old.owner.end) asked → IsFlushed machine old.owner.end
       → Progresses machine old (with_owner (held there (with_asked h1 old.owner.channel)) old)
   has_none old there h1 asked asks told wanted flushed = progresses_by (Other (Refused asked)) old _ tt ((told, (asks, refl), (wanted, flushed)), refl)
 

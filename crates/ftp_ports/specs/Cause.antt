@@ -30,9 +30,9 @@ IsCause Causes.Closed failed asked unheard want may_hear serves = (want ≡ Want
 IsCause (Causes.Spent spent) failed asked unheard want may_hear serves = ⊤
 
 -- it is that a read or a write failed
-abbrev pub IsFault : Cause → (failed : Bool) → Type 0
-IsFault Causes.Failed failed = failed ≡ true
-IsFault other failed = ⊥
+abbrev pub IsReadOrWriteFault : Cause → (failed : Bool) → Type 0
+IsReadOrWriteFault Causes.Failed failed = failed ≡ true
+IsReadOrWriteFault other failed = ⊥
 
 -- as many turns as each loop of a drive may make
 abbrev pub most_turns : ℕ

@@ -101,7 +101,7 @@ pub data Move : Type 0 where
   Leaves : (asked : Asked) → Move
 
 -- what is not read, written, opened or closed stays
-pub record Holds (old new : Channel) : Type 0 where
+pub record HoldsChannel (old new : Channel) : Type 0 where
   pub stands : new.stands ≡ old.stands
   pub fate : new.fate ≡ old.fate
   pub rest : new.rest ≡ old.rest
@@ -109,7 +109,7 @@ pub record Holds (old new : Channel) : Type 0 where
   pub untold : new.untold ≡ old.untold
 
 pub record IsWaited (lost : Bool) (old new : Channel) : Type 0 where
-  pub holds : Holds old new
+  pub holds : HoldsChannel old new
   pub left : Keeps old.left new.left
   pub written : Keeps old.written new.written
   pub asked : Adds old.asked new.asked (told_lost lost)
@@ -128,7 +128,7 @@ pub record IsRead (octets : List ℕ) (old new : Channel) : Type 0 where
   pub asked : new.asked ≡ old.asked
 
 -- where one is open, and octets are to be written
-pub record IsWritten (octets : List ℕ) (old new : Channel) : Type 0 where
+pub record AreOctetsWritten (octets : List ℕ) (old new : Channel) : Type 0 where
   pub is_open : IsOpen old
   pub some : 0 < length old.unwritten
   pub stands : new.stands ≡ old.stands
@@ -174,18 +174,18 @@ pub record IsLeft (asked : Asked) (old new : Channel) : Type 0 where
   pub unwritten : new.unwritten ≡ []
   pub untold : new.untold ≡ []
 
-abbrev pub Moves : Move → (old new : Channel) → Type 0
-Moves Stays old new = new ≡ old
-Moves (Waits lost) old new = IsWaited lost old new
-Moves (Reads octets) old new = IsRead octets old new
-Moves (Writes octets) old new = IsWritten octets old new
-Moves (Gives octets rest) old new = (new ≡ with_given octets rest old) × IsOpen old
-Moves Notes old new = new ≡ with_rest new.rest old
-Moves (Takes octets) old new = (old.untold ≡ octets ++ new.untold) × (new ≡ with_untold new.untold old)
-Moves Fails old new = (new ≡ with_fate Failed old) × IsOpen old
-Moves Ends old new = (new ≡ with_fate Over old) × IsOpen old × IsAtEnd old.left × (old.untold ≡ [])
-Moves Breaks old new = new ≡ with_fate Broken old
-Moves Stops old new = (new ≡ old) × (old.stands ≡ false)
-Moves (Asks asked) old new = Adds old.asked new.asked asked × (new ≡ with_asked new.asked old)
-Moves (Opens host asked left written rest) old new = IsOpened host asked left written rest old new
-Moves (Leaves asked) old new = IsLeft asked old new
+abbrev pub MovesChannel : Move → (old new : Channel) → Type 0
+MovesChannel Stays old new = new ≡ old
+MovesChannel (Waits lost) old new = IsWaited lost old new
+MovesChannel (Reads octets) old new = IsRead octets old new
+MovesChannel (Writes octets) old new = AreOctetsWritten octets old new
+MovesChannel (Gives octets rest) old new = (new ≡ with_given octets rest old) × IsOpen old
+MovesChannel Notes old new = new ≡ with_rest new.rest old
+MovesChannel (Takes octets) old new = (old.untold ≡ octets ++ new.untold) × (new ≡ with_untold new.untold old)
+MovesChannel Fails old new = (new ≡ with_fate Failed old) × IsOpen old
+MovesChannel Ends old new = (new ≡ with_fate Over old) × IsOpen old × IsAtEnd old.left × (old.untold ≡ [])
+MovesChannel Breaks old new = new ≡ with_fate Broken old
+MovesChannel Stops old new = (new ≡ old) × (old.stands ≡ false)
+MovesChannel (Asks asked) old new = Adds old.asked new.asked asked × (new ≡ with_asked new.asked old)
+MovesChannel (Opens host asked left written rest) old new = IsOpened host asked left written rest old new
+MovesChannel (Leaves asked) old new = IsLeft asked old new

@@ -8,7 +8,7 @@ use Rattle.ftp_ports.specs.Side.{Side}
 
 -- what went over one so far: what was left to be read and what was written to it when it was opened; whether it was read and written; what
 -- was read, what of that the end was told or let go, what it gave, and what of that was written
-pub record Course : Type 0 where
+pub record ConnectionCourse : Type 0 where
   pub at_first : Option (List ℕ)
   pub so_far : Option (List ℕ)
   pub is_read : Bool
@@ -18,12 +18,12 @@ pub record Course : Type 0 where
   pub given : List ℕ
   pub written : List ℕ
 
-abbrev pub begun : (at_first so_far : Option (List ℕ)) → Course
+abbrev pub begun : (at_first so_far : Option (List ℕ)) → ConnectionCourse
 begun at_first so_far =
     record { at_first = at_first; so_far = so_far; is_read = false; is_written = false; read = []; told = []; given = []; written = [] }
 
 -- a move goes on with it, or begins another
-abbrev pub after : Move → Course → Course
+abbrev pub after : Move → ConnectionCourse → ConnectionCourse
 after Stays course = course
 after (Waits lost) course = course
 after (Reads octets) course = record course { is_read = true; read = course.read ++ octets }
@@ -57,11 +57,11 @@ asked_by Breaks = []
 asked_by Stops = []
 
 -- these are the first of those
-abbrev pub IsFront : (front all : List ℕ) → Type 0
-IsFront front all = (rest : List ℕ) × (all ≡ front ++ rest)
+abbrev pub AreFirstOf : (front all : List ℕ) → Type 0
+AreFirstOf front all = (rest : List ℕ) × (all ≡ front ++ rest)
 
 -- an end goes behind all that this end gave; where nothing was read before, the stream holds just that behind what it held when it was opened
-abbrev pub IsFairLeave : Asked → Course → Type 0
+abbrev pub IsFairLeave : Asked → ConnectionCourse → Type 0
 IsFairLeave (EndedBy left written) course = (course.written ≡ course.given) × (course.is_read ≡ false → Appends course.so_far written course.given)
 IsFairLeave (Reset left written) course = ⊤
 IsFairLeave Shut course = ⊤
@@ -73,21 +73,21 @@ IsFairLeave Lost course = ⊤
 IsFairLeave (NotConnected endpoint) course = ⊤
 
 -- what is so before a move: this end is told of an end behind all that was read, and that is all that was to be read, if nothing was written
-abbrev pub IsFair : Move → Course → Type 0
-IsFair Ends course = (course.told ≡ course.read) × (course.is_written ≡ false → IfSome course.at_first (λ all. course.told ≡ all))
-IsFair (Leaves asked) course = IsFairLeave asked course
-IsFair Stays course = ⊤
-IsFair (Waits lost) course = ⊤
-IsFair (Reads octets) course = ⊤
-IsFair (Writes octets) course = ⊤
-IsFair (Gives octets rest) course = ⊤
-IsFair Notes course = ⊤
-IsFair (Takes octets) course = ⊤
-IsFair Fails course = ⊤
-IsFair Breaks course = ⊤
-IsFair Stops course = ⊤
-IsFair (Asks asked) course = ⊤
-IsFair (Opens host asked at_first so_far rest) course = ⊤
+abbrev pub IsFairMove : Move → ConnectionCourse → Type 0
+IsFairMove Ends course = (course.told ≡ course.read) × (course.is_written ≡ false → IfSome course.at_first (λ all. course.told ≡ all))
+IsFairMove (Leaves asked) course = IsFairLeave asked course
+IsFairMove Stays course = ⊤
+IsFairMove (Waits lost) course = ⊤
+IsFairMove (Reads octets) course = ⊤
+IsFairMove (Writes octets) course = ⊤
+IsFairMove (Gives octets rest) course = ⊤
+IsFairMove Notes course = ⊤
+IsFairMove (Takes octets) course = ⊤
+IsFairMove Fails course = ⊤
+IsFairMove Breaks course = ⊤
+IsFairMove Stops course = ⊤
+IsFairMove (Asks asked) course = ⊤
+IsFairMove (Opens host asked at_first so_far rest) course = ⊤
 
 module _ {side : Side} (move_of : side.Call → Move) where
   abbrev pub move_in : Action side → Move
@@ -98,7 +98,7 @@ module _ {side : Side} (move_of : side.Call → Move) where
   move_in Ended = Notes
 
   -- behind actions, the last one first
-  abbrev pub course_of : List (Action side) → Course
+  abbrev pub course_of : List (Action side) → ConnectionCourse
   course_of [] = begun None None
   course_of (action ∷ before) = after (move_in action) (course_of before)
 
@@ -111,7 +111,7 @@ module _ {side : Side} (move_of : side.Call → Move) where
   AreInOrder [] = ⊤
   AreInOrder (action ∷ before) =
       let course = course_of before in
-      AreInOrder before × IsFront course.written course.given × IsFront course.told course.read × IsFair (move_in action) course
+      AreInOrder before × AreFirstOf course.written course.given × AreFirstOf course.told course.read × IsFairMove (move_in action) course
 
   -- what actions come to
   pub record Carries (actions : List (Action side)) (start now : Channel) : Type 0 where

@@ -4,7 +4,7 @@ use Rattle.std.specs.Prelude.{◌≡◌, ◌≢◌, ◌⊎◌, ◌<◌, ⊤, ℕ
 use Rattle.ftp_ports.specs.Asking.{Asked, Listened, Came, Connected, NotCame, NotConnected, Ended, Reset}
 use Rattle.ftp_ports.specs.Actions.{Action, Done, Heard, Said, Read, Ended as ToldEnded, Other, Stand}
 use Rattle.ftp_ports.specs.Driving.{Fails as BreaksOff, Leads, Quietly}
-use Rattle.ftp_ports.specs.Channel.{IsOpen, Channel, Move, Moves, Stays, Waits, Reads, Writes, Gives as GivesOctets, Takes, Fails, Ends, Breaks, Stops, Asks, Opens, Leaves, with_rest, with_untold}
+use Rattle.ftp_ports.specs.Channel.{IsOpen, Channel, Move, MovesChannel, Stays, Waits, Reads, Writes, Gives as GivesOctets, Takes, Fails, Ends, Breaks, Stops, Asks, Opens, Leaves, with_rest, with_untold}
 use Rattle.ftp_ports.specs.Side.{Side}
 use Rattle.ftp_ports.specs.Unheard.{Source, left_of, unheard_of, written_of}
 use Rattle.ftp_ports.specs.Whole.{is_well}
@@ -103,10 +103,10 @@ AreWanted want (asked ∷ []) = IsWanted want asked
 AreWanted want other = ⊥
 
 -- none is had, and one was wanted: the answer says so
-abbrev pub IsRefused : Wants → List Asked → Type 0
-IsRefused want (NotCame ∷ []) = want ≡ Want.Accept
-IsRefused want (NotConnected endpoint ∷ []) = want ≡ Want.Connect endpoint
-IsRefused want other = ⊥
+abbrev pub IsConnectionRefused : Wants → List Asked → Type 0
+IsConnectionRefused want (NotCame ∷ []) = want ≡ Want.Accept
+IsConnectionRefused want (NotConnected endpoint ∷ []) = want ≡ Want.Connect endpoint
+IsConnectionRefused want other = ⊥
 
 -- an end that wants this goes on without the data connection that stands: it wants it closed, or another
 abbrev pub leaves : Wants → Bool
@@ -216,7 +216,7 @@ module _ (machine : Machine) where
   IsDue (Listening port) old = (machine.wants old.end ≡ Want.Listen) × IsFlushed old.end
   IsDue NoPort old = (machine.wants old.end ≡ Want.Listen) × IsFlushed old.end
   IsDue (Opened host asked at_first so_far rest) old = AreWanted (machine.wants old.end) asked × IsFlushed old.end
-  IsDue (Refused asked) old = IsRefused (machine.wants old.end) asked × IsFlushed old.end
+  IsDue (Refused asked) old = IsConnectionRefused (machine.wants old.end) asked × IsFlushed old.end
   IsDue (Received octets count) old = IsOpen old.channel × (machine.wants old.end ≡ Want.Receive)
   IsDue (Gave count octets rest) old = machine.wants old.end ≡ Want.Send
   IsDue (Got octets) old = machine.wants old.end ≡ Want.Receive
@@ -228,7 +228,7 @@ module _ (machine : Machine) where
   IsDue other old = ⊤
 
   abbrev pub Called : Call machine.Own → (old new : Held machine.Here) → Type 0
-  Called call old new = Does call old.end new.end × Moves (move_of call) old.channel new.channel × IsDue call old
+  Called call old new = Does call old.end new.end × MovesChannel (move_of call) old.channel new.channel × IsDue call old
 
   -- one that serves hears, and is read for, only while it waits for octets: not while it wants a port, an opening or a close
   abbrev pub IsListening : machine.Here → Type 0

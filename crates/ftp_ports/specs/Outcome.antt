@@ -3,7 +3,7 @@ use Rattle.std.specs.Prelude.{◌≡◌, ◌⊎◌, ℕ, Bool, true, false, List
 use Rattle.std.specs.declared.result.Result.{Result}
 use Rattle.std.specs.declared.result.Result.TheVariants.{Ok, Err}
 use Rattle.ftp_ports.specs.Asking.{Asked, Reset, Shut}
-use Rattle.ftp_ports.specs.Channel.{IsLeft, IsWritten, Channel, with_fate}
+use Rattle.ftp_ports.specs.Channel.{IsLeft, AreOctetsWritten, Channel, with_fate}
 use Rattle.ftp_ports.specs.declared.data.Halt.{Halt}
 use Rattle.ftp_ports.specs.declared.whole.Fate.TheVariants.{Sound}
 
@@ -24,7 +24,7 @@ pub record IsReset (asked : Asked) (old new : Channel) : Type 0 where
 
 -- octets were written, whether that failed behind them or not
 abbrev pub IsWrote : (old new : Channel) → Type 0
-IsWrote old new = (octets : List ℕ) × IsWritten octets old (with_fate Sound new)
+IsWrote old new = (octets : List ℕ) × AreOctetsWritten octets old (with_fate Sound new)
 
 -- or none were to be written
 abbrev pub IsSent : (old new : Channel) → Type 0

@@ -2,7 +2,7 @@
 ghost use Rattle.std.specs.Prelude.{◌≡◌, ◌≤◌, ◌<◌, IsTrue, IfErr, IfOk, OnOk, OnErr, false, true, [], drop, length};
 ghost use Rattle.std.specs.Io.KnownBytes.{Appends, Consumes, IsAtEnd, Keeps};
 ghost use Rattle.ftp_ports.specs.Beginning.{AppendsFront};
-ghost use Rattle.ftp_ports.specs.Cause.{IsFault};
+ghost use Rattle.ftp_ports.specs.Cause.{IsReadOrWriteFault};
 
 use crate::cause::Cause;
 use crate::pieces::{Failed, get, put};
@@ -95,7 +95,7 @@ impl<R: Read + Drop, W: Write + Drop> Control<R, W> {
         ensures written { written_of W.contents self.new ≡ written_of W.contents self.old }
         // Witness of sound, fault: `IsCause` of `drive_end`.
         ensures sound { OnOk result (self.new.failed ≡ self.old.failed) }
-        ensures fault { IfErr result (λ cause. IsFault cause self.new.failed) }
+        ensures fault { IfErr result (λ cause. IsReadOrWriteFault cause self.new.failed) }
     {
         self.at = 0;
         self.end = 0;
@@ -123,7 +123,7 @@ impl<R: Read + Drop, W: Write + Drop> Control<R, W> {
         ensures unheard { unheard_of self.new ≡ unheard_of self.old }
         // Witness of sound, fault: `IsCause` of `drive_end`.
         ensures sound { OnOk result (self.new.failed ≡ self.old.failed) }
-        ensures fault { IfErr result (λ cause. IsFault cause self.new.failed) }
+        ensures fault { IfErr result (λ cause. IsReadOrWriteFault cause self.new.failed) }
     {
         match put(&mut self.writer, octets) {
             Ok(()) => Ok(()),

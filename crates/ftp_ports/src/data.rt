@@ -212,7 +212,7 @@ impl<S: Duplex> DataConnection<S> {
         ensures end { IfOk result (λ count. count ≡ 0 → 0 < length room.new → IsAtEnd (left_of S.remaining self.new)) }
         ensures open { IfOk result (λ count. is_some self.old.stream ≡ true) }
         ensures err { OnErr result (Keeps (left_of S.remaining self.old) (left_of S.remaining self.new)) }
-        // Witness of apart: `IsRead`, `IsWritten` of `Channel`: `near_turns_happen` of `ftp_pair_memory`.
+        // Witness of apart: `IsRead`, `AreOctetsWritten` of `Channel`: `near_turns_happen` of `ftp_pair_memory`.
         ensures apart { Keeps (carried_of S.contents self.old) (carried_of S.contents self.new) }
         ensures at { self.new.at ≡ self.old.at }
         ensures length { self.new.end ≡ self.old.end }

@@ -13,8 +13,8 @@ use Rattle.ftp_endpoint.proofs.NumberLemmas.{is_digit, digit_bounds}
 use Rattle.ftp_facts.specs.Value.{number_within}
 use Rattle.ftp_facts.proofs.NumberLemmas.{Within, and_both, at_most, both, given_is, is_at_most, is_given, says_within, within_says}
 use Rattle.ftp_reply.specs.Lines.{Text, AreWithin, are_within, octets_of}
-use Rattle.ftp_reply.specs.Reader.{Between, Begun, Faulty, Gathered, GivesRightly, GoesOn, Heard, Says, Stands, code_in_front, first_heard, is_last, line_heard, next_heard, opened, placed}
-use Rattle.ftp_reply.specs.Reply.{IsCode, code_text, least_code, greatest_code, last_line, opening_line, IsLast, Begins, IsSeveral, IsWhole, Fits, Says as SaysReply, begins_with_digits}
+use Rattle.ftp_reply.specs.Reader.{Between, Begun, Faulty, Gathered, GivesRightly, GoesOn, Heard, Says, Stands, code_in_front, first_heard, is_last, line_heard, next_heard, opened, reply_placed}
+use Rattle.ftp_reply.specs.Reply.{IsCode, code_text, least_code, greatest_code, last_line, opening_line, IsLastLine, Begins, IsSeveral, IsWholeReply, Fits, Says as SaysReply, begins_with_digits}
 use Rattle.ftp_reply.specs.declared.fault.ReplyFault.TheVariants as Faults
 use Rattle.ftp_reply.specs.declared.lines.TheConstants.{MAX_LINES, MAX_OCTETS}
 use Rattle.ftp_reply.proofs.ReplyLemmas.{code_once, fits_once, whole_only}
@@ -157,14 +157,14 @@ no_place line text code c is line_is space hyphen other lines fits =
 
 -- ---- what a place gives
 
-ends_rightly : (heard : List Text) (line : Text) (code : ℕ) (texts : List Text) → IsWhole (heard ++ line ∷ []) code texts → GivesRightly heard line (placed true code texts)
+ends_rightly : (heard : List Text) (line : Text) (code : ℕ) (texts : List Text) → IsWholeReply (heard ++ line ∷ []) code texts → GivesRightly heard line (reply_placed true code texts)
 ends_rightly heard line code texts whole = by_within (are_within texts) refl
   where
     by_within : (within : Bool) → are_within texts ≡ within → GivesRightly heard line (if within then Says code texts else Faulty Faults.TooMany)
     by_within true within = record { whole = whole; within = within }
     by_within false within = (code, texts, inl whole, λ is. let e : true ≡ false = sym is ∙ within in cc)
 
-goes_rightly : (heard : List Text) (line : Text) (code : ℕ) (texts : List Text) → Begins (heard ++ line ∷ []) code texts → GivesRightly heard line (placed false code texts)
+goes_rightly : (heard : List Text) (line : Text) (code : ℕ) (texts : List Text) → Begins (heard ++ line ∷ []) code texts → GivesRightly heard line (reply_placed false code texts)
 goes_rightly heard line code texts begins = by_within (are_within texts) refl
   where
     by_within : (within : Bool) → are_within texts ≡ within → GivesRightly heard line (if within then GoesOn (Begun code texts) else Faulty Faults.TooMany)
@@ -173,12 +173,12 @@ goes_rightly heard line code texts begins = by_within (are_within texts) refl
 
 -- ---- the first line
 
-alone : (line text : Text) (code : ℕ) → IsCode code → line ≡ last_line code text → IsWhole (line ∷ []) code (text ∷ [])
+alone : (line text : Text) (code : ℕ) → IsCode code → line ≡ last_line code text → IsWholeReply (line ∷ []) code (text ∷ [])
 alone line text code is e = inl (record { text = text; code_is = is; lines_are = refl; heard_is = inl (ap (λ l. l ∷ []) e) })
 
 opens : (line text : Text) (code : ℕ) → IsCode code → line ≡ opening_line code text → Begins (line ∷ []) code (text ∷ [])
 opens line text code is e =
-    record { first = text; between = []; code_is = is; lines_are = refl; heard_is = ap (λ l. l ∷ []) e; goes_on = All-nil (λ line. ¬ IsLast code line) }
+    record { first = text; between = []; code_is = is; lines_are = refl; heard_is = ap (λ l. l ∷ []) e; goes_on = All-nil (λ line. ¬ IsLastLine code line) }
 
 first_rightly : (line : Text) (code : ℕ) (rest : Text) → IsCode code → line ≡ code_text code ++ rest → GivesRightly [] line (first_heard code rest)
 first_rightly line code [] is e =
@@ -186,7 +186,7 @@ first_rightly line code [] is e =
 first_rightly line code (c ∷ text) is e = by_octet (c == 32) refl (c == 45) refl
   where
     by_octet : (space : Bool) → (c == 32) ≡ space → (hyphen : Bool) → (c == 45) ≡ hyphen
-        → GivesRightly [] line (if space then placed true code (text ∷ []) else (if hyphen then placed false code (text ∷ []) else Faulty Faults.BadCode))
+        → GivesRightly [] line (if space then reply_placed true code (text ∷ []) else (if hyphen then reply_placed false code (text ∷ []) else Faulty Faults.BadCode))
     by_octet true space hyphen also =
         let is_space : c ≡ 32 = eqb-true c 32 space in
         ends_rightly [] line code (text ∷ []) (alone line text code is (e ∙ ap (λ n. code_text code ++ n ∷ text) is_space))
@@ -225,22 +225,22 @@ plain_is_inner code text is plain =
 last_is : (code : ℕ) (line : Text) → is_last code line ≡ true → line ≡ last_line code (drop 4 line)
 last_is code line is = (starts_is Decides-eqb line (last_line code []) (is_last code line) refl).0 is
 
-not_last : (code : ℕ) (line : Text) → is_last code line ≡ false → ¬ IsLast code line
+not_last : (code : ℕ) (line : Text) → is_last code line ≡ false → ¬ IsLastLine code line
 not_last code line is = λ last. let e : true ≡ false = sym (ap (is_last code) last.1 ∙ begins_last code last.0) ∙ is in cc
 
 -- a last line ends what has begun, and any other goes on
-last_ends : (code : ℕ) (heard texts : List Text) (line text : Text) → Begins heard code texts → line ≡ last_line code text → IsWhole (heard ++ line ∷ []) code (texts ++ text ∷ [])
+last_ends : (code : ℕ) (heard texts : List Text) (line text : Text) → Begins heard code texts → line ≡ last_line code text → IsWholeReply (heard ++ line ∷ []) code (texts ++ text ∷ [])
 last_ends code heard texts line text begins e =
     inr (record { begun = heard; texts = texts; last = text; begins = begins; lines_are = refl; heard_is = ap (λ l. heard ++ l ∷ []) e })
 
-other_goes_on : (code : ℕ) (heard texts : List Text) (line : Text) → Begins heard code texts → ¬ IsLast code line → Begins (heard ++ line ∷ []) code (texts ++ line ∷ [])
+other_goes_on : (code : ℕ) (heard texts : List Text) (line : Text) → Begins heard code texts → ¬ IsLastLine code line → Begins (heard ++ line ∷ []) code (texts ++ line ∷ [])
 other_goes_on code heard texts line begins other = record {
   first = begins.first;
   between = begins.between ++ line ∷ [];
   code_is = begins.code_is;
   lines_are = ap (λ ls. ls ++ line ∷ []) begins.lines_are;
   heard_is = ap (λ ls. ls ++ line ∷ []) begins.heard_is;
-  goes_on = All-push (λ l. ¬ IsLast code l) begins.between line begins.goes_on other;
+  goes_on = All-push (λ l. ¬ IsLastLine code l) begins.between line begins.goes_on other;
 }
 
 next_rightly : (last : Bool) (code : ℕ) (texts heard : List Text) (line : Text) → is_last code line ≡ last → Begins heard code texts
@@ -337,15 +337,15 @@ heard_no_code line none = by_front (code_in_front line) refl
     by_front None e = refl
     by_front (Some code) e = let has = has_code line code e in absurd (none code (drop 3 line) has.code_is has.line_is)
 
-pub heard_last : (code : ℕ) (texts : List Text) (line text : Text) → line ≡ last_line code text → line_heard (Begun code texts) line ≡ placed true code (texts ++ text ∷ [])
+pub heard_last : (code : ℕ) (texts : List Text) (line text : Text) → line ≡ last_line code text → line_heard (Begun code texts) line ≡ reply_placed true code (texts ++ text ∷ [])
 unfolding line_heard
 heard_last code texts line text e =
-    ap (λ last. next_heard last code texts line) (ap (is_last code) e ∙ begins_last code text) ∙ ap (λ l. placed true code (texts ++ drop 4 l ∷ [])) e
+    ap (λ last. next_heard last code texts line) (ap (is_last code) e ∙ begins_last code text) ∙ ap (λ l. reply_placed true code (texts ++ drop 4 l ∷ [])) e
 
-pub heard_other : (code : ℕ) (texts : List Text) (line : Text) → ¬ IsLast code line → line_heard (Begun code texts) line ≡ placed false code (texts ++ line ∷ [])
+pub heard_other : (code : ℕ) (texts : List Text) (line : Text) → ¬ IsLastLine code line → line_heard (Begun code texts) line ≡ reply_placed false code (texts ++ line ∷ [])
 unfolding line_heard
 heard_other code texts line other = by_last (is_last code line) refl
   where
-    by_last : (last : Bool) → is_last code line ≡ last → next_heard last code texts line ≡ placed false code (texts ++ line ∷ [])
+    by_last : (last : Bool) → is_last code line ≡ last → next_heard last code texts line ≡ reply_placed false code (texts ++ line ∷ [])
     by_last true is = absurd (other (drop 4 line, last_is code line is))
     by_last false is = refl

@@ -4,8 +4,8 @@ use Rattle.std.specs.Char.{is_ascii_digit}
 use Rattle.std.proofs.lemmas.Bool.Decides.{nat_tests}
 use Rattle.std.proofs.lemmas.List.Elements.{All-head, All-tail, All-weaker}
 use Rattle.ftp_reply.specs.Lines.{Text, AreWithin}
-use Rattle.ftp_reply.specs.Reply.{IsCode, last_line, opening_line, IsLast, Says, begins_with_digits, padded, written_after, written, but_last, HasPlainLines}
-use Rattle.ftp_reply.specs.Reader.{AreHeard}
+use Rattle.ftp_reply.specs.Reply.{IsCode, last_line, opening_line, IsLastLine, Says, begins_with_digits, padded, written_after, written, but_last, HasPlainLines}
+use Rattle.ftp_reply.specs.Reader.{AreReplies}
 
 -- the lines after the first as they are written, cut before the last
 pub record IsCut (code : ℕ) (xs : List Text) : Type 0 where
@@ -39,7 +39,7 @@ last_has_digits code text is =
     let d = digit (code % 10) (omega arith) in
     rw (a, b, d) refl
 
-plain_goes_on : (code : ℕ) (line : Text) → IsCode code → begins_with_digits line ≡ false → ¬ IsLast code line
+plain_goes_on : (code : ℕ) (line : Text) → IsCode code → begins_with_digits line ≡ false → ¬ IsLastLine code line
 plain_goes_on code line is plain = λ last.
     let digits : begins_with_digits line ≡ true = ap begins_with_digits last.1 ∙ last_has_digits code last.0 is in
     cc
@@ -64,7 +64,7 @@ written_says code (first ∷ next ∷ more) is some within plain =
           code_is = is;
           lines_are = refl;
           heard_is = refl;
-          goes_on = All-weaker (λ line. begins_with_digits line ≡ false) (λ line. ¬ IsLast code line) (λ line p. plain_goes_on code line is p) between plain;
+          goes_on = All-weaker (λ line. begins_with_digits line ≡ false) (λ line. ¬ IsLastLine code line) (λ line p. plain_goes_on code line is p) between plain;
         };
         lines_are = ap (λ (ls : List Text). first ∷ ls) cut.lines_are;
         heard_is = ap (λ (ls : List Text). opening_line code first ∷ ls) cut.written_are;
@@ -73,12 +73,12 @@ written_says code (first ∷ next ∷ more) is some within plain =
     }
 
 -- one line more behind all of them goes to the rest
-pub heard_more : (all : List Text) (replies : List (ℕ × List Text)) (rest : List Text) (line : Text) → AreHeard all replies rest → AreHeard (all ++ line ∷ []) replies (rest ++ line ∷ [])
+pub heard_more : (all : List Text) (replies : List (ℕ × List Text)) (rest : List Text) (line : Text) → AreReplies all replies rest → AreReplies (all ++ line ∷ []) replies (rest ++ line ∷ [])
 heard_more all [] rest line e = ap (λ (ls : List Text). ls ++ line ∷ []) e
 heard_more all (reply ∷ replies) rest line h =
     (h.0, h.1 ++ line ∷ [], ap (λ (ls : List Text). ls ++ line ∷ []) h.2 ∙ append_assoc h.0 h.1 (line ∷ []), h.3, heard_more h.1 replies rest line h.4)
 
 -- a rest that says a reply is one reply more
-pub heard_reply : (all : List Text) (replies : List (ℕ × List Text)) (rest : List Text) (code : ℕ) (lines : List Text) → Says rest code lines → AreHeard all replies rest → AreHeard all (replies ++ (code, lines) ∷ []) []
+pub heard_reply : (all : List Text) (replies : List (ℕ × List Text)) (rest : List Text) (code : ℕ) (lines : List Text) → Says rest code lines → AreReplies all replies rest → AreReplies all (replies ++ (code, lines) ∷ []) []
 heard_reply all [] rest code lines says e = (rest, [], e ∙ sym (append-nil rest), says, refl)
 heard_reply all (reply ∷ replies) rest code lines says h = (h.0, h.1, h.2, h.3, heard_reply h.1 replies rest code lines says h.4)

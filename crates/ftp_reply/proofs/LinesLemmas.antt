@@ -3,7 +3,7 @@ use Rattle.std.proofs.Common.{◌≡◌, ℕ, zero, suc, get_or, add-one, drop-c
 use Rattle.std.proofs.Math.Seq.{take-length, take-append_seam, drop-append-add}
 use Rattle.std.proofs.lemmas.List.{map_push, length-append, length-map}
 use Rattle.std.proofs.lemmas.List.Sums.{sum_by-cons}
-use Rattle.ftp_reply.specs.Lines.{Text, octets_of, joined, lines_at, AreCut}
+use Rattle.ftp_reply.specs.Lines.{Text, octets_of, joined, lines_at, AreCutAtFeeds}
 
 -- lines that are joined are cut again by their lengths
 pub lines_at-joined : (lines : List Text) → lines_at (joined lines) (map length lines) ≡ lines
@@ -18,7 +18,7 @@ lines_at-joined (line ∷ next ∷ more) =
 pub cut_as : (lines : List Text) (buffer : Text) (lens : List ℕ) → buffer ≡ joined lines → lens ≡ map length lines → lines_at buffer lens ≡ lines
 cut_as lines buffer lens b n = rw (b, n) (lines_at-joined lines)
 
-pub are_cut : (lines : List Text) (buffer : Text) (lens : List ℕ) → buffer ≡ joined lines → lens ≡ map length lines → AreCut buffer lens
+pub are_cut : (lines : List Text) (buffer : Text) (lens : List ℕ) → buffer ≡ joined lines → lens ≡ map length lines → AreCutAtFeeds buffer lens
 are_cut lines buffer lens b n = record {
   buffer_is = b ∙ ap joined (sym (cut_as lines buffer lens b n));
   lens_are = n ∙ ap (map length) (sym (cut_as lines buffer lens b n));
@@ -42,7 +42,7 @@ length-joined first (second ∷ more) =
     omega arith
 
 -- the lines of a buffer that is cut, in terms of the buffer
-pub octets_at : (buffer : Text) (lens : List ℕ) → AreCut buffer lens → 0 < length lens → length buffer + 1 ≡ octets_of (lines_at buffer lens) + length lens
+pub octets_at : (buffer : Text) (lens : List ℕ) → AreCutAtFeeds buffer lens → 0 < length lens → length buffer + 1 ≡ octets_of (lines_at buffer lens) + length lens
 octets_at buffer [] cut some = absurd (omega arith)
 octets_at buffer (len ∷ lens) cut some =
     let e = length-joined (take len buffer) (lines_at (drop (len + 1) buffer) lens) in
@@ -52,10 +52,10 @@ octets_at buffer (len ∷ lens) cut some =
 
 -- a line behind the lines of a buffer
 pub record Pushed (buffer : Text) (lens : List ℕ) (line : Text) (buffer' : Text) (lens' : List ℕ) : Type 0 where
-  pub cut : AreCut buffer' lens'
+  pub cut : AreCutAtFeeds buffer' lens'
   pub lines_are : lines_at buffer' lens' ≡ lines_at buffer lens ++ line ∷ []
 
-pub pushed : (buffer : Text) (lens : List ℕ) (line mid : Text) → AreCut buffer lens → (length lens ≡ 0 → mid ≡ buffer) → (0 < length lens → mid ≡ buffer ++ 10 ∷ []) → Pushed buffer lens line (mid ++ line) (lens ++ length line ∷ [])
+pub pushed : (buffer : Text) (lens : List ℕ) (line mid : Text) → AreCutAtFeeds buffer lens → (length lens ≡ 0 → mid ≡ buffer) → (0 < length lens → mid ≡ buffer ++ 10 ∷ []) → Pushed buffer lens line (mid ++ line) (lens ++ length line ∷ [])
 pushed buffer [] line mid cut first others =
     let e : mid ++ line ≡ joined (line ∷ []) = ap (λ b. b ++ line) (first refl ∙ cut.buffer_is) in
     record {

@@ -2,7 +2,7 @@
 use Rattle.std.proofs.Common.{◌≡◌, ℕ, ◌+◌, ◌/◌, ◌%◌, ◌⊎◌, inl, inr, List, [], ◌∷◌, ◌++◌, get_or, All, refl, ap, sym, ◌∙◌, subst, append_assoc, arith}
 use Rattle.std.proofs.lemmas.List.Elements.{All-head, All-tail}
 use Rattle.ftp_reply.specs.Lines.{Text}
-use Rattle.ftp_reply.specs.Reply.{IsCode, code_text, last_line, opening_line, IsLast, IsOneLine, Begins, IsSeveral, IsWhole, Fits}
+use Rattle.ftp_reply.specs.Reply.{IsCode, code_text, last_line, opening_line, IsLastLine, IsOneLine, Begins, IsSeveral, IsWholeReply, Fits}
 
 -- the three digits name one code
 pub code_once : (code code' : ℕ) (rest rest' : Text) → IsCode code → IsCode code' → code_text code ++ rest ≡ code_text code' ++ rest' → (code ≡ code') × (rest ≡ rest')
@@ -35,7 +35,7 @@ pub record Opened (heard : List Text) (code : ℕ) (lines : List Text) : Type 0 
   pub code_is : IsCode code
   pub lines_are : lines ≡ first ∷ (between ++ last ∷ [])
   pub heard_is : heard ≡ opening_line code first ∷ (between ++ last_line code last ∷ [])
-  pub goes_on : All (λ line. ¬ IsLast code line) between
+  pub goes_on : All (λ line. ¬ IsLastLine code line) between
 
 pub opened : (heard : List Text) (code : ℕ) (lines : List Text) → IsSeveral heard code lines → Opened heard code lines
 opened heard code lines several = record {
@@ -87,9 +87,9 @@ opening_once code code' first first' more more' is is' e =
     (o.0, cc, cc)
 
 -- a last line isn't one of those that go on
-last_goes_on : (code : ℕ) (between : List Text) (last : Text) → All (λ line. ¬ IsLast code line) (between ++ last_line code last ∷ []) → ⊥
-last_goes_on code [] last all = All-head (λ line. ¬ IsLast code line) (last_line code last) [] all (last, refl)
-last_goes_on code (line ∷ between) last all = last_goes_on code between last (All-tail (λ l. ¬ IsLast code l) line (between ++ last_line code last ∷ []) all)
+last_goes_on : (code : ℕ) (between : List Text) (last : Text) → All (λ line. ¬ IsLastLine code line) (between ++ last_line code last ∷ []) → ⊥
+last_goes_on code [] last all = All-head (λ line. ¬ IsLastLine code line) (last_line code last) [] all (last, refl)
+last_goes_on code (line ∷ between) last all = last_goes_on code between last (All-tail (λ l. ¬ IsLastLine code l) line (between ++ last_line code last ∷ []) all)
 
 begun_once : (heard : List Text) (code code' : ℕ) (lines lines' : List Text) → Begins heard code lines → Begins heard code' lines' → (code ≡ code') × (lines ≡ lines')
 begun_once heard code code' lines lines' a b =
@@ -109,8 +109,8 @@ several_once heard code code' lines lines' a b =
 several_only : (heard : List Text) (code code' : ℕ) (lines lines' : List Text) → Opened heard code lines → Begins heard code' lines' → ⊥
 several_only heard code code' lines lines' a b =
     let o = opening_once code code' a.first b.first (a.between ++ last_line code a.last ∷ []) b.between a.code_is b.code_is (sym a.heard_is ∙ b.heard_is) in
-    let all : All (λ line. ¬ IsLast code line) b.between = subst (λ (k : ℕ). All (λ line. ¬ IsLast k line) b.between) (sym o.0) b.goes_on in
-    last_goes_on code a.between a.last (subst (λ (xs : List Text). All (λ line. ¬ IsLast code line) xs) (sym o.2) all)
+    let all : All (λ line. ¬ IsLastLine code line) b.between = subst (λ (k : ℕ). All (λ line. ¬ IsLastLine k line) b.between) (sym o.0) b.goes_on in
+    last_goes_on code a.between a.last (subst (λ (xs : List Text). All (λ line. ¬ IsLastLine code line) xs) (sym o.2) all)
 
 -- lines are a reply, or the beginning of one, in one way only
 pub fits_once : (heard : List Text) (code code' : ℕ) (lines lines' : List Text) → Fits heard code lines → Fits heard code' lines' → (code ≡ code') × (lines ≡ lines')
@@ -125,26 +125,26 @@ fits_once heard code code' lines lines' (inr a) (inl (inr b)) = absurd (several_
 fits_once heard code code' lines lines' (inr a) (inr b) = begun_once heard code code' lines lines' a b
 
 -- a whole reply doesn't go on
-pub whole_only : (heard : List Text) (code code' : ℕ) (lines lines' : List Text) → IsWhole heard code lines → Begins heard code' lines' → ⊥
+pub whole_only : (heard : List Text) (code code' : ℕ) (lines lines' : List Text) → IsWholeReply heard code lines → Begins heard code' lines' → ⊥
 whole_only heard code code' lines lines' (inl a) b = one_line_only heard code code' lines b.first b.between a b.code_is b.heard_is
 whole_only heard code code' lines lines' (inr a) b = several_only heard code code' lines lines' (opened heard code lines a) b
 
 -- where lines end at a last line that none of them is, nothing follows the first last line
-cut_once : (code : ℕ) (between between' : List Text) (last last' : Text) (more : List Text) → IsLast code last → All (λ line. ¬ IsLast code line) between' → between ++ last ∷ more ≡ between' ++ last' ∷ [] → more ≡ []
+cut_once : (code : ℕ) (between between' : List Text) (last last' : Text) (more : List Text) → IsLastLine code last → All (λ line. ¬ IsLastLine code line) between' → between ++ last ∷ more ≡ between' ++ last' ∷ [] → more ≡ []
 cut_once code [] [] last last' more is all e = cc
-cut_once code [] (y ∷ ys) last last' more is all e = let h : y ≡ last = cc in absurd (All-head (λ line. ¬ IsLast code line) y ys all (subst (λ (l : Text). IsLast code l) (sym h) is))
+cut_once code [] (y ∷ ys) last last' more is all e = let h : y ≡ last = cc in absurd (All-head (λ line. ¬ IsLastLine code line) y ys all (subst (λ (l : Text). IsLastLine code l) (sym h) is))
 cut_once code (x ∷ xs) [] last last' more is all e = let h : xs ++ last ∷ more ≡ [] = cc in absurd (some xs last more h)
   where
     some : (xs : List Text) (last : Text) (more : List Text) → xs ++ last ∷ more ≡ [] → ⊥
     some [] last more e = cc
     some (x ∷ xs) last more e = cc
-cut_once code (x ∷ xs) (y ∷ ys) last last' more is all e = cut_once code xs ys last last' more is (All-tail (λ line. ¬ IsLast code line) y ys all) cc
+cut_once code (x ∷ xs) (y ∷ ys) last last' more is all e = cut_once code xs ys last last' more is (All-tail (λ line. ¬ IsLastLine code line) y ys all) cc
 
 one_line_of : (heard : List Text) (code : ℕ) (lines : List Text) → IsOneLine heard code lines → (line : Text) × (heard ≡ line ∷ [])
 one_line_of heard code lines a = let r = rest_of heard code a.text a.heard_is in (code_text code ++ r.0, r.1)
 
 -- no more lines go on from a reply
-pub whole_ended : (heard more : List Text) (code code' : ℕ) (lines lines' : List Text) → IsWhole heard code lines → IsWhole (heard ++ more) code' lines' → more ≡ []
+pub whole_ended : (heard more : List Text) (code code' : ℕ) (lines lines' : List Text) → IsWholeReply heard code lines → IsWholeReply (heard ++ more) code' lines' → more ≡ []
 whole_ended heard more code code' lines lines' (inl a) (inl b) =
     let x = one_line_of heard code lines a in
     let y = one_line_of (heard ++ more) code' lines' b in
@@ -167,6 +167,6 @@ whole_ended heard more code code' lines lines' (inr a) (inr b) =
     let p = opened (heard ++ more) code' lines' b in
     let e : opening_line code o.first ∷ ((o.between ++ last_line code o.last ∷ []) ++ more) ≡ opening_line code' p.first ∷ (p.between ++ last_line code' p.last ∷ []) = ap (λ (hs : List Text). hs ++ more) (sym o.heard_is) ∙ p.heard_is in
     let q = opening_once code code' o.first p.first ((o.between ++ last_line code o.last ∷ []) ++ more) (p.between ++ last_line code' p.last ∷ []) o.code_is p.code_is e in
-    let all : All (λ line. ¬ IsLast code line) p.between = subst (λ (k : ℕ). All (λ line. ¬ IsLast k line) p.between) (sym q.0) p.goes_on in
+    let all : All (λ line. ¬ IsLastLine code line) p.between = subst (λ (k : ℕ). All (λ line. ¬ IsLastLine k line) p.between) (sym q.0) p.goes_on in
     let cut : o.between ++ last_line code o.last ∷ more ≡ p.between ++ last_line code' p.last ∷ [] = sym (append_assoc o.between (last_line code o.last ∷ []) more) ∙ q.2 in
     cut_once code o.between p.between (last_line code o.last) (last_line code' p.last) more (o.last, refl) all cut

@@ -20,8 +20,8 @@ abbrev pub is_lf : ℕ → Bool
 is_lf octet = octet == LF
 
 -- a text of one line: it has no LF
-abbrev pub IsLine : Text → Type 0
-IsLine text = All (λ octet. is_lf octet ≡ false) text
+abbrev pub IsSingleLine : Text → Type 0
+IsSingleLine text = All (λ octet. is_lf octet ≡ false) text
 
 -- the lines that octets are, cut at each LF
 abbrev pub cut_at_lf : Text → List Text
@@ -33,7 +33,7 @@ lines_at buffer [] = []
 lines_at buffer (len ∷ lens) = take len buffer ∷ lines_at (drop (len + 1) buffer) lens
 
 -- the buffer is just those lines, an LF between two
-pub record AreCut (buffer : Text) (lens : List ℕ) : Type 0 where
+pub record AreCutAtFeeds (buffer : Text) (lens : List ℕ) : Type 0 where
   pub buffer_is : buffer ≡ joined (lines_at buffer lens)
   pub lens_are : lens ≡ map length (lines_at buffer lens)
 

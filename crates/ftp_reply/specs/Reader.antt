@@ -26,8 +26,8 @@ pub data Heard : Type 0 where
   Faulty : ReplyFault → Heard
 
 -- with these texts the reply ends, or goes on, within the limits
-abbrev pub placed : Bool → ℕ → List Text → Heard
-placed ends code texts =
+abbrev pub reply_placed : Bool → ℕ → List Text → Heard
+reply_placed ends code texts =
     if are_within texts then (if ends then Says code texts else GoesOn (Begun code texts)) else Faulty Faults.TooMany
 
 -- the code in front of a line: three digits, the first of them 1 to 5
@@ -36,9 +36,9 @@ code_in_front line = number_within 3 least_code greatest_code (take 3 line)
 
 -- the line is one whole reply, or the first of several; own choice: a code alone is a reply with an empty text
 abbrev pub first_heard : ℕ → Text → Heard
-first_heard code [] = placed true code ([] ∷ [])
+first_heard code [] = reply_placed true code ([] ∷ [])
 first_heard code (c ∷ text) =
-    if c == space then placed true code (text ∷ []) else (if c == hyphen then placed false code (text ∷ []) else Faulty Faults.BadCode)
+    if c == space then reply_placed true code (text ∷ []) else (if c == hyphen then reply_placed false code (text ∷ []) else Faulty Faults.BadCode)
 
 -- a reply begins with a code, or not
 abbrev pub opened : Option ℕ → Text → Heard
@@ -51,8 +51,8 @@ is_last code line = starts_with nat_eq line (last_line code [])
 
 -- of the last line the text behind code and SP is kept, of any other the whole line
 abbrev pub next_heard : Bool → ℕ → List Text → Text → Heard
-next_heard true code texts line = placed true code (texts ++ drop 4 line ∷ [])
-next_heard false code texts line = placed false code (texts ++ line ∷ [])
+next_heard true code texts line = reply_placed true code (texts ++ drop 4 line ∷ [])
+next_heard false code texts line = reply_placed false code (texts ++ line ∷ [])
 
 -- what one more line gives
 unfoldable pub line_heard : Gathered → Text → Heard
@@ -81,10 +81,10 @@ Answers (Says code texts) (Err Faults.Memory) old new = new ≡ old
 Answers heard other old new = ⊥
 
 -- how a stage and the lines kept are seen
-abbrev pub standing_at : Stage → List Text → Standing
-standing_at Stages.Between lines = Reading Between
-standing_at (Stages.Begun code) lines = Reading (Begun code lines)
-standing_at Stages.Failed lines = Stopped
+abbrev pub reader_standing : Stage → List Text → Standing
+reader_standing Stages.Between lines = Reading Between
+reader_standing (Stages.Begun code) lines = Reading (Begun code lines)
+reader_standing Stages.Failed lines = Stopped
 
 -- what a stage keeps: between replies no line, and of a reply that has begun its code
 abbrev pub AreKept : Stage → List Text → Type 0
@@ -108,11 +108,11 @@ GivesRightly heard line (Faulty Faults.TooMany) = (code : ℕ) × (texts : List 
 GivesRightly heard line (Faulty other) = ⊥
 
 -- these lines are the replies one behind another, and then the rest
-abbrev pub AreHeard : List Text → List (ℕ × List Text) → List Text → Type 0
-AreHeard all [] rest = all ≡ rest
-AreHeard all (reply ∷ replies) rest =
-    (heard : List Text) × (after : List Text) × (all ≡ heard ++ after) × SaysReply heard reply.0 reply.1 × AreHeard after replies rest
+abbrev pub AreReplies : List Text → List (ℕ × List Text) → List Text → Type 0
+AreReplies all [] rest = all ≡ rest
+AreReplies all (reply ∷ replies) rest =
+    (heard : List Text) × (after : List Text) × (all ≡ heard ++ after) × SaysReply heard reply.0 reply.1 × AreReplies after replies rest
 
 -- so far: a reader can stand here after all these lines, which said these replies
-abbrev pub StandsAfter : Gathered → List Text → List (ℕ × List Text) → Type 0
-StandsAfter gathered all replies = (rest : List Text) × Stands gathered rest × AreHeard all replies rest
+abbrev pub CanStandAfter : Gathered → List Text → List (ℕ × List Text) → Type 0
+CanStandAfter gathered all replies = (rest : List Text) × Stands gathered rest × AreReplies all replies rest

@@ -37,8 +37,8 @@ abbrev pub opening_line : ℕ → Text → Text
 opening_line code text = code_text code ++ hyphen ∷ text
 
 -- it begins with the same code and SP
-abbrev pub IsLast : ℕ → Text → Type 0
-IsLast code line = (text : Text) × (line ≡ last_line code text)
+abbrev pub IsLastLine : ℕ → Text → Type 0
+IsLastLine code line = (text : Text) × (line ≡ last_line code text)
 
 -- a reply of one line; own choice: the code alone is a reply with an empty text
 pub record IsOneLine (heard : List Text) (code : ℕ) (lines : List Text) : Type 0 where
@@ -54,7 +54,7 @@ pub record Begins (heard : List Text) (code : ℕ) (lines : List Text) : Type 0 
   pub code_is : IsCode code
   pub lines_are : lines ≡ first ∷ between
   pub heard_is : heard ≡ opening_line code first ∷ between
-  pub goes_on : All (λ line. ¬ IsLast code line) between
+  pub goes_on : All (λ line. ¬ IsLastLine code line) between
 
 -- lines that begin a reply, and one that begins with the same code and SP
 pub record IsSeveral (heard : List Text) (code : ℕ) (lines : List Text) : Type 0 where
@@ -66,17 +66,17 @@ pub record IsSeveral (heard : List Text) (code : ℕ) (lines : List Text) : Type
   pub heard_is : heard ≡ begun ++ last_line code last ∷ []
 
 -- the lines are a reply with that code and these texts, whatever their number and length
-abbrev pub IsWhole : List Text → ℕ → List Text → Type 0
-IsWhole heard code lines = IsOneLine heard code lines ⊎ IsSeveral heard code lines
+abbrev pub IsWholeReply : List Text → ℕ → List Text → Type 0
+IsWholeReply heard code lines = IsOneLine heard code lines ⊎ IsSeveral heard code lines
 
 -- the lines say the reply with that code and these texts
 pub record Says (heard : List Text) (code : ℕ) (lines : List Text) : Type 0 where
-  pub whole : IsWhole heard code lines
+  pub whole : IsWholeReply heard code lines
   pub within : AreWithin lines
 
 -- the lines are a reply, or the beginning of one
 abbrev pub Fits : List Text → ℕ → List Text → Type 0
-Fits heard code lines = IsWhole heard code lines ⊎ Begins heard code lines
+Fits heard code lines = IsWholeReply heard code lines ⊎ Begins heard code lines
 
 -- whether a line begins with three digits
 abbrev pub begins_with_digits : Text → Bool

@@ -157,10 +157,10 @@ pub record Closes (text path behind : Text) : Type 0 where
   pub single : (more : Text) → behind ≢ double_quote ∷ more
 
 -- what stands in front of a quoted text: an octet of the path, its end, or nothing
-abbrev pub IsFront : Text → Front → Type 0
-IsFront text (Octet octet behind) = text ≡ doubled_octet octet ++ behind.now
-IsFront text End = (behind : Text) × Closes text [] behind
-IsFront text Nothing = text ≡ []
+abbrev pub IsQuotedFront : Text → Front → Type 0
+IsQuotedFront text (Octet octet behind) = text ≡ doubled_octet octet ++ behind.now
+IsQuotedFront text End = (behind : Text) × Closes text [] behind
+IsQuotedFront text Nothing = text ≡ []
 
 -- the text quotes the path: from the first double quote to the next that isn't doubled
 pub record Quotes (text path : Text) : Type 0 where

@@ -3,9 +3,9 @@ ghost use Rattle.std.specs.Prelude.{◌≡◌, ◌<◌, ◌++◌, ◌∷◌, ◌
 ghost use Rattle.ftp_endpoint.specs.Number.{SaysNumber};
 ghost use Rattle.ftp_endpoint.specs.declared.endpoint.Endpoint.{Endpoint};
 ghost use Rattle.ftp_facts.specs.Value.{number_value};
-ghost use Rattle.ftp_reply.specs.Lines.{AreWithin, IsLine, cut_at_lf, joined};
+ghost use Rattle.ftp_reply.specs.Lines.{AreWithin, IsSingleLine, cut_at_lf, joined};
 ghost use Rattle.ftp_reply.specs.Reader as reader;
-ghost use Rattle.ftp_reply.specs.Reader.{Between, Faulty, Gathered, GivesRightly, GoesOn, Stands, StandsAfter, line_heard};
+ghost use Rattle.ftp_reply.specs.Reader.{Between, Faulty, Gathered, GivesRightly, GoesOn, Stands, CanStandAfter, line_heard};
 ghost use Rattle.ftp_reply.specs.Reply.{IsCode, HasPlainLines, Begins, Fits, Says, written};
 ghost use Rattle.ftp_reply.specs.Values.{NamesEndpoint, NamesPath, NamesPort, Quotes, SaysMark, extended_value, mark_value, passive_value, path_value, quoted_value};
 
@@ -19,7 +19,7 @@ pub fn written_is_said()
 
 /// The octets that are written, cut at LF, are the lines that are written, where no text has an LF.
 pub fn written_is_cut()
-    ensures { (code : ℕ) (lines : List (List ℕ)) → IsCode code → 0 < length lines → All IsLine lines
+    ensures { (code : ℕ) (lines : List (List ℕ)) → IsCode code → 0 < length lines → All IsSingleLine lines
         → cut_at_lf (joined (written code lines)) ≡ written code lines }
 {}
 
@@ -49,13 +49,13 @@ pub fn line_is_heard()
 
 /// A reader stands after all lines that it has taken and the replies that it gave for them.
 pub fn so_far()
-    ensures first { StandsAfter Between [] [] }
+    ensures first { CanStandAfter Between [] [] }
     ensures goes_on { (old new : Gathered) (line : List ℕ) (all : List (List ℕ)) (replies : List (ℕ × List (List ℕ)))
-        → line_heard old line ≡ GoesOn new → StandsAfter old all replies → StandsAfter new (all ++ line ∷ []) replies }
+        → line_heard old line ≡ GoesOn new → CanStandAfter old all replies → CanStandAfter new (all ++ line ∷ []) replies }
     ensures ends { (old : Gathered) (line : List ℕ) (code : ℕ) (lines : List (List ℕ))
         (all : List (List ℕ)) (replies : List (ℕ × List (List ℕ)))
-        → line_heard old line ≡ reader.Says code lines → StandsAfter old all replies
-        → StandsAfter Between (all ++ line ∷ []) (replies ++ (code, lines) ∷ []) }
+        → line_heard old line ≡ reader.Says code lines → CanStandAfter old all replies
+        → CanStandAfter Between (all ++ line ∷ []) (replies ++ (code, lines) ∷ []) }
 {}
 
 /// A text says a value just where it names one in the standard's words.

@@ -27,13 +27,13 @@ pub struct Lines<A: Allocator + Copy> {
 
 impl<A: Allocator + Copy> Model for Lines<A> {
     ghost use Rattle.std.specs.Prelude.{ℕ, List};
-    ghost use Rattle.ftp_reply.specs.Lines.{lines_at, AreCut, AreWithin};
+    ghost use Rattle.ftp_reply.specs.Lines.{lines_at, AreCutAtFeeds, AreWithin};
 
     ghost Value = { List (List ℕ) };
 
     ghost view = { λ lines. lines_at lines.buffer.items lines.lens.items };
 
-    ghost invariant = { λ lines. AreCut lines.buffer.items lines.lens.items
+    ghost invariant = { λ lines. AreCutAtFeeds lines.buffer.items lines.lens.items
         × AreWithin (lines_at lines.buffer.items lines.lens.items) };
 }
 

@@ -1,7 +1,7 @@
 //! Where a line stands in a reply: before anything is kept or changed.
 ghost use Rattle.std.specs.Prelude.{◌≡◌, ◌≢◌, ◌++◌, ◌∷◌, [], List, ℕ, IfOk, IfErr, IfSome, IfNone};
-ghost use Rattle.ftp_reply.specs.Reply.{IsCode, code_text, last_line, IsLast};
-ghost use Rattle.ftp_reply.specs.Reader.{AreKept, Begun, Between, Faulty, first_heard, heard_at, line_heard, placed, standing_at};
+ghost use Rattle.ftp_reply.specs.Reply.{IsCode, code_text, last_line, IsLastLine};
+ghost use Rattle.ftp_reply.specs.Reader.{AreKept, Begun, Between, Faulty, first_heard, heard_at, line_heard, reply_placed, reader_standing};
 
 use crate::fault::ReplyFault;
 
@@ -28,8 +28,8 @@ pub struct LinePlace<'a> {
 pub fn place_of(stage: Stage, line: &[u8]) -> Result<LinePlace<'_>, ReplyFault>
     // Witness: caller: `Reader::line`, lone.
     ensures ok { IfOk result (λ place. (lines : List (List ℕ)) → AreKept stage lines → IsCode place.code
-        × (heard_at (standing_at stage lines) line.now ≡ placed place.ends place.code (lines ++ place.text.now ∷ []))) }
-    ensures err { IfErr result (λ fault. (lines : List (List ℕ)) → heard_at (standing_at stage lines) line.now ≡ Faulty fault) }
+        × (heard_at (reader_standing stage lines) line.now ≡ reply_placed place.ends place.code (lines ++ place.text.now ∷ []))) }
+    ensures err { IfErr result (λ fault. (lines : List (List ℕ)) → heard_at (reader_standing stage lines) line.now ≡ Faulty fault) }
 {
     match stage {
         Stage::Between => match first_place(line) {
@@ -44,7 +44,7 @@ pub fn place_of(stage: Stage, line: &[u8]) -> Result<LinePlace<'_>, ReplyFault>
 /// The place of a reply's first line. The code alone is a reply too.
 fn first_place(line: &[u8]) -> Option<LinePlace<'_>>
     ensures code { IfSome result (λ place. IsCode place.code) }
-    ensures found { IfSome result (λ place. line_heard Between line.now ≡ placed place.ends place.code (place.text.now ∷ [])) }
+    ensures found { IfSome result (λ place. line_heard Between line.now ≡ reply_placed place.ends place.code (place.text.now ∷ [])) }
     ensures none { IfNone result (line_heard Between line.now ≡ Faulty ReplyFault.BadCode) }
 {
     let (code, rest) = code_of(line)?;
@@ -54,7 +54,7 @@ fn first_place(line: &[u8]) -> Option<LinePlace<'_>>
 
 /// What the reply keeps of its first line, of which this stands behind the code, and whether that is the only line.
 fn first_text(rest: &[u8]) -> Option<(&[u8], bool)>
-    ensures some { IfSome result (λ kept. (code : ℕ) → first_heard code rest.now ≡ placed kept.1 code (kept.0.now ∷ [])) }
+    ensures some { IfSome result (λ kept. (code : ℕ) → first_heard code rest.now ≡ reply_placed kept.1 code (kept.0.now ∷ [])) }
     ensures none { IfNone result ((code : ℕ) → first_heard code rest.now ≡ Faulty ReplyFault.BadCode) }
 {
     match rest {
@@ -69,7 +69,7 @@ fn first_text(rest: &[u8]) -> Option<(&[u8], bool)>
 fn later_place(code: u16, line: &[u8]) -> LinePlace<'_>
     ensures code { result.code ≡ code }
     ensures heard { (lines : List (List ℕ)) → IsCode code → line_heard (Begun code lines) line.now
-        ≡ placed result.ends code (lines ++ result.text.now ∷ []) }
+        ≡ reply_placed result.ends code (lines ++ result.text.now ∷ []) }
 {
     match last_text(code, line) {
         Some(text) => LinePlace {
@@ -88,7 +88,7 @@ fn later_place(code: u16, line: &[u8]) -> LinePlace<'_>
 /// The text of a line that begins with this code and SP.
 fn last_text(code: u16, line: &[u8]) -> Option<&[u8]>
     ensures found { IfSome result (λ text. line.now ≡ last_line code text.now) }
-    ensures none { IfNone result (IsCode code → IsLast code line.now → ⊥) }
+    ensures none { IfNone result (IsCode code → IsLastLine code line.now → ⊥) }
 {
     let (found, rest) = code_of(line)?;
     match rest {

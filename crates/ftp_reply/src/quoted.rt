@@ -1,7 +1,7 @@
 //! The path between double quotes.
 ghost use Rattle.std.specs.Prelude.{◌≡◌, ◌<◌, ◌⊎◌, ◌↔◌, List, ℕ, Some, None, option_map, length, IfOk, IfErr, IfSome, IfNone, IsErrOf};
 ghost use Rattle.ftp_reply.specs.Lines.{joined};
-ghost use Rattle.ftp_reply.specs.Values.{Closes, IsFront, path_value};
+ghost use Rattle.ftp_reply.specs.Values.{Closes, IsQuotedFront, path_value};
 
 use crate::fault::ReplyFault;
 use crate::reply::Reply;
@@ -84,7 +84,7 @@ fn path_in(text: &[u8]) -> Option<ArrayVec<u8, TEXT_LIMIT>>
 
 /// The next octet of a path, or its end.
 fn front_of(text: &[u8]) -> Front<'_>
-    ensures { IsFront text.now result }
+    ensures { IsQuotedFront text.now result }
 {
     match text {
         [b'"', b'"', behind @ ..] => Front::Octet(b'"', behind),

@@ -17,11 +17,11 @@ pub struct Reader<A: Allocator + Copy> {
 }
 
 impl<A: Allocator + Copy> Model for Reader<A> {
-    ghost use Rattle.ftp_reply.specs.Reader.{Standing, standing_at, AreKept};
+    ghost use Rattle.ftp_reply.specs.Reader.{Standing, reader_standing, AreKept};
 
     ghost Value = { Standing };
 
-    ghost view = { λ reader. standing_at reader.stage reader.lines };
+    ghost view = { λ reader. reader_standing reader.stage reader.lines };
 
     ghost invariant = { λ reader. AreKept reader.stage reader.lines };
 }

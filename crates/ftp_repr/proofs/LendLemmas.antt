@@ -11,7 +11,7 @@ use Rattle.ftp_repr.specs.Signs.{Sign, octet}
 use Rattle.ftp_repr.specs.Items.{signs}
 use Rattle.ftp_repr.specs.Runs.{IsRun}
 use Rattle.ftp_repr.specs.Receiving.{receiving, ascii_gives}
-use Rattle.ftp_repr.specs.Received.{Lends, HasNoRoom, settled_by, lent_octets, receiver_form, taking}
+use Rattle.ftp_repr.specs.Received.{Lends, SignsLackRoom, settled_by, lent_octets, receiver_form, taking_at_stage}
 use Rattle.ftp_repr.specs.declared.item.Lent.{Lent}
 use Rattle.ftp_repr.specs.declared.receiver.Receiver.{Receiver}
 use Rattle.ftp_repr.specs.declared.receiver.Stage.TheVariants.{Settled, Held, Over}
@@ -34,19 +34,19 @@ nothing (x ∷ xs) e = absurd (omega arith)
 -- the first octets of a piece go as they are
 abbrev GoAs : Receiver → List ℕ → ℕ → Type 0
 GoAs a piece n = (k : ℕ) → k ≤ n →
-    (after (receiving (receiver_form a)) (taking a) (take k (map octet piece)) ≡ taking a) × (settled_by a (take k (map octet piece)) ≡ take k piece)
+    (after (receiving (receiver_form a)) (taking_at_stage a) (take k (map octet piece)) ≡ taking_at_stage a) × (settled_by a (take k (map octet piece)) ≡ take k piece)
 
 ascii_goes : (a : Receiver) (piece : List ℕ) (n : ℕ) → a.kind ≡ Ascii → a.stage ≡ Settled → AllByRecursion (λ c. (c == 13) ≡ false) (take n piece) → GoAs a piece n
 ascii_goes a piece n ascii stage all k few =
     let P : ℕ → Type 0 = λ c. (c == 13) ≡ false in
     let front : AllByRecursion P (take k piece) = subst (AllByRecursion P) (take-take k n piece few) (all_front P k (take n piece) all) in
-    let run = run_ascii (receiver_form a) (taking a) (take k piece) ascii (ap held_at stage) (ap ended_at stage) front in
-    (ap (after (receiving (receiver_form a)) (taking a)) (take-map octet k piece) ∙ run.0, ap (settled_by a) (take-map octet k piece) ∙ run.1)
+    let run = run_ascii (receiver_form a) (taking_at_stage a) (take k piece) ascii (ap held_at stage) (ap ended_at stage) front in
+    (ap (after (receiving (receiver_form a)) (taking_at_stage a)) (take-map octet k piece) ∙ run.0, ap (settled_by a) (take-map octet k piece) ∙ run.1)
 
 image_goes : (a : Receiver) (piece : List ℕ) (n : ℕ) → a.kind ≡ Image → a.stage ≢ Over → GoAs a piece n
 image_goes a piece n image going k few =
-    let run = run_image (receiver_form a) (taking a) (take k piece) image (goes a.stage going) in
-    (ap (after (receiving (receiver_form a)) (taking a)) (take-map octet k piece) ∙ run.0, ap (settled_by a) (take-map octet k piece) ∙ run.1)
+    let run = run_image (receiver_form a) (taking_at_stage a) (take k piece) image (goes a.stage going) in
+    (ap (after (receiving (receiver_form a)) (taking_at_stage a)) (take-map octet k piece) ∙ run.0, ap (settled_by a) (take-map octet k piece) ∙ run.1)
 
 front_len : (a : Receiver) (piece : List ℕ) (n k : ℕ) → GoAs a piece n → n ≤ length piece → k ≤ n → length (settled_by a (take k (map octet piece))) ≡ k
 front_len a piece n k runs within few = ap length (runs k few).1 ∙ length-take-le k piece (omega (arith, within, few))
@@ -63,7 +63,7 @@ all_lends a piece n lent runs full plain octets taken rest =
       within = omega (arith, taken, size, full);
       some = λ some. omega (arith, taken, size, full, some);
       rest = rest ∙ sym (nothing (drop lent.taken (map octet piece)) (omega (arith, taken, size, full, length-drop lent.taken (map octet piece))));
-      state = sym (ap (λ k. after (receiving (receiver_form a)) (taking a) (take k (map octet piece))) taken ∙ (runs n (omega arith)).0);
+      state = sym (ap (λ k. after (receiving (receiver_form a)) (taking_at_stage a) (take k (map octet piece))) taken ∙ (runs n (omega arith)).0);
       settles = lone ∙ sym (ap (λ k. settled_by a (take k (map octet piece))) taken ∙ (runs n (omega arith)).1);
       no_sooner = λ k less.
           let few : k ≤ n = omega (arith, less, long) in
@@ -95,10 +95,10 @@ first_behind (c ∷ piece) (suc n) less = ap (λ l. c ∷ l) (first_behind piece
 abbrev pub holding : Receiver → Receiver
 holding a = record a { stage = Held }
 
-cr_step : (a : Receiver) → a.kind ≡ Ascii → a.stage ≡ Settled → (receiving (receiver_form a)).step (taking a) (octet 13) ≡ taking (holding a)
+cr_step : (a : Receiver) → a.kind ≡ Ascii → a.stage ≡ Settled → (receiving (receiver_form a)).step (taking_at_stage a) (octet 13) ≡ taking_at_stage (holding a)
 cr_step a ascii stage = rw (ascii, stage) refl
 
-cr_out : (a : Receiver) → a.kind ≡ Ascii → a.stage ≡ Settled → (receiving (receiver_form a)).out (taking a) (octet 13) ≡ []
+cr_out : (a : Receiver) → a.kind ≡ Ascii → a.stage ≡ Settled → (receiving (receiver_form a)).out (taking_at_stage a) (octet 13) ≡ []
 cr_out a ascii stage = rw (ascii, stage) refl
 
 -- a run and the CR behind it
@@ -122,9 +122,9 @@ held_lends a piece n lent ascii stage run less plain octets taken rest =
       within = omega (arith, taken, size, less);
       some = λ some. omega (arith, taken);
       rest = rest ∙ sym (ap (λ k. drop k (map octet piece)) taken ∙ drop-map octet (n + 1) piece);
-      state = sym (ap (after m (taking a)) front ∙ after-append m (taking a) (take n (map octet piece)) (octet 13 ∷ [])
+      state = sym (ap (after m (taking_at_stage a)) front ∙ after-append m (taking_at_stage a) (take n (map octet piece)) (octet 13 ∷ [])
           ∙ ap (λ t. m.step t (octet 13)) all.0 ∙ cr_step a ascii stage);
-      settles = lone ∙ sym (ap (settled_by a) front ∙ gives-append m (taking a) (take n (map octet piece)) (octet 13 ∷ [])
+      settles = lone ∙ sym (ap (settled_by a) front ∙ gives-append m (taking_at_stage a) (take n (map octet piece)) (octet 13 ∷ [])
           ∙ ap (λ t. settled_by a (take n (map octet piece)) ++ (m.out t (octet 13) ++ [])) all.0
           ∙ ap (λ l. settled_by a (take n (map octet piece)) ++ (l ++ [])) (cr_out a ascii stage)
           ∙ append-nil (settled_by a (take n (map octet piece))) ∙ all.1);
@@ -145,14 +145,14 @@ abbrev pub free : Receiver → Receiver
 free a = record a { stage = Settled }
 
 line_after : (a : Receiver) (ss : List Sign) → a.kind ≡ Ascii → a.stage ≡ Held
-    → after (receiving (receiver_form a)) (taking a) (octet 10 ∷ ss) ≡ after (receiving (receiver_form (free a))) (taking (free a)) (octet 10 ∷ ss)
+    → after (receiving (receiver_form a)) (taking_at_stage a) (octet 10 ∷ ss) ≡ after (receiving (receiver_form (free a))) (taking_at_stage (free a)) (octet 10 ∷ ss)
 line_after a ss ascii held = rw (ascii, held) refl
 
 line_gives : (a : Receiver) (ss : List Sign) → a.kind ≡ Ascii → a.stage ≡ Held → settled_by a (octet 10 ∷ ss) ≡ settled_by (free a) (octet 10 ∷ ss)
 line_gives a ss ascii held = rw (ascii, held) refl
 
 front_after : (a : Receiver) (ss : List Sign) (k : ℕ) → 0 < k → a.kind ≡ Ascii → a.stage ≡ Held
-    → after (receiving (receiver_form a)) (taking a) (take k (octet 10 ∷ ss)) ≡ after (receiving (receiver_form (free a))) (taking (free a)) (take k (octet 10 ∷ ss))
+    → after (receiving (receiver_form a)) (taking_at_stage a) (take k (octet 10 ∷ ss)) ≡ after (receiving (receiver_form (free a))) (taking_at_stage (free a)) (take k (octet 10 ∷ ss))
 front_after a ss zero some ascii held = absurd (omega arith)
 front_after a ss (suc k) some ascii held = line_after a (take k ss) ascii held
 
@@ -185,25 +185,25 @@ feed_lends a new (c ∷ piece) lent some feed ascii held lends =
 
 -- another octet: the CR is itself
 lone_step : (a : Receiver) (c : ℕ) → a.kind ≡ Ascii → a.stage ≡ Held
-    → (receiving (receiver_form a)).step (taking a) (octet c) ≡ (receiving (receiver_form (free a))).step (taking (free a)) (octet c)
+    → (receiving (receiver_form a)).step (taking_at_stage a) (octet c) ≡ (receiving (receiver_form (free a))).step (taking_at_stage (free a)) (octet c)
 lone_step a c ascii held = rw (ascii, held) refl
 
 lone_gives : (c : ℕ) → (c == 10) ≡ false → (c == 0) ≡ false → ascii_gives true c ≡ 13 ∷ ascii_gives false c
 lone_gives c feed null = elim (decided (c == 13)) [ inl e ↦ rw (feed, null, e) refl | inr e ↦ rw (feed, null, e) refl ]
 
 lone_out : (a : Receiver) (c : ℕ) → a.kind ≡ Ascii → a.stage ≡ Held → (c == 10) ≡ false → (c == 0) ≡ false
-    → (receiving (receiver_form a)).out (taking a) (octet c) ≡ 13 ∷ (receiving (receiver_form (free a))).out (taking (free a)) (octet c)
+    → (receiving (receiver_form a)).out (taking_at_stage a) (octet c) ≡ 13 ∷ (receiving (receiver_form (free a))).out (taking_at_stage (free a)) (octet c)
 lone_out a c ascii held feed null = rw (ascii, held) (lone_gives c feed null)
 
 lone_front : (a : Receiver) (c : ℕ) (ss : List Sign) (k : ℕ) → a.kind ≡ Ascii → a.stage ≡ Held → (c == 10) ≡ false → (c == 0) ≡ false → 0 < k
-    → (after (receiving (receiver_form a)) (taking a) (take k (octet c ∷ ss)) ≡ after (receiving (receiver_form (free a))) (taking (free a)) (take k (octet c ∷ ss)))
+    → (after (receiving (receiver_form a)) (taking_at_stage a) (take k (octet c ∷ ss)) ≡ after (receiving (receiver_form (free a))) (taking_at_stage (free a)) (take k (octet c ∷ ss)))
     × (settled_by a (take k (octet c ∷ ss)) ≡ 13 ∷ settled_by (free a) (take k (octet c ∷ ss)))
 lone_front a c ss zero ascii held feed null some = absurd (omega arith)
 lone_front a c ss (suc k) ascii held feed null some =
     let m = receiving (receiver_form a) in (
       ap (λ t. after m t (take k ss)) (lone_step a c ascii held),
-      ap (λ l. l ++ gives m (m.step (taking a) (octet c)) (take k ss)) (lone_out a c ascii held feed null)
-          ∙ ap (λ t. 13 ∷ (m.out (taking (free a)) (octet c) ++ gives m t (take k ss))) (lone_step a c ascii held),
+      ap (λ l. l ++ gives m (m.step (taking_at_stage a) (octet c)) (take k ss)) (lone_out a c ascii held feed null)
+          ∙ ap (λ t. 13 ∷ (m.out (taking_at_stage (free a)) (octet c) ++ gives m t (take k ss))) (lone_step a c ascii held),
     )
 
 sooner_by : (a : Receiver) (c : ℕ) (ss : List Sign) (j k : ℕ) → a.kind ≡ Ascii → a.stage ≡ Held → (c == 10) ≡ false → (c == 0) ≡ false → j ≡ k - 1
@@ -258,7 +258,7 @@ lone_lends a new (c ∷ piece) lent some feed null ascii held plain lends = lone
 pub over_lends : (a : Receiver) (ss : List Sign) (lent : Lent) → a.stage ≡ Over → lent.with_return ≡ false → lent.octets.now ≡ [] → lent.taken ≡ length ss
     → signs lent.rest ≡ [] → Lends a ss lent a
 over_lends a ss lent over plain octets taken rest =
-    let none = receiving_over (receiver_form a) (taking a) (take lent.taken ss) (ap ended_at over) in
+    let none = receiving_over (receiver_form a) (taking_at_stage a) (take lent.taken ss) (ap ended_at over) in
     let lone : lent_octets lent ≡ [] = ap (λ b. (if b then 13 ∷ [] else []) ++ lent.octets.now) plain ∙ octets in
     let long : length (lent_octets lent) ≡ 0 = ap length lone in
     record {
@@ -275,27 +275,27 @@ over_lends a ss lent over plain octets taken rest =
 -- ---- what is left of the row
 
 pub lends_rest : (a b : Receiver) (ss : List Sign) (lent : Lent) → Lends a ss lent b
-    → (after (receiving (receiver_form a)) (taking a) ss ≡ after (receiving (receiver_form b)) (taking b) (signs lent.rest))
+    → (after (receiving (receiver_form a)) (taking_at_stage a) ss ≡ after (receiving (receiver_form b)) (taking_at_stage b) (signs lent.rest))
     × (settled_by a ss ≡ lent_octets lent ++ settled_by b (signs lent.rest))
 lends_rest a b ss lent lends =
     let m = receiving (receiver_form a) in
     let front = take lent.taken ss in
     let back = drop lent.taken ss in
     let cut = take-append-drop lent.taken ss in
-    let P : Form → Type 0 = λ f. (after m (taking b) (signs lent.rest) ≡ after (receiving f) (taking b) (signs lent.rest))
-    × (gives m (taking b) (signs lent.rest) ≡ gives (receiving f) (taking b) (signs lent.rest)) in
+    let P : Form → Type 0 = λ f. (after m (taking_at_stage b) (signs lent.rest) ≡ after (receiving f) (taking_at_stage b) (signs lent.rest))
+    × (gives m (taking_at_stage b) (signs lent.rest) ≡ gives (receiving f) (taking_at_stage b) (signs lent.rest)) in
     let there : P (receiver_form b) = subst P (sym lends.form) (refl, refl) in (
-      ap (after m (taking a)) (sym cut) ∙ after-append m (taking a) front back ∙ ap (λ t. after m t back) (sym lends.state)
-          ∙ ap (after m (taking b)) (sym lends.rest) ∙ there.0,
-      ap (settled_by a) (sym cut) ∙ gives-append m (taking a) front back ∙ ap (λ t. settled_by a front ++ gives m t back) (sym lends.state)
-          ∙ ap (λ l. settled_by a front ++ gives m (taking b) l) (sym lends.rest)
-          ∙ ap (λ l. l ++ gives m (taking b) (signs lent.rest)) (sym lends.settles)
+      ap (after m (taking_at_stage a)) (sym cut) ∙ after-append m (taking_at_stage a) front back ∙ ap (λ t. after m t back) (sym lends.state)
+          ∙ ap (after m (taking_at_stage b)) (sym lends.rest) ∙ there.0,
+      ap (settled_by a) (sym cut) ∙ gives-append m (taking_at_stage a) front back ∙ ap (λ t. settled_by a front ++ gives m t back) (sym lends.state)
+          ∙ ap (λ l. settled_by a front ++ gives m (taking_at_stage b) l) (sym lends.rest)
+          ∙ ap (λ l. l ++ gives m (taking_at_stage b) (signs lent.rest)) (sym lends.settles)
           ∙ ap (λ l. lent_octets lent ++ l) there.1,
     )
 
 -- what has no room: so much was put, and this is refused
 pub no_room_part : (a : Receiver) (ss : List Sign) (lent x y more : List ℕ) (first last : ℕ)
-    → x ++ settled_by a ss ≡ y ++ (lent ++ more) → first ≤ last → last < length y + length lent → HasNoRoom a ss first (length x)
+    → x ++ settled_by a ss ≡ y ++ (lent ++ more) → first ≤ last → last < length y + length lent → SignsLackRoom a ss first (length x)
 no_room_part a ss lent x y more first last same grown full =
     let all = ap length same in
     omega (arith, grown, full, all, length-append x (settled_by a ss), length-append y (lent ++ more), length-append lent more)

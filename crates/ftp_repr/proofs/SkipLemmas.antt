@@ -6,7 +6,7 @@ use Rattle.std.proofs.lemmas.List.Concat.{flat_map-append}
 use Rattle.ftp_repr.specs.Ascii.{ascii_octet}
 use Rattle.ftp_repr.specs.Signs.{wire_octets, wire_row}
 use Rattle.ftp_repr.specs.Runs.{IsRun, is_changed}
-use Rattle.ftp_repr.specs.Skipping.{IsPlace, Skips, further}
+use Rattle.ftp_repr.specs.Skipping.{IsPlaceOfOffset, Skips, further}
 use Rattle.ftp_settings.specs.declared.representation.Kind.{Kind}
 use Rattle.ftp_settings.specs.declared.representation.Kind.TheVariants.{Ascii, Image}
 use Rattle.ftp_settings.specs.declared.representation.Structure.TheVariants.{File}
@@ -52,10 +52,10 @@ pub goes_all : (k : Kind) (b : List ℕ) → goes k b (length b) ≡ length (wir
 goes_all k b = ap (λ l. length (wire_row k l)) (take_all (length b) b (omega arith))
 
 -- one place
-behind_octet : (k : Kind) (c : ℕ) (b : List ℕ) (n p : ℕ) → IsPlace k (c ∷ b) n (suc p) → IsPlace k b (n - length (wire_octets k c)) p
+behind_octet : (k : Kind) (c : ℕ) (b : List ℕ) (n p : ℕ) → IsPlaceOfOffset k (c ∷ b) n (suc p) → IsPlaceOfOffset k b (n - length (wire_octets k c)) p
 behind_octet k c b n p h = record { within = omega (arith, h.within); goes = omega (arith, h.goes, row_cons k c (take p b)) }
 
-pub place_once : (k : Kind) (b : List ℕ) (n p q : ℕ) → IsPlace k b n p → IsPlace k b n q → p ≡ q
+pub place_once : (k : Kind) (b : List ℕ) (n p q : ℕ) → IsPlaceOfOffset k b n p → IsPlaceOfOffset k b n q → p ≡ q
 place_once k b n zero zero h g = refl
 place_once k [] n (suc p) q h g = absurd (omega (arith, h.within))
 place_once k [] n zero (suc q) h g = absurd (omega (arith, g.within))
@@ -65,7 +65,7 @@ place_once k (c ∷ b) n (suc p) (suc q) h g =
     ap suc (place_once k b (n - length (wire_octets k c)) p q (behind_octet k c b n p h) (behind_octet k c b n q g))
 
 -- a place stands no further on the wire than all goes
-pub place_below : (k : Kind) (b : List ℕ) (n p : ℕ) → IsPlace k b n p → n ≤ length (wire_row k b)
+pub place_below : (k : Kind) (b : List ℕ) (n p : ℕ) → IsPlaceOfOffset k b n p → n ≤ length (wire_row k b)
 place_below k b n p h = omega (arith, h.goes, goes_up k b p (length b) h.within, goes_all k b)
 
 -- one answer
@@ -84,7 +84,7 @@ skips_once k b n Inside Inside h g = refl
 take_front : (b d : List ℕ) (p : ℕ) → p ≤ length b → take p (b ++ d) ≡ take p b
 take_front b d p h = take-append-le p b d h
 
-place_front : (k : Kind) (b d : List ℕ) (n p : ℕ) → IsPlace k b n p → IsPlace k (b ++ d) n p
+place_front : (k : Kind) (b d : List ℕ) (n p : ℕ) → IsPlaceOfOffset k b n p → IsPlaceOfOffset k (b ++ d) n p
 place_front k b d n p h = record {
   within = omega (arith, h.within, length-append b d);
   goes = ap (λ l. length (wire_row k l)) (take_front b d p h.within) ∙ h.goes;
@@ -93,19 +93,19 @@ place_front k b d n p h = record {
 goes_back : (k : Kind) (b d : List ℕ) (p : ℕ) → goes k (b ++ d) (length b + p) ≡ length (wire_row k b) + goes k d p
 goes_back k b d p = ap (λ l. length (wire_row k l)) (take-append-add b d p) ∙ row_append k b (take p d)
 
-place_back : (k : Kind) (b d : List ℕ) (n m p : ℕ) → length (wire_row k b) + m ≡ n → IsPlace k d m p → IsPlace k (b ++ d) n (length b + p)
+place_back : (k : Kind) (b d : List ℕ) (n m p : ℕ) → length (wire_row k b) + m ≡ n → IsPlaceOfOffset k d m p → IsPlaceOfOffset k (b ++ d) n (length b + p)
 place_back k b d n m p e h = record {
   within = omega (arith, h.within, length-append b d);
   goes = goes_back k b d p ∙ omega (arith, h.goes, e);
 }
 
-front_place : (k : Kind) (b d : List ℕ) (n p : ℕ) → p ≤ length b → IsPlace k (b ++ d) n p → IsPlace k b n p
+front_place : (k : Kind) (b d : List ℕ) (n p : ℕ) → p ≤ length b → IsPlaceOfOffset k (b ++ d) n p → IsPlaceOfOffset k b n p
 front_place k b d n p less h = record {
   within = less;
   goes = ap (λ l. length (wire_row k l)) (sym (take_front b d p less)) ∙ h.goes;
 }
 
-back_place : (k : Kind) (b d : List ℕ) (n m p : ℕ) → length (wire_row k b) + m ≡ n → IsPlace k (b ++ d) n (length b + p) → IsPlace k d m p
+back_place : (k : Kind) (b d : List ℕ) (n m p : ℕ) → length (wire_row k b) + m ≡ n → IsPlaceOfOffset k (b ++ d) n (length b + p) → IsPlaceOfOffset k d m p
 back_place k b d n m p e h = record {
   within = omega (arith, h.within, length-append b d);
   goes = omega (arith, h.goes, goes_back k b d p, e);
@@ -120,7 +120,7 @@ in_front_or_back (suc a) (suc p) = elim (in_front_or_back a p) [ inl h ↦ inl (
 pub within_stays : (k : Kind) (b more : List ℕ) (n p : ℕ) → Skips k b n (Within p) → Skips k (b ++ more) n (Within p)
 within_stays k b more n p h = place_front k b more n p h
 
-no_place_stays : (k : Kind) (b more : List ℕ) (n : ℕ) → Skips k b n Inside → (p : ℕ) → IsPlace k (b ++ more) n p → ⊥
+no_place_stays : (k : Kind) (b more : List ℕ) (n : ℕ) → Skips k b n Inside → (p : ℕ) → IsPlaceOfOffset k (b ++ more) n p → ⊥
 no_place_stays k b more n h p g =
     elim (in_front_or_back (length b) p) [
       | inl less ↦ h.1 p (front_place k b more n p less g)
@@ -131,11 +131,11 @@ pub inside_stays : (k : Kind) (b more : List ℕ) (n : ℕ) → Skips k b n Insi
 inside_stays k b more n h = (omega (arith, h.0, row_append k b more), no_place_stays k b more n h)
 
 -- what is left is for what follows
-no_place_back : (k : Kind) (b d : List ℕ) (n m : ℕ) → Skips k b n (Left m) → Skips k d m Inside → (p : ℕ) → IsPlace k (b ++ d) n p → ⊥
+no_place_back : (k : Kind) (b d : List ℕ) (n m : ℕ) → Skips k b n (Left m) → Skips k d m Inside → (p : ℕ) → IsPlaceOfOffset k (b ++ d) n p → ⊥
 no_place_back k b d n m h g p i =
     elim (in_front_or_back (length b) p) [
       | inl less ↦ omega (arith, h.0, h.1, place_below k b n p (front_place k b d n p less i))
-      | inr q ↦ let P : ℕ → Type 0 = λ x. IsPlace k (b ++ d) n x in g.1 q.0 (back_place k b d n m q.0 h.1 (subst P q.1 i))
+      | inr q ↦ let P : ℕ → Type 0 = λ x. IsPlaceOfOffset k (b ++ d) n x in g.1 q.0 (back_place k b d n m q.0 h.1 (subst P q.1 i))
     ]
 
 pub skips_on : (k : Kind) (b d : List ℕ) (n m : ℕ) (r : Skipped) → Skips k b n (Left m) → Skips k d m r → Skips k (b ++ d) n (further (length b) r)
@@ -180,7 +180,7 @@ pair_goes (c ∷ b) (suc run) r h =
       pair_goes b run (behind_first (is_changed Ascii File) c b run r) (omega arith),
     )
 
-pub run_place : (b : List ℕ) (run p : ℕ) → IsPlain b run → p ≤ run → IsPlace Ascii b p p
+pub run_place : (b : List ℕ) (run p : ℕ) → IsPlain b run → p ≤ run → IsPlaceOfOffset Ascii b p p
 run_place b run p r h = record { within = omega (arith, r.within); goes = run_goes b run p r h }
 
 below_or_above : (a p : ℕ) → (p ≤ a) ⊎ (suc a ≤ p)
@@ -189,7 +189,7 @@ below_or_above zero (suc p) = inr (omega arith)
 below_or_above (suc a) zero = inl (omega arith)
 below_or_above (suc a) (suc p) = elim (below_or_above a p) [ inl h ↦ inl (omega arith) | inr h ↦ inr (omega arith) ]
 
-no_place_in_pair : (b : List ℕ) (run : ℕ) → IsPlain b run → run < length b → (p : ℕ) → IsPlace Ascii b (run + 1) p → ⊥
+no_place_in_pair : (b : List ℕ) (run : ℕ) → IsPlain b run → run < length b → (p : ℕ) → IsPlaceOfOffset Ascii b (run + 1) p → ⊥
 no_place_in_pair b run r h p g =
     elim (below_or_above run p) [
       | inl less ↦ omega (arith, g.goes, run_goes b run p r less)
@@ -209,10 +209,10 @@ goes_cut b at p h =
     ∙ ap (λ n. goes Ascii (take at b ++ drop at b) (n + p)) (sym (length-take-le at b h))
     ∙ goes_back Ascii (take at b) (drop at b) p
 
-pub place_cut : (b : List ℕ) (at n m p : ℕ) → at ≤ length b → goes Ascii b at + m ≡ n → IsPlace Ascii (drop at b) m p → IsPlace Ascii b n (at + p)
+pub place_cut : (b : List ℕ) (at n m p : ℕ) → at ≤ length b → goes Ascii b at + m ≡ n → IsPlaceOfOffset Ascii (drop at b) m p → IsPlaceOfOffset Ascii b n (at + p)
 place_cut b at n m p h e g =
-    let P : List ℕ → Type 0 = λ l. IsPlace Ascii l n (at + p) in
-    let Q : ℕ → Type 0 = λ x. IsPlace Ascii (take at b ++ drop at b) n (x + p) in
+    let P : List ℕ → Type 0 = λ l. IsPlaceOfOffset Ascii l n (at + p) in
+    let Q : ℕ → Type 0 = λ x. IsPlaceOfOffset Ascii (take at b ++ drop at b) n (x + p) in
     subst P (take-append-drop at b) (subst Q (length-take-le at b h) (place_back Ascii (take at b) (drop at b) n m p e g))
 
 pub inside_cut : (b : List ℕ) (at n m : ℕ) → 0 < m → goes Ascii b at + m ≡ n → Skips Ascii (drop at b) m Inside → Skips Ascii b n Inside

@@ -20,24 +20,24 @@ taking_at Settled = fresh
 taking_at Held = record { held = true; ended = false }
 taking_at Over = over
 
-abbrev pub taking : Receiver → Taking
-taking r = taking_at r.stage
+abbrev pub taking_at_stage : Receiver → Taking
+taking_at_stage r = taking_at r.stage
 
 -- the signs were taken, and the file has at its end what they settled
-pub record Receives (old : Receiver) (ss : List Sign) (new : Receiver) (before now : List ℕ) : Type 0 where
+pub record ReceivesSigns (old : Receiver) (ss : List Sign) (new : Receiver) (before now : List ℕ) : Type 0 where
   pub form : receiver_form new ≡ receiver_form old
-  pub state : taking new ≡ after (receiving (receiver_form old)) (taking old) ss
-  pub added : now ≡ before ++ gives (receiving (receiver_form old)) (taking old) ss
+  pub state : taking_at_stage new ≡ after (receiving (receiver_form old)) (taking_at_stage old) ss
+  pub added : now ≡ before ++ gives (receiving (receiver_form old)) (taking_at_stage old) ss
 
 -- what the signs settle has no room in a vector of this capacity and length
-abbrev pub HasNoRoom : Receiver → List Sign → ℕ → ℕ → Type 0
-HasNoRoom r ss capacity len = capacity < len + length (gives (receiving (receiver_form r)) (taking r) ss)
+abbrev pub SignsLackRoom : Receiver → List Sign → ℕ → ℕ → Type 0
+SignsLackRoom r ss capacity len = capacity < len + length (gives (receiving (receiver_form r)) (taking_at_stage r) ss)
 
 -- ---- what signs in front of a row settle, lent
 
 -- what signs settle
 abbrev pub settled_by : Receiver → List Sign → List ℕ
-settled_by r ss = gives (receiving (receiver_form r)) (taking r) ss
+settled_by r ss = gives (receiving (receiver_form r)) (taking_at_stage r) ss
 
 -- the octets that are lent: a CR that was held, and others
 abbrev pub lent_octets : Lent → List ℕ
@@ -53,7 +53,7 @@ pub record Lends (old : Receiver) (ss : List Sign) (lent : Lent) (new : Receiver
   pub within : lent.taken ≤ length ss
   pub some : 0 < length ss → 0 < lent.taken
   pub rest : signs lent.rest ≡ drop lent.taken ss
-  pub state : taking new ≡ after (receiving (receiver_form old)) (taking old) (take lent.taken ss)
+  pub state : taking_at_stage new ≡ after (receiving (receiver_form old)) (taking_at_stage old) (take lent.taken ss)
   pub settles : lent_octets lent ≡ settled_by old (take lent.taken ss)
   pub no_sooner : (k : ℕ) → k < length (lent_octets lent) → length (settled_by old (take (comes_with lent k) ss)) ≤ k
   pub no_later : (k : ℕ) → k < length (lent_octets lent) → k < length (settled_by old (take (comes_with lent k + 1) ss))

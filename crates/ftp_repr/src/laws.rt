@@ -9,7 +9,7 @@ ghost use Rattle.ftp_settings.specs.Representation.{Form};
 ghost use Rattle.ftp_repr.specs.Records.{IsRecords, ended_record, read_records, signs_of_records};
 ghost use Rattle.ftp_repr.specs.Receiving.{receiving, fresh};
 ghost use Rattle.ftp_repr.specs.Runs.{IsRun};
-ghost use Rattle.ftp_repr.specs.Skipping.{IsPlace, Skips, further};
+ghost use Rattle.ftp_repr.specs.Skipping.{IsPlaceOfOffset, Skips, further};
 ghost use Rattle.ftp_repr.specs.Content.{HasNoEnd, content, data_of, read_record, read_cut};
 ghost use Rattle.ftp_settings.specs.declared.representation.Kind.{Kind};
 ghost use Rattle.ftp_settings.specs.declared.representation.Structure.TheVariants.{File, Record};
@@ -72,7 +72,7 @@ pub fn runs()
 /// A count of octets of the wire leads to one place of a file at most, and `skip` has one answer. Of a piece in front
 /// the answer stays, whatever follows; where octets are left, the next piece goes on with them.
 pub fn places()
-    ensures one { (k : Kind) (b : List ℕ) (n p q : ℕ) → IsPlace k b n p → IsPlace k b n q → p ≡ q }
+    ensures one { (k : Kind) (b : List ℕ) (n p q : ℕ) → IsPlaceOfOffset k b n p → IsPlaceOfOffset k b n q → p ≡ q }
     ensures answer { (k : Kind) (b : List ℕ) (n : ℕ) (r s : Skipped) → Skips k b n r → Skips k b n s → r ≡ s }
     ensures within { (k : Kind) (b more : List ℕ) (n p : ℕ) → Skips k b n (Within p) → Skips k (b ++ more) n (Within p) }
     ensures inside { (k : Kind) (b more : List ℕ) (n : ℕ) → Skips k b n Inside → Skips k (b ++ more) n Inside }

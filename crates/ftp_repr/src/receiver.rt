@@ -2,7 +2,7 @@ ghost use Rattle.std.specs.Prelude.{◌≡◌, ◌≢◌, ◌+◌, ◌<◌, ◌�
 ghost use Rattle.ftp_repr.specs.Signs.{Sign, octet as sign, end_record, end_file};
 ghost use Rattle.ftp_repr.specs.Items.{signs};
 ghost use Rattle.ftp_repr.specs.Receiving.{fresh, over};
-ghost use Rattle.ftp_repr.specs.Received.{Receives, Lends, HasNoRoom, lent_octets, receiver_form, taking};
+ghost use Rattle.ftp_repr.specs.Received.{ReceivesSigns, Lends, SignsLackRoom, lent_octets, receiver_form, taking_at_stage};
 ghost use Rattle.ftp_settings.specs.declared.representation.Kind.TheVariants.{Ascii};
 
 use crate::fault::ReprFault;
@@ -37,7 +37,7 @@ impl Receiver {
     pub fn new(kind: Kind, structure: Structure) -> Receiver
         // Witness: equations; `edits/receiver_begins_with_a_return`.
         ensures form { receiver_form result ≡ record { kind = kind; structure = structure } }
-        ensures fresh { taking result ≡ fresh }
+        ensures fresh { taking_at_stage result ≡ fresh }
     {
         Receiver {
             kind,
@@ -48,7 +48,7 @@ impl Receiver {
 
     /// Whether a CR is held, which what comes next settles.
     pub fn holds_return(&self) -> bool
-        ensures { result ≡ (taking self.now).held }
+        ensures { result ≡ (taking_at_stage self.now).held }
     {
         match self.stage {
             Stage::Held => true,
@@ -69,12 +69,12 @@ impl Receiver {
     ) -> Result<(), ReprFault>
         // Witness of ok, err: equations of the receiver and the vector; `edits/refused_growth_changes_the_receiver`,
         // `refused_growth_leaves_its_octets`.
-        ensures ok { OnOk result (Receives self.old (signs item.entry) self.new out.old.items out.new.items) }
+        ensures ok { OnOk result (ReceivesSigns self.old (signs item.entry) self.new out.old.items out.new.items) }
         ensures err { OnErr result ((self.new ≡ self.old) × (out.new.items ≡ out.old.items)) }
 
         // Only where room is missing for what the item settles.
         // Witness of full: `edits/receiver_always_refuses`; `rows_lines::nothing_settled_needs_no_room`.
-        ensures full { OnErr result (HasNoRoom self.old (signs item.entry) (vec_capacity out.old) (vec_len out.old)) }
+        ensures full { OnErr result (SignsLackRoom self.old (signs item.entry) (vec_capacity out.old) (vec_len out.old)) }
         // Witness of capacity: `rows_lines::an_item_keeps_the_room`.
         ensures capacity { vec_capacity out.old ≤ vec_capacity out.new }
     {
@@ -95,10 +95,10 @@ impl Receiver {
     /// Without memory all is as before.
     pub fn end<A: Allocator + Copy>(&mut self, out: &mut Vec<u8, A>) -> Result<(), ReprFault>
         // Witness of ok, err: equations; `edits/clean_end_is_an_end_of_record`.
-        ensures ok { OnOk result (Receives self.old (end_file ∷ []) self.new out.old.items out.new.items) }
+        ensures ok { OnOk result (ReceivesSigns self.old (end_file ∷ []) self.new out.old.items out.new.items) }
         ensures err { OnErr result ((self.new ≡ self.old) × (out.new.items ≡ out.old.items)) }
         // Witness of full, capacity: `rows_lines::nothing_settled_needs_no_room`, `an_item_keeps_the_room`.
-        ensures full { OnErr result (HasNoRoom self.old (end_file ∷ []) (vec_capacity out.old) (vec_len out.old)) }
+        ensures full { OnErr result (SignsLackRoom self.old (end_file ∷ []) (vec_capacity out.old) (vec_len out.old)) }
         ensures capacity { vec_capacity out.old ≤ vec_capacity out.new }
     {
         self.take(Item::EndFile, out)
@@ -108,7 +108,7 @@ impl Receiver {
     pub fn broken(&mut self)
         // Witness: equations; `edits/broken_keeps_an_unpaired_return`.
         ensures form { receiver_form self.new ≡ receiver_form self.old }
-        ensures over { taking self.new ≡ over }
+        ensures over { taking_at_stage self.new ≡ over }
     {
         self.stage = Stage::Over; // a held CR goes with it
     }
@@ -221,9 +221,9 @@ impl Receiver {
         item: Item<'_>,
         out: &mut Vec<u8, A>,
     ) -> Result<(), AllocError>
-        ensures ok { OnOk result (Receives self.old (signs item.entry) self.new out.old.items out.new.items) }
+        ensures ok { OnOk result (ReceivesSigns self.old (signs item.entry) self.new out.old.items out.new.items) }
         ensures err { OnErr result ((rest : List ℕ) × (out.new.items ≡ out.old.items ++ rest)) }
-        ensures full { OnErr result (HasNoRoom self.old (signs item.entry) (vec_capacity out.old) (vec_len out.old)) }
+        ensures full { OnErr result (SignsLackRoom self.old (signs item.entry) (vec_capacity out.old) (vec_len out.old)) }
         ensures capacity { vec_capacity out.old ≤ vec_capacity out.new }
     {
         let mut rest = item;

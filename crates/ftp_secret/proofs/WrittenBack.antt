@@ -7,7 +7,7 @@ use Rattle.std.proofs.lemmas.Fmt.{decimal_digit, decimal_step}
 use Rattle.std.proofs.lemmas.List.{take-append-drop}
 use Rattle.std.proofs.lemmas.List.Quantifiers.{position-Some}
 use Rattle.std.proofs.lemmas.Slice.Eq.{starts_is}
-use Rattle.ftp_secret.specs.Secret.{cut, cut_at, dollar, first_dollar, has_kind, is_letter, letter_count, most_octets, most_rounds, number_behind, read, rounds_said, rounds_text, rounds_word, secret_text, sign, with_letters, with_method, with_rounds, with_salt}
+use Rattle.ftp_secret.specs.Secret.{cut, cut_around, dollar, first_dollar, has_kind, is_letter, letter_count, most_field_octets, most_rounds, number_behind, read, rounds_said, rounds_text, rounds_word, secret_text, sign, with_letters, with_method, with_rounds, with_salt}
 use Rattle.ftp_secret.specs.declared.method.Method.{Method}
 use Rattle.ftp_secret.specs.declared.method.Method.TheVariants.{Sha256, Sha512}
 use Rattle.ftp_secret.specs.declared.fault.SecretFault.{SecretFault}
@@ -108,7 +108,7 @@ pub record CutAt (o : Option ℕ) (octets front behind : List ℕ) : Type 0 wher
   pub front_is : take place octets ≡ front
   pub behind_is : drop (place + 1) octets ≡ behind
 
-pub at_place : (o : Option ℕ) (octets front behind : List ℕ) → cut_at octets o ≡ Some (front, behind) → CutAt o octets front behind
+pub at_place : (o : Option ℕ) (octets front behind : List ℕ) → cut_around octets o ≡ Some (front, behind) → CutAt o octets front behind
 at_place None octets front behind says = absurd (cc)
 at_place (Some place) octets front behind says =
     let own : List ℕ × List ℕ = (take place octets, drop (place + 1) octets) in
@@ -174,7 +174,7 @@ with_method_is method octets secret says =
 -- a field that says a secret is what is written for it
 pub read_is : (field : List ℕ) (secret : Secret) → read field ≡ Ok secret → secret_text secret ≡ field
 read_is field secret says =
-    let first = passed (nat_lt most_octets (length field)) _ _ secret says in
+    let first = passed (nat_lt most_field_octets (length field)) _ _ secret says in
     elim (either (starts_with nat_eq field (sign Sha256)) _ _ (Ok secret) first.1) [
       | It test goes ↦ with_method_is Sha256 (drop 3 field) secret goes ∙ sym ((starts_is Decides-eqb field (sign Sha256) _ refl).0 test)
       | Other test goes ↦ or_large goes

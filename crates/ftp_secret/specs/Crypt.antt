@@ -75,9 +75,9 @@ abbrev pub letter : ℕ → ℕ
 letter bits = if nat_lt bits 12 then bits + 46 else (if nat_lt bits 38 then bits + 53 else bits + 59)
 
 -- so many letters of a number, the lowest six bits first
-abbrev pub letters : (count number : ℕ) → List ℕ
-letters zero number = []
-letters (suc count) number = letter (number % 64) ∷ letters count (number / 64)
+abbrev pub letters_of_number : (count number : ℕ) → List ℕ
+letters_of_number zero number = []
+letters_of_number (suc count) number = letter (number % 64) ∷ letters_of_number count (number / 64)
 
 -- three octets as one number, the first of them the highest
 abbrev pub joined : (first second third : ℕ) → ℕ
@@ -102,7 +102,7 @@ group Sha512 place = turned (place % 3) 21 place
 abbrev pub group_text : Method → (c : List ℕ) → (place : ℕ) → List ℕ
 group_text method c place =
     let g = group method place in
-    letters 4 (joined (slice_index c g.0) (slice_index c g.1) (slice_index c g.2))
+    letters_of_number 4 (joined (slice_index c g.0) (slice_index c g.1) (slice_index c g.2))
 
 -- those of so many groups, from the first on
 unfoldable pub groups_text : Method → (c : List ℕ) → (count : ℕ) → List ℕ
@@ -111,8 +111,8 @@ groups_text method c (suc place) = groups_text method c place ++ group_text meth
 
 -- a digest as letters: its whole groups, and what is left (step 22)
 abbrev pub digest_text : Method → (c : List ℕ) → List ℕ
-digest_text Sha256 c = groups_text Sha256 c 10 ++ letters 3 (joined 0 (slice_index c 31) (slice_index c 30))
-digest_text Sha512 c = groups_text Sha512 c 21 ++ letters 2 (joined 0 0 (slice_index c 63))
+digest_text Sha256 c = groups_text Sha256 c 10 ++ letters_of_number 3 (joined 0 (slice_index c 31) (slice_index c 30))
+digest_text Sha512 c = groups_text Sha512 c 21 ++ letters_of_number 2 (joined 0 0 (slice_index c 63))
 
 -- the text behind the salt: what the algorithm gives for a password
 abbrev pub hash_text : Method → (rounds : ℕ) → (salt password : List ℕ) → List ℕ

@@ -11,15 +11,15 @@ use Rattle.ftp_secret.specs.declared.hashing.Digest.{Digest}
 use Rattle.ftp_secret.specs.declared.hashing.Digest.TheVariants as Is
 
 -- a hasher of this method has taken these octets
-abbrev pub Holds : Hasher → Method → List ℕ → Type 0
-Holds (Small hasher) Sha256 octets = Holds256 hasher octets
-Holds (Small hasher) Sha512 octets = ⊥
-Holds (Large hasher) Sha256 octets = ⊥
-Holds (Large hasher) Sha512 octets = Holds512 hasher octets
+abbrev pub HoldsOctets : Hasher → Method → List ℕ → Type 0
+HoldsOctets (Small hasher) Sha256 octets = Holds256 hasher octets
+HoldsOctets (Small hasher) Sha512 octets = ⊥
+HoldsOctets (Large hasher) Sha256 octets = ⊥
+HoldsOctets (Large hasher) Sha512 octets = Holds512 hasher octets
 
 -- it takes these octets behind those before
 abbrev pub Takes : (old : Hasher) → List ℕ → (new : Hasher) → Type 0
-Takes old octets new = (method : Method) (before : List ℕ) → Holds old method before → Holds new method (before ++ octets)
+Takes old octets new = (method : Method) (before : List ℕ) → HoldsOctets old method before → HoldsOctets new method (before ++ octets)
 
 -- the octets of a digest
 abbrev pub octets_of : Digest → List ℕ

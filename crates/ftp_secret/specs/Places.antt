@@ -4,9 +4,9 @@ use Rattle.ftp_secret.specs.Crypt.{Group, group}
 use Rattle.ftp_secret.specs.declared.method.Method.{Method}
 
 -- the places of so many groups, from the first on
-abbrev pub places : Method → (count : ℕ) → List Group
-places method zero = []
-places method (suc place) = places method place ++ group method place ∷ []
+abbrev pub group_places : Method → (count : ℕ) → List Group
+group_places method zero = []
+group_places method (suc place) = group_places method place ++ group method place ∷ []
 
 -- of 32 octets; those at 31 and 30 are left
 abbrev pub places_256 : List Group

@@ -67,9 +67,9 @@ abbrev pub most_rounds : ℕ
 most_rounds = ROUNDS_LIMIT
 
 -- what stands before a place and behind it
-abbrev pub cut_at : List ℕ → Option ℕ → Option (List ℕ × List ℕ)
-cut_at octets None = None
-cut_at octets (Some place) = Some (take place octets, drop (place + 1) octets)
+abbrev pub cut_around : List ℕ → Option ℕ → Option (List ℕ × List ℕ)
+cut_around octets None = None
+cut_around octets (Some place) = Some (take place octets, drop (place + 1) octets)
 
 -- the place of the first `$`
 unfoldable pub first_dollar : List ℕ → Option ℕ
@@ -77,7 +77,7 @@ first_dollar octets = position (λ octet. octet == dollar) octets
 
 -- what stands before the first `$` and behind it
 abbrev pub cut : List ℕ → Option (List ℕ × List ℕ)
-cut octets = cut_at octets (first_dollar octets)
+cut octets = cut_around octets (first_dollar octets)
 
 -- the number of digits behind a number, while it is within the limit
 abbrev pub number_behind : ℕ → List ℕ → Result ℕ SecretFault
@@ -131,13 +131,13 @@ has_kind (octet ∷ []) = false
 has_kind (octet ∷ next ∷ octets) = (octet == dollar) && (is_kind_octet next && ends_kind octets)
 
 -- the most octets of a field, as of a password
-abbrev pub most_octets : ℕ
-most_octets = 255
+abbrev pub most_field_octets : ℕ
+most_field_octets = 255
 
 -- what a field says: SHA-crypt behind its sign; no other kind is known, and taken as plain it would be another password; all else stands for itself
 abbrev pub read : List ℕ → Result Secret SecretFault
 read field =
-    if nat_lt most_octets (length field) then Err Faults.TooLong
+    if nat_lt most_field_octets (length field) then Err Faults.TooLong
     else (if starts_with nat_eq field (sign Sha256) then with_method Sha256 (drop 3 field)
     else (if starts_with nat_eq field (sign Sha512) then with_method Sha512 (drop 3 field)
     else (if has_kind field then Err Faults.Kind else Ok (plain field))))

@@ -1,7 +1,7 @@
 // A hasher of either method, and what SHA-crypt feeds it (steps 1 to 21).
 ghost use Rattle.std.specs.Prelude.{◌≡◌, ◌<◌, ◌++◌, ◌==◌, ◌%◌, List, ℕ, [], length, if◌then◌else◌};
 ghost use Rattle.ftp_secret.specs.Crypt.{by_digits, cycled, digest, repeated};
-ghost use Rattle.ftp_secret.specs.Hashing.{Holds, Takes, octets_of};
+ghost use Rattle.ftp_secret.specs.Hashing.{HoldsOctets, Takes, octets_of};
 ghost use Rattle.ftp_secret.specs.declared.method.Method.{Method};
 
 use crate::method::Method;
@@ -35,7 +35,7 @@ pub(crate) enum Hasher {
 impl Hasher {
     /// A hasher that has taken nothing.
     pub(crate) fn new(method: Method) -> Hasher
-        ensures { Holds result method [] }
+        ensures { HoldsOctets result method [] }
     {
         match method {
             Method::Sha256 => Hasher::Small(Sha256::new()),
@@ -55,7 +55,7 @@ impl Hasher {
 
     /// The digest of what was taken.
     pub(crate) fn digest(self) -> Digest
-        ensures { (method : Method) (octets : List ℕ) → Holds self method octets → octets_of result ≡ digest method octets }
+        ensures { (method : Method) (octets : List ℕ) → HoldsOctets self method octets → octets_of result ≡ digest method octets }
     {
         match self {
             Hasher::Small(hasher) => Digest::Small(hasher.finalize()),

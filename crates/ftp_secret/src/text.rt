@@ -1,7 +1,7 @@
 // A digest as letters (step 22).
 ghost use Rattle.std.specs.Prelude.{◌≡◌, ◌+◌, ◌*◌, ◌<◌, ◌≤◌, ◌^◌, ◌++◌, slice_index};
 ghost use Rattle.arrayvec.specs.ArrayVec.{array_vec_len};
-ghost use Rattle.ftp_secret.specs.Crypt.{digest_text, group, group_text, groups_text, joined, letter, letters, turned};
+ghost use Rattle.ftp_secret.specs.Crypt.{digest_text, group, group_text, groups_text, joined, letter, letters_of_number, turned};
 
 use crate::method::Method;
 use arrayvec::ArrayVec;
@@ -29,7 +29,7 @@ fn letter(bits: u8) -> u8
 /// Puts so many letters of a number, the lowest six bits first.
 fn put_letters(text: &mut Letters, count: usize, number: u32)
     requires { array_vec_len text.old + count ≤ 86 }
-    ensures letters { text.new.items ≡ text.old.items ++ letters count number }
+    ensures letters { text.new.items ≡ text.old.items ++ letters_of_number count number }
     ensures len { array_vec_len text.new ≡ array_vec_len text.old + count }
 {
     if count == 0 {

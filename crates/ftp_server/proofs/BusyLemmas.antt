@@ -4,11 +4,11 @@ use Rattle.ftp_server_model.specs.Machine.{has_room, is_connection_busy, is_idle
 use Rattle.ftp_server_model.specs.View.{Transfer, View}
 use Rattle.ftp_server_model.specs.declared.session.ServerLink.{ServerLink}
 use Rattle.ftp_server_model.specs.declared.session.ServerLink.TheVariants as Data
-use Rattle.ftp_server_session.specs.Session.{connection_of, has_transfer}
+use Rattle.ftp_server_session.specs.Session.{connection_seen, has_transfer}
 use Rattle.ftp_server.specs.Busy.{is_busy}
 
 -- the data connection, however a transfer is seen
-pub busy_seen : {J : Type 0} (view : J → Transfer) (c : ServerLink J) → is_connection_busy (connection_of view c) ≡ is_busy c
+pub busy_seen : {J : Type 0} (view : J → Transfer) (c : ServerLink J) → is_connection_busy (connection_seen view c) ≡ is_busy c
 busy_seen view Data.Free = refl
 busy_seen view (Data.Asked asked) = refl
 busy_seen view (Data.Active endpoint) = refl
@@ -26,7 +26,7 @@ pub idle_calm : (v : View) → is_idle v ≡ true → is_connection_busy v.sessi
 idle_calm v e = (idle_parts (is_connection_busy v.session.connection) (has_room v) e).0
 
 -- so no transfer stands, however it is seen
-pub idle_free : {J : Type 0} (view : J → Transfer) (c : ServerLink J) → is_connection_busy (connection_of view c) ≡ false → has_transfer c ≡ false
+pub idle_free : {J : Type 0} (view : J → Transfer) (c : ServerLink J) → is_connection_busy (connection_seen view c) ≡ false → has_transfer c ≡ false
 idle_free view Data.Free is = refl
 idle_free view (Data.Asked asked) is = refl
 idle_free view (Data.Active endpoint) is = refl

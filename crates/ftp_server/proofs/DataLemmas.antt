@@ -20,7 +20,7 @@ use Rattle.ftp_server.specs.Breaking.{InstallIsLost}
 use Rattle.ftp_server.specs.Data.{IsSaid, ReceivesTo, SayingFails}
 use Rattle.ftp_server.proofs.CallLemmas.{on_course}
 use Rattle.ftp_server.proofs.CountingLemmas.{same_counts}
-use Rattle.ftp_server.specs.Settled.{HasMoved, IsSettled}
+use Rattle.ftp_server.specs.Settled.{HasMoved, IsStepSettled}
 use Rattle.ftp_tree.proofs.CountLemmas.{stray-first, stray-second}
 use Rattle.ftp_tree.specs.Change.{IsSteady}
 
@@ -69,7 +69,7 @@ late_of (Err x) v w done lost course = inr (lost course)
 
 pub settles_behind_fault : {T E : Type 0} (step : Result T E) (failures : ℕ) (old mid new : Server) → is_err step ≡ true → (KeepsCourse old.counts mid.counts → Late old.view mid.view)
     → mid.counts.refusals ≡ old.counts.refusals → new.view ≡ mid.view → new.counts.failures ≡ mid.counts.failures → OnErr step (HasMoved failures mid.counts new.counts)
-    → IsSettled step failures old new
+    → IsStepSettled step failures old new
 settles_behind_fault (Ok x) failures old mid new failed late same view still moved = absurd (let wrong : false ≡ true = failed in cc)
 settles_behind_fault (Err x) failures old mid new failed late same view still moved =
     (λ c. subst (λ w. Late old.view w) (sym view) (late (ap (λ f. f.strays) (sym still) ∙ c)), λ refusals. moved (refusals ∙ sym same))
@@ -78,7 +78,7 @@ pub settles : {T E U F : Type 0} (step : Result T E) (l : Result U F) (failures 
     → OnOk l (KeepsCourse old.counts mid.counts → mid.view ≡ later old.view) → OnErr l (KeepsCourse old.counts mid.counts → WaitingFails old.view.waiting old.view mid.view)
     → mid.counts.refusals ≡ old.counts.refusals → OnOk l (IsSteady old.counts.failures mid.counts.failures) → new.view ≡ mid.view → new.counts.failures ≡ mid.counts.failures
     → OnOk l (new.counts ≡ mid.counts) → OnErr l (HasMoved failures mid.counts new.counts) → CountsOn old.counts new.counts
-    → IsSettled step failures old new
+    → IsStepSettled step failures old new
 settles (Err x) l failures old mid new fine done lost same steady view still counts moved counted = absurd (let wrong : true ≡ false = fine in cc)
 settles (Ok x) (Ok y) failures old mid new fine done lost same steady view still counts moved counted = λ stood.
     let course : KeepsCourse old.counts new.counts → KeepsCourse old.counts mid.counts = λ c. ap (λ f. f.strays) (sym still) ∙ c in
@@ -98,7 +98,7 @@ settles (Ok x) (Err y) failures old mid new fine done lost same steady view stil
 -- where no count has moved, the step was done, and the device did not stray in it
 pub not_failed : {T E : Type 0} {P : Type 0} (r : Result T E) (failures : ℕ) (old mid new : Server) → failures ≡ old.counts.failures.told
     → mid.counts.refusals ≡ old.counts.refusals → TellsSome 1 old.counts.failures mid.counts.failures → TellsSome 1 mid.counts.failures new.counts.failures
-    → IsSettled r failures mid new → new.counts ≡ old.counts → OnOk r (KeepsCourse old.counts mid.counts → P) → P
+    → IsStepSettled r failures mid new → new.counts ≡ old.counts → OnOk r (KeepsCourse old.counts mid.counts → P) → P
 not_failed (Ok x) failures old mid new stood refusals few more settled same p =
     p (stray-first old.counts.failures mid.counts.failures new.counts.failures few.1 more.1 (on_course old.counts new.counts same))
 not_failed (Err x) failures old mid new stood refusals few more settled same p =
@@ -111,7 +111,7 @@ on_any (Err x) p = tt
 pub steps : {T E : Type 0} (Fails : View → View → Type 0) (step : View → View) (old mid new : Server) (failures : ℕ) (r : Result T E) → failures ≡ old.counts.failures.told
     → mid.counts.refusals ≡ old.counts.refusals → OnOk r (KeepsCourse old.counts mid.counts → mid.view ≡ step old.view)
     → OnOk r (IsSteady old.counts.failures mid.counts.failures) → OnErr r (KeepsCourse old.counts mid.counts → (x : View) → Late mid.view x → Fails old.view x)
-    → TellsSome 1 old.counts.failures mid.counts.failures → TellsSome 1 mid.counts.failures new.counts.failures → IsSettled r failures mid new
+    → TellsSome 1 old.counts.failures mid.counts.failures → TellsSome 1 mid.counts.failures new.counts.failures → IsStepSettled r failures mid new
     → CountsOn old.counts new.counts → Steps Fails step old new
 steps Fails step old mid new failures (Ok x) stood refusals view steady lost few more settled counted =
     let acts = settled (stood ∙ sym steady.0) in

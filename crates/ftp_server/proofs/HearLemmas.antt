@@ -12,7 +12,7 @@ use Rattle.ftp_server_model.specs.View.{View, line_limit}
 use Rattle.ftp_server_model.specs.declared.heard.HeardLine.{HeardLine}
 use Rattle.ftp_server_model.specs.declared.heard.HeardLine.TheVariants.{TooLong, Bad, Asks}
 use Rattle.ftp_server.specs.HearsTo.{AreHeardTo, HearsTo}
-use Rattle.ftp_server.specs.Reading.{HoldsText}
+use Rattle.ftp_server.specs.Reading.{SaysTextCommand}
 
 -- ---- results
 
@@ -45,7 +45,7 @@ bad_is_heard (Err e) fault v w done lost course = by (lost course)
     by (inl is) = is
     by (inr h) = absurd h.1
 
-pub line_not_read : (heard : HeardLine (List ℕ)) (v w : View) → HoldsText heard → w ≡ heard_line (Bad Memory) v → LineIsHeard heard v w
+pub line_not_read : (heard : HeardLine (List ℕ)) (v w : View) → SaysTextCommand heard → w ≡ heard_line (Bad Memory) v → LineIsHeard heard v w
 line_not_read (Asks command) v w holds is = not_read (holds, is)
 line_not_read (Bad fault) v w holds is = absurd holds
 line_not_read TooLong v w holds is = absurd holds

@@ -27,7 +27,7 @@ use Rattle.ftp_server_session.specs.Receiving.{ComesIn}
 use Rattle.ftp_server_model.specs.Machine.{with_session}
 use Rattle.ftp_server.specs.Data.{TellsSaid, refused}
 use Rattle.ftp_server.specs.HearsTo.{HearsTo, TellsTo}
-use Rattle.ftp_server.specs.Settled.{HasMoved, IsSettled}
+use Rattle.ftp_server.specs.Settled.{HasMoved, IsStepSettled}
 use Rattle.ftp_server.proofs.CallLemmas.{on_course}
 use Rattle.ftp_server.proofs.CountingLemmas.{same_counts}
 use Rattle.ftp_server_model.specs.Counting.{TellsSome}
@@ -93,7 +93,7 @@ tells step heard old mid new view counts told = λ same. told (same ∙ sym coun
 pub tells_step : {T E : Type 0} (step : View → View) (heard : Option Heard) (old mid new : Server) (failures : ℕ) (r : Result T E) → failures ≡ old.counts.failures.told
     → mid.counts.refusals ≡ old.counts.refusals → OnOk r (KeepsCourse old.counts mid.counts → mid.view ≡ step old.view)
     → OnOk r (IsSteady old.counts.failures mid.counts.failures) → TellsSome 1 old.counts.failures mid.counts.failures
-    → TellsSome 1 mid.counts.failures new.counts.failures → IsSettled r failures mid new
+    → TellsSome 1 mid.counts.failures new.counts.failures → IsStepSettled r failures mid new
     → OnOk r (failures ≡ mid.counts.failures.told → Tells (λ v. v) heard mid new) → Tells step heard old new
 tells_step step heard old mid new failures (Ok x) stood refusals view steady few more settled told = λ same.
     let c = stray-first old.counts.failures mid.counts.failures new.counts.failures few.1 more.1 (on_course old.counts new.counts same) in

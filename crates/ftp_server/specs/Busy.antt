@@ -3,7 +3,7 @@ use Rattle.std.specs.Prelude.{◌≡◌, ℕ, ◌+◌, ◌≤◌, Bool, true, fa
 use Rattle.ftp_command.specs.Line.{line_limit}
 use Rattle.ftp_path.specs.Login.{login_limit}
 use Rattle.ftp_server_session.specs.Line.{HeardPaths}
-pub use Rattle.ftp_server_session.specs.Little.{heard_name_len, is_busy, is_short, name_len}
+pub use Rattle.ftp_server_session.specs.Little.{heard_name_len, is_busy, is_short_reply, name_len}
 use Rattle.ftp_server_model.specs.Held.{waiting_len}
 use Rattle.ftp_server_model.specs.declared.heard.HeardLine.{HeardLine}
 use Rattle.ftp_server_model.specs.declared.session.ServerLink.{ServerLink}

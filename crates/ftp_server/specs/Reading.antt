@@ -5,11 +5,11 @@ use Rattle.ftp_server_model.specs.declared.heard.HeardLine.{HeardLine}
 use Rattle.ftp_server_model.specs.declared.heard.HeardLine.TheVariants.{Asks}
 
 -- a line that says a command which holds a text
-abbrev pub HoldsText : HeardLine (List ℕ) → Type 0
-HoldsText (Asks command) = holds_text command ≡ true
-HoldsText heard = ⊥
+abbrev pub SaysTextCommand : HeardLine (List ℕ) → Type 0
+SaysTextCommand (Asks command) = holds_text command ≡ true
+SaysTextCommand heard = ⊥
 
 -- it is read as this; or not at all, and it holds a text
 abbrev pub IsReadAs : HeardLine (List ℕ) → Option (HeardLine (List ℕ)) → Type 0
 IsReadAs heard (Some read) = read ≡ heard
-IsReadAs heard None = HoldsText heard
+IsReadAs heard None = SaysTextCommand heard

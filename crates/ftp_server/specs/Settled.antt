@@ -9,6 +9,6 @@ HasMoved failures old new = new.refusals ≡ old.refusals → new.failures.told 
 
 -- behind a step that was done comes the line that waits; behind one that failed too, and a growth counts as refused unless the
 -- device's count has moved on since it stood at `failures`
-abbrev pub IsSettled : {T E : Type 0} → Result T E → (failures : ℕ) → (old new : Server) → Type 0
-IsSettled (Ok done) failures old new = failures ≡ old.counts.failures.told → Acts (λ v. v) old new
-IsSettled (Err failed) failures old new = (KeepsCourse old.counts new.counts → Late old.view new.view) × HasMoved failures old.counts new.counts
+abbrev pub IsStepSettled : {T E : Type 0} → Result T E → (failures : ℕ) → (old new : Server) → Type 0
+IsStepSettled (Ok done) failures old new = failures ≡ old.counts.failures.told → Acts (λ v. v) old new
+IsStepSettled (Err failed) failures old new = (KeepsCourse old.counts new.counts → Late old.view new.view) × HasMoved failures old.counts new.counts

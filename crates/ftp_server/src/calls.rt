@@ -4,7 +4,7 @@ ghost use Rattle.ftp_server_model.specs.Counting.{MovesOn, TellsSome};
 ghost use Rattle.ftp_server_model.specs.Calls.{clock_step, close_step, control_end, control_step, listening_step, no_port_step, opened_step, refused_step};
 ghost use Rattle.ftp_server_model.specs.Far.{Acts, AreTold};
 ghost use Rattle.ftp_server_model.specs.Heard.{Tells};
-ghost use Rattle.ftp_server.specs.Settled.{HasMoved, IsSettled};
+ghost use Rattle.ftp_server.specs.Settled.{HasMoved, IsStepSettled};
 
 use crate::line::Failed;
 use crate::server::Server;
@@ -59,7 +59,7 @@ impl<A: Allocator + Copy, T: Tree<A>, J: ServerTransfer<A, T>> Server<A, T, J> {
 
     /// The end of a call whose step may have failed; it began where the device's count stood at `failures`.
     pub(crate) fn settle_behind(&mut self, step: Result<(), Failed>, failures: u64)
-        ensures settled { IsSettled step failures (server_of T.table T.failures J.view self.old) (server_of T.table T.failures J.view self.new) }
+        ensures settled { IsStepSettled step failures (server_of T.table T.failures J.view self.old) (server_of T.table T.failures J.view self.new) }
         ensures told { OnOk step (failures ≡ (T.failures self.old.session.tree).told → Tells (λ v. v) self.new.heard (server_of T.table T.failures J.view self.old) (server_of T.table T.failures J.view self.new)) }
         ensures refusals { MovesOn 1 self.old.refusals self.new.refusals }
         ensures few { TellsSome 1 (T.failures self.old.session.tree) (T.failures self.new.session.tree) }

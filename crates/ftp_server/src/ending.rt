@@ -6,7 +6,7 @@ ghost use Rattle.ftp_server_model.specs.Endpoint.{disconnected};
 ghost use Rattle.ftp_server_model.specs.Machine.{with_session};
 ghost use Rattle.ftp_server.specs.Breaking.{InstallIsLost};
 ghost use Rattle.ftp_server.specs.Busy.{HasRoom};
-ghost use Rattle.ftp_server_session.specs.Session.{connection_of};
+ghost use Rattle.ftp_server_session.specs.Session.{connection_seen};
 ghost use Rattle.ftp_tree.specs.Change.{IsSteady};
 
 use crate::conclude::{at_break, at_end};
@@ -88,7 +88,7 @@ impl<A: Allocator + Copy, T: Tree<A>, J: ServerTransfer<A, T>> Server<A, T, J> {
     /// Takes the data connection out, with nothing left to close.
     fn leave(&mut self) -> ServerLink<J>
         ensures view { view_of T.table J.view self.new ≡ with_session (disconnected (view_of T.table J.view self.old).session) (view_of T.table J.view self.old) }
-        ensures connection { connection_of J.view result ≡ (view_of T.table J.view self.old).session.connection }
+        ensures connection { connection_seen J.view result ≡ (view_of T.table J.view self.old).session.connection }
         ensures steady { counts_of T.failures self.new ≡ counts_of T.failures self.old }
         ensures room { HasRoom result self.new.output }
     {

@@ -1,7 +1,7 @@
 // The octets of the control connection (RFC 854; RFC 959, sections 4.1.3 and 5.4).
 ghost use Rattle.std.specs.Prelude.{◌≡◌, ◌≤◌, ◌<◌, IsTrue, None, OnErr, OnOk, Some, length, take, true, ◌-◌};
 ghost use Rattle.ftp_command.specs.Line.{line_limit};
-ghost use Rattle.ftp_nvt.specs.Ear.{line_of};
+ghost use Rattle.ftp_nvt.specs.Ear.{lent_line};
 ghost use Rattle.ftp_server_model.specs.Counting.{TellsSome};
 ghost use Rattle.ftp_server_model.specs.Far.{Hears};
 ghost use Rattle.ftp_server_model.specs.Failing.{ActingFails, AreHeard, LineIsHeard, OctetIsHeard};
@@ -89,11 +89,11 @@ impl<A: Allocator + Copy, T: Tree<A>, J: ServerTransfer<A, T>> Server<A, T, J> {
     fn hear_text(&mut self) -> Result<(), Failed>
         requires room { length self.old.output ≤ OUTPUT_ROOM - FREE_ROOM }
         requires none { self.old.waiting ≡ None }
-        requires short { length (line_of self.old.reader.ear) ≤ line_limit }
-        ensures done { OnOk result (OnCourse T.failures self.old self.new → (read : Reading) → IsReading read → view_of T.table J.view self.new ≡ heard_line (read (line_of self.old.reader.ear)) (view_of T.table J.view self.old)) }
-        ensures told { OnOk result (OnCourse T.failures self.old self.new → (read : Reading) → IsReading read → self.new.heard ≡ heard_by_line (read (line_of self.old.reader.ear)) (view_of T.table J.view self.old)) }
+        requires short { length (lent_line self.old.reader.ear) ≤ line_limit }
+        ensures done { OnOk result (OnCourse T.failures self.old self.new → (read : Reading) → IsReading read → view_of T.table J.view self.new ≡ heard_line (read (lent_line self.old.reader.ear)) (view_of T.table J.view self.old)) }
+        ensures told { OnOk result (OnCourse T.failures self.old self.new → (read : Reading) → IsReading read → self.new.heard ≡ heard_by_line (read (lent_line self.old.reader.ear)) (view_of T.table J.view self.old)) }
         ensures steady { OnOk result (IsSteady (T.failures self.old.session.tree) (T.failures self.new.session.tree)) }
-        ensures lost { OnErr result (OnCourse T.failures self.old self.new → (read : Reading) → IsReading read → LineIsHeard (read (line_of self.old.reader.ear)) (view_of T.table J.view self.old) (view_of T.table J.view self.new)) }
+        ensures lost { OnErr result (OnCourse T.failures self.old self.new → (read : Reading) → IsReading read → LineIsHeard (read (lent_line self.old.reader.ear)) (view_of T.table J.view self.old) (view_of T.table J.view self.new)) }
         ensures refusals { self.new.refusals ≡ self.old.refusals }
         ensures few { TellsSome 1 (T.failures self.old.session.tree) (T.failures self.new.session.tree) }
     {

@@ -3,7 +3,7 @@ ghost use Rattle.std.specs.Prelude.{◌≡◌};
 ghost use Rattle.ftp_server_model.specs.Calls.{with_connection};
 ghost use Rattle.ftp_server_model.specs.Standing.{overtaken_in, standing_of};
 ghost use Rattle.ftp_server_session.specs.Little.{is_busy};
-ghost use Rattle.ftp_server_session.specs.Session.{connection_of};
+ghost use Rattle.ftp_server_session.specs.Session.{connection_seen};
 
 use crate::server::Server;
 use ftp_server_model::{ServerLink, Standing};
@@ -66,7 +66,7 @@ impl<A: Allocator + Copy, T: Tree<A>, J: ServerTransfer<A, T>> Server<A, T, J> {
 fn overtaken<A: Allocator + Copy, T: Tree<A>, J: ServerTransfer<A, T>>(
     link: ServerLink<J>,
 ) -> ServerLink<J>
-    ensures connection { connection_of J.view result ≡ overtaken_in (connection_of J.view link) }
+    ensures connection { connection_seen J.view result ≡ overtaken_in (connection_seen J.view link) }
     ensures busy { is_busy result ≡ is_busy link }
 {
     match link {

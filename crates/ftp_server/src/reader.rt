@@ -18,7 +18,7 @@ pub struct Reader<A: Allocator + Copy> {
 
 impl<A: Allocator + Copy> Reader<A> {
     ghost use Rattle.ftp_nvt.specs.Fold.{ear_of, ear_out, ear_step, quiet};
-    ghost use Rattle.ftp_nvt.specs.Ear.{event_list, line_of};
+    ghost use Rattle.ftp_nvt.specs.Ear.{event_list, lent_line};
 
     /// A reader between two lines. It takes the room of the longest line.
     pub fn new(alloc: A) -> Result<Reader<A>, AllocError>
@@ -35,9 +35,9 @@ impl<A: Allocator + Copy> Reader<A> {
     pub fn hear(&mut self, octet: u8) -> Event
         // Witness of step, out: equations, of the reader of lines.
         ensures step { ear_of self.new.ear ≡ ear_step line_limit (ear_of self.old.ear) octet }
-        ensures out { event_list result (line_of self.new.ear) ≡ ear_out line_limit (ear_of self.old.ear) octet }
+        ensures out { event_list result (lent_line self.new.ear) ≡ ear_out line_limit (ear_of self.old.ear) octet }
         // Witness of short: of the reader of lines; `held` needs it.
-        ensures short { result ≡ Event.Line → length (line_of self.new.ear) ≤ line_limit }
+        ensures short { result ≡ Event.Line → length (lent_line self.new.ear) ≤ line_limit }
     {
         self.ear.feed(&[octet]).event
     }
@@ -54,7 +54,7 @@ impl<A: Allocator + Copy> Reader<A> {
 
     /// The text of the line that the last octet ended.
     pub fn line(&self) -> &[u8]
-        ensures { result.now ≡ line_of self.now.ear }
+        ensures { result.now ≡ lent_line self.now.ear }
     {
         self.ear.line()
     }

@@ -1,6 +1,6 @@
 // What is said to a command (RFC 959, section 4.2).
 ghost use Rattle.std.specs.Prelude.{◌≡◌, ◌≤◌, ◌+◌, ◌++◌, true, length, ◌-◌};
-ghost use Rattle.ftp_server.specs.Busy.{is_short};
+ghost use Rattle.ftp_server.specs.Busy.{is_short_reply};
 ghost use Rattle.ftp_server_model.specs.Replies.{said_octets};
 ghost use Rattle.ftp_server_session.specs.Session.{session_of};
 
@@ -20,7 +20,7 @@ pub(crate) fn say<A: Allocator + Copy, T: Tree<A>, J: ServerTransfer<A, T>>(
 )
     requires room { length output.old ≤ OUTPUT_ROOM - FREE_ROOM }
     ensures said { output.new ≡ output.old ++ said_octets (session_of T.table J.view session.now) kind.now }
-    ensures short { is_short kind.now ≡ true → length output.new ≤ length output.old + 64 }
+    ensures short { is_short_reply kind.now ≡ true → length output.new ≤ length output.old + 64 }
 {
     match kind {
         ReplyKind::Nothing => {}

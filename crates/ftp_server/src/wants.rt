@@ -2,7 +2,7 @@
 ghost use Rattle.std.specs.Prelude.{◌≡◌, drop, length, option_map};
 ghost use Rattle.ftp_ends.specs.Octets.{has_octets};
 ghost use Rattle.ftp_server_model.specs.Calls.{is_done, may_receive, to_give, wants, wants_of};
-ghost use Rattle.ftp_server_model.specs.Heard.{code_in, lent, login_in};
+ghost use Rattle.ftp_server_model.specs.Heard.{code_in, lent, login_of_session};
 ghost use Rattle.ftp_server_model.specs.Machine.{is_running, is_transferring};
 ghost use Rattle.ftp_server.specs.Busy.{is_opening};
 
@@ -90,7 +90,7 @@ impl<A: Allocator + Copy, T: Tree<A>, J: ServerTransfer<A, T>> Server<A, T, J> {
     /// The root of the account of who is logged in, and its rights; none where nobody is.
     pub fn login(&self) -> Option<(&Path<A>, Rights)>
         // Witness: as of `answered`.
-        ensures { option_map (λ login. (login.0.now, login.1)) result ≡ login_in (view_of T.table J.view self.now).session }
+        ensures { option_map (λ login. (login.0.now, login.1)) result ≡ login_of_session (view_of T.table J.view self.now).session }
     {
         if !is_in(&self.session.access) {
             return None;

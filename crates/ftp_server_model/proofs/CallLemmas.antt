@@ -24,8 +24,8 @@ use Rattle.ftp_server_model.specs.Calls.{connection_of, listening_turn, unheard,
 use Rattle.ftp_server_model.specs.Endpoint.{forgotten, disconnected}
 use Rattle.ftp_server_model.specs.Kept.{owed_limit, WaitingKeeps, ServerKeeps, StartKeeps, EachCallKeeps}
 use Rattle.ftp_server_model.specs.Machine.{Reading, IsReading, Ending, given_out, completed, obeyed, waited, later, is_idle, is_connection_busy, is_transferring, is_abort, has_room, turned, replied, concluded, end_refusal, ends_by, installs, at_break, at_end, aborts, abort_said, aborted, heard_line, heard_event, heard_events, hears_octet, may_hear, with_session, breaks_off}
-use Rattle.ftp_server_model.specs.Replies.{Turn, said_octets, fixed_reply, passive_text, extended_text}
-use Rattle.ftp_server_model.specs.Texts.{text_of, code_of}
+use Rattle.ftp_server_model.specs.Replies.{Turn, said_octets, fixed_reply, passive_reply_text, extended_reply_text}
+use Rattle.ftp_server_model.specs.Texts.{text_of, fixed_reply_code}
 use Rattle.ftp_server_model.specs.Told.{CanBeHeard, ConnectionKeeps, TransferKeeps, Keeps, IsBrief, TurnKeeps}
 use Rattle.ftp_server_model.specs.View.{Session, Transfer, View, line_limit}
 use Rattle.ftp_server_model.specs.declared.session.Keep.{Keep}
@@ -90,7 +90,7 @@ text_short Texts.Serving = omega arith
 text_short Texts.Goodbye = omega arith
 
 fixed_room : (text : FixedReply) → length (reply_octets (fixed_reply text)) ≤ 256
-fixed_room text = omega (arith, lines_short (last_line (code_of text) (text_of text) ∷ []), text_short text)
+fixed_room text = omega (arith, lines_short (last_line (fixed_reply_code text) (text_of text) ∷ []), text_short text)
 
 brief_room : (s : Session) (kind : ReplyKind Names) → IsBrief kind → length (said_octets s kind) ≤ 256
 brief_room s Replies.Nothing brief = omega arith
@@ -113,14 +113,14 @@ six_room (V6 octets) port typed small = omega arith
 passive_room : (s : Session) (host : Host) (port : ℕ) → IsTypedHost host → port < 65536 → length (said_octets s (Replies.Passive (record { host = host; port = port }))) ≤ 512
 passive_room s host port typed small =
     let endpoint : Endpoint = record { host = host; port = port } in
-    let text : length (passive_text endpoint) ≤ 225 = omega (arith, length-append (codes "Entering Passive Mode (") (six_of host port ++ codes ")"), length-append (six_of host port) (codes ")"), six_room host port typed small) in
-    omega (arith, lines_short (last_line 227 (passive_text endpoint) ∷ []), text)
+    let text : length (passive_reply_text endpoint) ≤ 225 = omega (arith, length-append (codes "Entering Passive Mode (") (six_of host port ++ codes ")"), length-append (six_of host port) (codes ")"), six_room host port typed small) in
+    omega (arith, lines_short (last_line 227 (passive_reply_text endpoint) ∷ []), text)
 
 extended_room : (s : Session) (port : ℕ) → port < 65536 → length (said_octets s (Replies.Extended port)) ≤ 512
 extended_room s port small =
     let number = decimal_fits port (omega (arith, small)) in
-    let text : length (extended_text port) ≤ 80 = omega (arith, length-append (codes "Entering Extended Passive Mode (|||") (decimal port ++ codes "|)"), length-append (decimal port) (codes "|)"), number.short) in
-    omega (arith, lines_short (last_line 229 (extended_text port) ∷ []), text)
+    let text : length (extended_reply_text port) ≤ 80 = omega (arith, length-append (codes "Entering Extended Passive Mode (|||") (decimal port ++ codes "|)"), length-append (decimal port) (codes "|)"), number.short) in
+    omega (arith, lines_short (last_line 229 (extended_reply_text port) ∷ []), text)
 
 -- ---- the room
 

@@ -2,7 +2,7 @@
 use Rattle.std.proofs.Common.{◌≡◌, ℕ, List, [], ◌∷◌, ◌++◌, Bool, true, false, not, ◌&&◌, ◌==◌, Option, Some, None, refl, sym, ap, subst, ◌∙◌, arith}
 use Rattle.std.specs.Prelude.{if◌then◌else◌}
 use Rattle.std.specs.List.{flat_map, list_all}
-use Rattle.ftp_nvt.specs.Lines.{NvtEvent, Lacks, written_line}
+use Rattle.ftp_nvt.specs.Lines.{NvtEvent, IsNoneOf, written_line}
 use Rattle.ftp_command.specs.Line.{IsLine, is_no_feed, line_of}
 use Rattle.ftp_command.proofs.CarriedLemmas.{carried}
 use Rattle.ftp_pieces.specs.Machine.{after, gives}
@@ -57,7 +57,7 @@ may_both read v (x ∷ xs) ys one other = (one.0, may_both read (hears_octet rea
 
 -- ---- a line
 
-lacks_feed : (text : List ℕ) → list_all is_no_feed text ≡ true → Lacks 10 text
+lacks_feed : (text : List ℕ) → list_all is_no_feed text ≡ true → IsNoneOf 10 text
 lacks_feed [] none = tt
 lacks_feed (c ∷ cs) none = (first (c == 10) (list_all is_no_feed cs) none, lacks_feed cs (second (c == 10) (list_all is_no_feed cs) none))
   where

@@ -28,7 +28,7 @@ use Rattle.ftp_endpoint.specs.Host.{SaysExtended}
 use Rattle.ftp_endpoint.specs.Number.{SaysNumber, front_digits, behind_digits}
 use Rattle.ftp_endpoint.specs.declared.endpoint.Endpoint.{Endpoint}
 use Rattle.ftp_path.specs.Path.{IsPathText, is_path_text}
-use Rattle.ftp_server_model.specs.Machine.{IsRead, ReadingExists}
+use Rattle.ftp_server_model.specs.Machine.{IsLineRead, ReadingExists}
 use Rattle.ftp_server_model.specs.declared.heard.HeardLine.{HeardLine}
 use Rattle.ftp_server_model.specs.declared.heard.HeardLine.TheVariants.{Bad, Asks}
 use Rattle.ftp_command.proofs.VerbLemmas.{IsMade, Makes, made_by, makes, said_as, said_with}
@@ -374,7 +374,7 @@ named word = yes_if (λ some. (some.0, some.2)) (λ some. (some.0, all_verbs som
 
 -- ---- lines
 
-read_verb : (text : List ℕ) (verb : Verb) → Names (word text) verb → (heard : HeardLine (List ℕ)) × IsRead text heard
+read_verb : (text : List ℕ) (verb : Verb) → Names (word text) verb → (heard : HeardLine (List ℕ)) × IsLineRead text heard
 read_verb text verb is =
     elim (undone (argument text) (row verb).shape) [
       | inl done ↦ (Bad fault.NotDone, (verb, is, done))
@@ -393,7 +393,7 @@ read_verb text verb is =
           ]
     ]
 
-read_line : (text : List ℕ) → (heard : HeardLine (List ℕ)) × IsRead text heard
+read_line : (text : List ℕ) → (heard : HeardLine (List ℕ)) × IsLineRead text heard
 read_line text =
     elim (named (word text)) [
       | inl some ↦ read_verb text some.0 some.1

@@ -4,11 +4,11 @@ use Rattle.ftp_command.specs.Line.{line_of}
 use Rattle.ftp_command.proofs.LawLemmas.{not_refused, one_command, one_fault}
 use Rattle.ftp_command.proofs.RoundTripLemmas.{round_trip}
 use Rattle.ftp_server_model.specs.Failing.{NeverFailsWithoutLogin}
-use Rattle.ftp_server_model.specs.Machine.{IsRead, OneReading, ReadsStated}
+use Rattle.ftp_server_model.specs.Machine.{IsLineRead, OneReading, ReadsStated}
 use Rattle.ftp_server_model.specs.declared.heard.HeardLine.{HeardLine}
 use Rattle.ftp_server_model.specs.declared.heard.HeardLine.TheVariants.{TooLong, Bad, Asks}
 
-one_read : (text : List ℕ) (a b : HeardLine (List ℕ)) → IsRead text a → IsRead text b → a ≡ b
+one_read : (text : List ℕ) (a b : HeardLine (List ℕ)) → IsLineRead text a → IsLineRead text b → a ≡ b
 one_read text (Asks v) (Asks w) p q = ap Asks (one_command text v w p q)
 one_read text (Asks v) (Bad f) p q = absurd (not_refused text v f p q)
 one_read text (Asks v) TooLong p q = absurd q

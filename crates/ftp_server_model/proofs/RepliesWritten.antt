@@ -4,10 +4,10 @@ use Rattle.std.specs.Prelude.{codes, decimal, nat_le, sum_by, unwrap_or, if◌th
 use Rattle.std.specs.List.{flat_map, list_all, AllByRecursion}
 use Rattle.std.proofs.lemmas.List.Elements.{All-nil, All-cons}
 use Rattle.std.proofs.lemmas.List.Sums.{count_by-le-length}
-use Rattle.ftp_nvt.specs.Lines.{Lacks, written_octet, written_line}
+use Rattle.ftp_nvt.specs.Lines.{IsNoneOf, written_octet, written_line}
 use Rattle.ftp_endpoint.specs.Written.{six_text}
 use Rattle.ftp_facts.specs.Moment.{moment_digits}
-use Rattle.ftp_facts.specs.Name.{fact_names, fact_word, is_chosen}
+use Rattle.ftp_facts.specs.Name.{fact_names, fact_word, is_in_force}
 use Rattle.ftp_facts.specs.declared.name.FactName.{FactName}
 use Rattle.ftp_facts.proofs.LineLemmas.{Lets, moment_few, moment_passes}
 use Rattle.ftp_facts.proofs.NameLemmas.{word_few, word_passes}
@@ -17,14 +17,14 @@ use Rattle.ftp_reply.specs.Reply.{begins_with_digits, code_text, last_line, open
 use Rattle.ftp_reply.specs.Values.{doubled, doubled_octet}
 use Rattle.ftp_path.specs.Path.{IsPathText, text_of as path_text, Names, text_limit}
 use Rattle.ftp_command.proofs.CarriedLemmas.{Fits, is_plain, fits_both, fits_with, digit_plain, decimal_fits, six_fits, path_fits, all_plain}
-use Rattle.ftp_ends.specs.Reply.{Reply, IsCarried, IsWritten}
-use Rattle.ftp_server_model.specs.Texts.{code_of, text_of}
+use Rattle.ftp_ends.specs.Reply.{Reply, CanBeCarried, IsWritten}
+use Rattle.ftp_server_model.specs.Texts.{fixed_reply_code, text_of}
 use Rattle.ftp_tree.specs.Map.{Dir, shown_of}
 use Rattle.ftp_tree.specs.Tree.{node_at}
 use Rattle.ftp_direct.specs.Direct.{entry_at, entry_of, is_root}
 use Rattle.ftp_direct.proofs.EntryLemmas.{entry_few, entry_passes, is_said_octet}
 use Rattle.ftp_server_model.specs.View.{Session, seen}
-use Rattle.ftp_server_model.specs.Replies.{RepliesAreWritten, RepliesHaveRoom, IsTold, reply_said, octets_if_any, quoted, here_text, made_text, passive_text, extended_text, entry_reply, chosen_reply, features_reply}
+use Rattle.ftp_server_model.specs.Replies.{RepliesAreWritten, RepliesHaveRoom, IsTold, reply_said, octets_if_any, quoted, here_text, made_text, passive_reply_text, extended_reply_text, entry_reply, chosen_reply, features_reply}
 use Rattle.ftp_server_model.specs.Entries.{listed_line, chosen_text, fact_text, features_text, feature_text, is_any_chosen}
 use Rattle.ftp_server_model.specs.declared.reply.FixedReply.{FixedReply}
 use Rattle.ftp_server_model.specs.declared.reply.FixedReply.TheVariants as Texts
@@ -34,7 +34,7 @@ use Rattle.ftp_facts.specs.declared.name.Facts.{Facts}
 
 -- ---- texts without LF and CR, up to a length
 
-lacks : (text : List ℕ) → AllByRecursion (λ c. is_plain c ≡ true) text → Lacks 10 text
+lacks : (text : List ℕ) → AllByRecursion (λ c. is_plain c ≡ true) text → IsNoneOf 10 text
 lacks [] all = tt
 lacks (c ∷ text) all = (no_feed (c == 10) (c == 13) all.0, lacks text all.1)
   where
@@ -42,7 +42,7 @@ lacks (c ∷ text) all = (no_feed (c == 10) (c == 13) all.0, lacks text all.1)
     no_feed false b is = refl
     no_feed true b is = absurd (let e : false ≡ true = is in cc)
 
-carried : (most : ℕ) (text : List ℕ) → most ≤ 2000 → Fits most text → IsCarried text
+carried : (most : ℕ) (text : List ℕ) → most ≤ 2000 → Fits most text → CanBeCarried text
 carried most text small fits = (lacks text fits.plain, omega (arith, count_by-le-length (λ c. c == 13) text, fits.short, small))
 
 closed : (most : ℕ) (text : List ℕ) → list_all is_plain text ≡ true → length text ≤ most → Fits most text
@@ -115,7 +115,7 @@ stated_line code most text low high small fits = record {
 fixed : (code : ℕ) (text : List ℕ) → 100 ≤ code → code ≤ 599 → list_all is_plain text ≡ true → length text ≤ 100 → Stated code (text ∷ [])
 fixed code text low high plain short = stated_line code 100 text low high (omega arith) (closed 100 text plain short)
 
-fixed_written : (text : FixedReply) → Stated (code_of text) (text_of text ∷ [])
+fixed_written : (text : FixedReply) → Stated (fixed_reply_code text) (text_of text ∷ [])
 fixed_written Texts.Ready = fixed 220 (codes "Ready") (omega arith) (omega arith) refl (omega arith)
 fixed_written Texts.Unknown = fixed 500 (codes "Unknown command") (omega arith) (omega arith) refl (omega arith)
 fixed_written Texts.LineTooLong = fixed 500 (codes "Line too long") (omega arith) (omega arith) refl (omega arith)
@@ -197,7 +197,7 @@ texts_fit most text each (name ∷ names) = fits_both most (most_of most names) 
 chosen_fits : (facts : Facts) → Fits 40 (chosen_text facts)
 chosen_fits facts =
     wider 28 40 (chosen_text facts) (omega arith)
-    (texts_fit 7 (λ name. fact_text (fact_word name) (is_chosen facts name)) (λ name. fact_fits 6 (fact_word name) (is_chosen facts name) (word_fits name)) fact_names)
+    (texts_fit 7 (λ name. fact_text (fact_word name) (is_in_force facts name)) (λ name. fact_fits 6 (fact_word name) (is_in_force facts name) (word_fits name)) fact_names)
 
 if_fits : (most : ℕ) (is : Bool) (xs ys : List ℕ) → Fits most xs → Fits most ys → Fits most (if is then xs else ys)
 if_fits most true xs ys one other = one
@@ -220,10 +220,10 @@ feature_fits most name false fits = fits_both most 2 name (codes ";") fits (clos
 features_fit : (facts : Facts) → Fits 40 (features_text facts)
 features_fit facts =
     wider 32 40 (features_text facts) (omega arith)
-    (texts_fit 8 (λ name. feature_text (fact_word name) (is_chosen facts name)) (λ name. feature_fits 6 (fact_word name) (is_chosen facts name) (word_fits name)) fact_names)
+    (texts_fit 8 (λ name. feature_text (fact_word name) (is_in_force facts name)) (λ name. feature_fits 6 (fact_word name) (is_in_force facts name) (word_fits name)) fact_names)
 
 -- a closed line is carried
-line_is : (text : List ℕ) → list_all is_plain text ≡ true → length text ≤ 100 → IsCarried text
+line_is : (text : List ℕ) → list_all is_plain text ≡ true → length text ≤ 100 → CanBeCarried text
 line_is text plain short = carried 100 text (omega arith) (closed 100 text plain short)
 
 features_written : (facts : Facts) → IsWritten 211 (features_reply facts).lines
@@ -327,7 +327,7 @@ entry_written s path is =
       );
     }
   where
-    padded_is : (is : Bool) (text : List ℕ) → Fits 1201 (32 ∷ text) → IsCarried (if is then 32 ∷ 32 ∷ text else 32 ∷ text)
+    padded_is : (is : Bool) (text : List ℕ) → Fits 1201 (32 ∷ text) → CanBeCarried (if is then 32 ∷ 32 ∷ text else 32 ∷ text)
     padded_is true text line = carried 1202 (32 ∷ 32 ∷ text) (omega arith) (fits_with 1201 32 (32 ∷ text) refl line)
     padded_is false text line = carried 1201 (32 ∷ text) (omega arith) line
 
@@ -366,13 +366,13 @@ all_stated s (Replies.Restarting offset) reply told is =
     (fits_both 14 18 (codes "Restarting at ") (decimal offset) (closed 14 (codes "Restarting at ") refl (omega arith)) (decimal_fits offset told)))
 all_stated s (Replies.Passive endpoint) reply told is =
     let six = six_fits endpoint.host endpoint.port told.0 told.1.0 told.1.1 in
-    only _ reply is (stated_line 227 300 (passive_text endpoint) (omega arith) (omega arith) (omega arith)
-    (wider 225 300 (passive_text endpoint) (omega arith)
+    only _ reply is (stated_line 227 300 (passive_reply_text endpoint) (omega arith) (omega arith) (omega arith)
+    (wider 225 300 (passive_reply_text endpoint) (omega arith)
     (fits_both 24 201 (codes "Entering Passive Mode (") (six_text endpoint ++ codes ")") (closed 24 (codes "Entering Passive Mode (") refl (omega arith))
     (fits_both 200 1 (six_text endpoint) (codes ")") six (closed 1 (codes ")") refl (omega arith))))))
 all_stated s (Replies.Extended port) reply told is =
-    only _ reply is (stated_line 229 100 (extended_text port) (omega arith) (omega arith) (omega arith)
-    (wider 60 100 (extended_text port) (omega arith)
+    only _ reply is (stated_line 229 100 (extended_reply_text port) (omega arith) (omega arith) (omega arith)
+    (wider 60 100 (extended_reply_text port) (omega arith)
     (fits_both 40 20 (codes "Entering Extended Passive Mode (|||") (decimal port ++ codes "|)") (closed 40 (codes "Entering Extended Passive Mode (|||") refl (omega arith))
     (fits_both 18 2 (decimal port) (codes "|)") (decimal_fits port (omega (arith, told))) (closed 2 (codes "|)") refl (omega arith))))))
 all_stated s (Replies.Size count) reply told is = only _ reply is (stated_line 213 18 (decimal count) (omega arith) (omega arith) (omega arith) (decimal_fits count told))

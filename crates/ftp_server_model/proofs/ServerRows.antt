@@ -32,7 +32,7 @@ use Rattle.ftp_server_model.specs.Failing.{GiveFails, WaitingFails}
 use Rattle.ftp_server_model.specs.Machine.{obeyed, completed, faulted, turned, owes, waited, with_session}
 use Rattle.ftp_server_model.specs.Calls.{connection_of, gives_control, listening, listen_refused, data_opened, data_refused, gives_data, takes_given, to_give, wants}
 use Rattle.ftp_ends.specs.RowWords.{here, elsewhere}
-use Rattle.ftp_server_model.specs.Rows.{RowEvent, after_events, server, member, logged_in, at, at_directory, of, five, asks, opened, refused, LoginAnswered, OpenLogin, RootMissing, RootIsTop, MadeBelowRoot, WrongPassword, OrderOfDecisions, BeforeLogin, FeaturesTold, Utf8Chosen, FactsChosen, FeaturesBehindOptions, EntryTold, RecordsSent, NamesSent, EntriesSent, OnlyExtended, Reinitialized, QuitHeard, ByFamily, ForeignEndpoint, RefusedOpening, RefusedListen, ForeignOpener, RenameDone, OntoRefused, OntoDone, LateRename, DownloadSent, DownloadCut, RestartSent, LateRestart, RestartInAscii, RestartInPair, RestartInRecords, ListingSent, DirectoryReplaced, EarlyAbort, WaitingLine}
+use Rattle.ftp_server_model.specs.Rows.{RowEvent, after_events, server, member, logged_in_at, at, at_directory, of, five, asks, opened, refused, LoginAnswered, OpenLogin, RootMissing, RootIsTop, MadeBelowRoot, WrongPassword, OrderOfDecisions, BeforeLogin, FeaturesTold, Utf8Chosen, FactsChosen, FeaturesBehindOptions, EntryTold, RecordsSent, NamesSent, EntriesSent, OnlyExtended, Reinitialized, QuitHeard, ByFamily, ForeignEndpoint, RefusedOpening, RefusedListen, ForeignOpener, RenameDone, OntoRefused, OntoDone, LateRename, DownloadSent, DownloadCut, RestartSent, LateRestart, RestartInAscii, RestartInPair, RestartInRecords, ListingSent, DirectoryReplaced, EarlyAbort, WaitingLine}
 use Rattle.ftp_server_model.specs.declared.heard.HeardLine.{HeardLine}
 use Rattle.ftp_server_model.specs.declared.session.Pending.TheVariants as Pendings
 use Rattle.ftp_server_model.specs.declared.session.ServerLink.TheVariants as Data
@@ -341,7 +341,7 @@ not_stored v place = completed (turned (stor_at place (of (codes "f")) v.session
 pub restart_in_pair : RestartInPair
 unfolding obeyed fits text_of resolved
 restart_in_pair table root moment f =
-    let e : View = logged_in table root in
+    let e : View = logged_in_at table root in
     let v : View = taken (rested e 2 (codes "2")) in
     let again : View → View = λ w. taken (rested w 2 (codes "2")) in
     let w : View = again (not_fetched v None None) in
@@ -459,5 +459,5 @@ node_told v node =
 pub entry : EntryTold
 unfolding obeyed fits text_of resolved entry_at
 entry table root d =
-    let v : View = logged_in table root in
+    let v : View = logged_in_at table root in
     ap (λ c. (entry_told v c).owed) (there_code v.session d refl) ∙ ap (λ node. node_told v node) d

@@ -32,12 +32,12 @@ use Rattle.ftp_server_model.specs.Act.{act, forgets, is_allowed, is_transfer, fa
 use Rattle.ftp_server_model.specs.Ask.{size, mlst, has_size, size_of, stamp_of, or_empty}
 use Rattle.ftp_server_model.specs.Endpoint.{forgotten, is_taken, takes, port, asks, pasv, epsv}
 use Rattle.ftp_server_model.specs.Entries.{option_facts}
-use Rattle.ftp_server_model.specs.Login.{logged_out, admits, is_open, open_account, user_named, checked, pass, rein, quit}
+use Rattle.ftp_server_model.specs.Login.{logged_out, admits, is_open, open_account, user_named, password_checked, pass, rein, quit}
 use Rattle.ftp_server_model.specs.Machine.{is_connection_busy}
 use Rattle.ftp_server_model.specs.Replies.{Turn, IsTold, tells}
 use Rattle.ftp_server_model.specs.Setting.{choose, is_utf8_on, opts}
 use Rattle.ftp_server_model.specs.Told.{is_path, CanBeSaid, ValueCanBeSaid, ReadCanBeHeard, PendingKeeps, TransferKeeps, ConnectionKeeps, Keeps, AreWithinLimits, TurnKeeps, LineKeeps}
-use Rattle.ftp_server_model.specs.Transfer.{rests, begin, transfer_starts, stor_at, appe_at, refused_to_hold, place_of}
+use Rattle.ftp_server_model.specs.Transfer.{restart_pending, begin, transfer_starts, stor_at, appe_at, refused_to_hold, place_of}
 use Rattle.ftp_server_model.specs.View.{Accounts, Context, Session, Transfer, direct_of, as_direct, how_in_force, seen, with_seen}
 use Rattle.ftp_server_model.specs.Walk.{target_seen, unless, path_of, performs, refused_source, refused_target, rnto}
 use Rattle.ftp_server_model.specs.declared.heard.HeardLine.TheVariants.{TooLong, Bad, Asks}
@@ -159,7 +159,7 @@ user_by None name s within is k =
     let out = logged_out_keeps s k in
     tells_keeps Texts.PasswordNeeded _ (record { access = is; root = out.root; cwd = out.cwd; pending = out.pending; connection = out.connection })
 
-checked_by : (found : Option Account) (s : Session) → ((account : Account) → found ≡ Some account → fits account.root ≡ true) → Keeps s → TurnKeeps (checked found s)
+checked_by : (found : Option Account) (s : Session) → ((account : Account) → found ≡ Some account → fits account.root ≡ true) → Keeps s → TurnKeeps (password_checked found s)
 checked_by (Some account) s within k = admits_keeps (is_directory (node_at s.table account.root)) account s (within account refl) k
 checked_by None s within k = tells_keeps Texts.LoginRefused _ (logged_out_keeps s k)
 
@@ -238,7 +238,7 @@ stor_keeps place path s k =
 appe_keeps : (path : Names) (s : Session) → Keeps s → TurnKeeps (appe_at path s)
 appe_keeps path s k = starts_keeps _ (Transfers.Upload path _ _) s (λ is. room_fits path _ (second_none _ (refused_to_hold s path) is)) k
 
-rests_keeps : (why : Option Refusal) (place : ℕ) (s : Session) → IsShort place → Keeps s → is_connection_busy s.connection ≡ false → TurnKeeps (rests why place s)
+rests_keeps : (why : Option Refusal) (place : ℕ) (s : Session) → IsShort place → Keeps s → is_connection_busy s.connection ≡ false → TurnKeeps (restart_pending why place s)
 rests_keeps None place s short k idle = says_keeps _ (Replies.Restarting place) (pending_keeps (Pendings.Restart place) s short k) idle short
 rests_keeps (Some why) place s short k idle = tells_keeps _ s k
 

@@ -7,7 +7,7 @@ use Rattle.ftp_command.proofs.CarriedLemmas.{decimal_fits}
 use Rattle.ftp_settings.specs.Marker.{is_marker_octet}
 use Rattle.ftp_repr.specs.Signs.{Sign, end_record, end_file}
 use Rattle.ftp_mode.specs.Said.{Said, says, marker}
-use Rattle.ftp_mode.specs.Block.{has, count_of, ends_of}
+use Rattle.ftp_mode.specs.Block.{has, block_count, ends_of}
 use Rattle.ftp_mode.specs.Stream.{code_said}
 use Rattle.ftp_mode.specs.declared.descriptor.TheConstants.{END_OF_RECORD, END_OF_FILE, RESTART_MARKER}
 use Rattle.ftp_mode.specs.Reading.{Place, plain, outside, escaped, at_head, at_high, at_low, inside, marking, ended as passed, Reading as Reads, going, failed, place_out, read_out}
@@ -76,7 +76,7 @@ place_one outside c = inl (signs_if (c == 255) _ _ tt tt)
 place_one escaped c = inl (code_signs c)
 place_one at_head c = inl tt
 place_one (at_high d) c = inl tt
-place_one (at_low d high) c = inl (signs_if (has d RESTART_MARKER) _ _ tt (signs_if (count_of high c == 0) _ _ (ends_signs d) tt))
+place_one (at_low d high) c = inl (signs_if (has d RESTART_MARKER) _ _ tt (signs_if (block_count high c == 0) _ _ (ends_signs d) tt))
 place_one (inside d left) c = inl (signs_if (left == 1) _ _ (ends_signs d) tt)
 place_one (marking d left text) c = marking_one (is_marker_octet c && nat_lt (length text) 255) d left c text refl
 place_one passed c = inl tt

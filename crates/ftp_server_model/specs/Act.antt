@@ -14,7 +14,7 @@ use Rattle.ftp_server_model.specs.Login.{user, pass, rein, quit}
 use Rattle.ftp_server_model.specs.Setting.{set_kind, set_structure, set_mode, opts}
 use Rattle.ftp_server_model.specs.Walk.{cwd, cdup, mkd, rmd, dele, rnfr, rnto}
 use Rattle.ftp_server_model.specs.Ask.{size, mdtm, mlst}
-use Rattle.ftp_server_model.specs.Transfer.{rest, retr, stor, appe, list, nlst, mlsd}
+use Rattle.ftp_server_model.specs.Transfer.{restart_asked, retr, stor, appe, list, nlst, mlsd}
 use Rattle.ftp_server_model.specs.declared.heard.HeardLine.{HeardLine}
 use Rattle.ftp_server_model.specs.declared.heard.HeardLine.TheVariants.{TooLong, Bad, Asks}
 use Rattle.ftp_server_model.specs.declared.reply.FixedReply.{FixedReply}
@@ -44,7 +44,7 @@ act context (command.Retr text) pending s = retr pending text s
 act context (command.Stor text) pending s = stor pending text s
 act context (command.Appe text) pending s = appe text s
 act context (command.Allo octets longest) pending s = tells Texts.NotNeeded s
-act context (command.Rest place) pending s = rest place s
+act context (command.Rest place) pending s = restart_asked place s
 act context (command.Rnfr text) pending s = rnfr text s
 act context (command.Rnto text) pending s = rnto pending text s
 act context command.Abor pending s = tells Texts.AbortDone s

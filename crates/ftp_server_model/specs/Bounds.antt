@@ -35,12 +35,12 @@ to_begin v = 4 * lines_left v.waiting + stages_left v.session.connection
 -- ---- what is given
 
 -- a close that is wanted, and one that will be when what is open is over
-abbrev pub closes_left : Session → ℕ
-closes_left s = (if s.closing then 1 else 0) + (if is_standing s.connection then 1 else 0)
+abbrev pub session_closes_left : Session → ℕ
+session_closes_left s = (if s.closing then 1 else 0) + (if is_standing s.connection then 1 else 0)
 
 -- control octets, data octets and closes
 abbrev pub still_to_give : View → ℕ
-still_to_give v = length v.owed + (length (given_by v.session.connection) + closes_left v.session)
+still_to_give v = length v.owed + (length (given_by v.session.connection) + session_closes_left v.session)
 
 -- ---- the laws
 

@@ -8,7 +8,7 @@ use Rattle.ftp_facts.specs.Fact.{semicolon}
 pub use Rattle.ftp_facts.specs.Line.{listed_line}
 pub use Rattle.ftp_facts.specs.Listed.{is_semicolon}
 pub use Rattle.ftp_facts.specs.Name.{facts_named, is_any_chosen}
-use Rattle.ftp_facts.specs.Name.{fact_names, fact_word, is_chosen}
+use Rattle.ftp_facts.specs.Name.{fact_names, fact_word, is_in_force}
 use Rattle.ftp_facts.specs.declared.name.Facts.{Facts}
 
 -- the name of a fact and a semicolon, where it is in force
@@ -18,7 +18,7 @@ fact_text name false = []
 
 -- the facts in force, each with a semicolon
 abbrev pub chosen_text : Facts → List ℕ
-chosen_text facts = flat_map (λ name. fact_text (fact_word name) (is_chosen facts name)) fact_names
+chosen_text facts = flat_map (λ name. fact_text (fact_word name) (is_in_force facts name)) fact_names
 
 -- a fact as FEAT has it: with `*` where it is in force (RFC 3659, section 7.8)
 abbrev pub feature_text : List ℕ → Bool → List ℕ
@@ -27,7 +27,7 @@ feature_text name false = name ++ codes ";"
 
 -- the facts that FEAT names, each with `*` where it is in force (RFC 3659, section 7.8)
 abbrev pub features_text : Facts → List ℕ
-features_text facts = flat_map (λ name. feature_text (fact_word name) (is_chosen facts name)) fact_names
+features_text facts = flat_map (λ name. feature_text (fact_word name) (is_in_force facts name)) fact_names
 
 -- ---- OPTS MLST: facts, each with a semicolon; those that are not known are passed over (RFC 3659, section 7.9)
 

@@ -34,7 +34,7 @@ abbrev pub Acts : (View → View) → (old new : Server) → Type 0
 Acts step old new = Steps (λ v w. ⊥) step old new
 
 -- control octets are heard, as lines are read by this reading
-pub record HearsBy (read : Reading) (octets : List ℕ) (old new : Server) : Type 0 where
+pub record HearsByReading (read : Reading) (octets : List ℕ) (old new : Server) : Type 0 where
   pub done : new.counts ≡ old.counts → new.view ≡ hears read old.view octets
   pub may : new.counts ≡ old.counts → MayHear read old.view octets
   pub failed : KeepsCourse old.counts new.counts → new.counts ≢ old.counts → AreHeard read old.view octets new.view
@@ -42,7 +42,7 @@ pub record HearsBy (read : Reading) (octets : List ℕ) (old new : Server) : Typ
 
 -- there is one reading of lines, so this is however they are read
 abbrev pub Hears : List ℕ → (old new : Server) → Type 0
-Hears octets old new = (read : Reading) → IsReading read → HearsBy read octets old new
+Hears octets old new = (read : Reading) → IsReading read → HearsByReading read octets old new
 
 -- data octets are taken
 pub record Receives (octets : List ℕ) (old new : Server) : Type 0 where

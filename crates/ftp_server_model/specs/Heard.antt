@@ -12,7 +12,7 @@ use Rattle.ftp_ends.specs.Ear.{ear_step, ear_out}
 use Rattle.ftp_operation.specs.declared.rights.Rights.{Rights}
 use Rattle.ftp_path.specs.Path.{Names}
 use Rattle.ftp_server_model.specs.View.{Session, View, line_limit}
-use Rattle.ftp_server_model.specs.Texts.{code_of}
+use Rattle.ftp_server_model.specs.Texts.{fixed_reply_code}
 use Rattle.ftp_server_model.specs.Replies.{Reply, Turn, reply_said}
 use Rattle.ftp_server_model.specs.Act.{decided, is_in}
 use Rattle.ftp_server_model.specs.Machine.{Reading, IsReading, is_abort, is_idle, heard_event, hears_octet}
@@ -46,16 +46,16 @@ text_or_none None = []
 text_or_none (Some text) = text
 
 -- the path text of a value, or the name of a user; never a password
-abbrev pub value_text : Value (List ℕ) → List ℕ
-value_text (value.Name name) = name
-value_text (value.Path text) = text
-value_text (value.PathOrNone text) = text_or_none text
-value_text (value.Listed text) = text_or_none text
-value_text other = []
+abbrev pub path_or_user_text : Value (List ℕ) → List ℕ
+path_or_user_text (value.Name name) = name
+path_or_user_text (value.Path text) = text
+path_or_user_text (value.PathOrNone text) = text_or_none text
+path_or_user_text (value.Listed text) = text_or_none text
+path_or_user_text other = []
 
 -- the same of a command
 abbrev pub text_named : Command (List ℕ) → List ℕ
-text_named command = value_text (value_of command)
+text_named command = path_or_user_text (value_of command)
 
 -- the same of a line
 abbrev pub text_told : HeardLine (List ℕ) → List ℕ
@@ -66,8 +66,8 @@ text_told (Asks command) = text_named command
 -- ---- what is said to it
 
 -- what a line makes where it is acted on, as `obeyed` has it
-abbrev pub turn_of : HeardLine (List ℕ) → View → Turn
-turn_of heard v = decided v.context heard v.session.pending (record v.session { pending = Pendings.Nothing })
+abbrev pub turn_of_line : HeardLine (List ℕ) → View → Turn
+turn_of_line heard v = decided v.context heard v.session.pending (record v.session { pending = Pendings.Nothing })
 
 -- the code of a reply, where there is one
 abbrev pub code_if_any : Option Reply → Option ℕ
@@ -75,8 +75,8 @@ code_if_any None = None
 code_if_any (Some reply) = Some reply.code
 
 -- the code of the reply that a turn says
-abbrev pub code_said : Turn → Option ℕ
-code_said turn = code_if_any (reply_said turn.0 turn.1)
+abbrev pub reply_code_said : Turn → Option ℕ
+reply_code_said turn = code_if_any (reply_said turn.0 turn.1)
 
 -- a line as it is told before it is acted on
 abbrev pub unanswered : HeardLine (List ℕ) → Heard
@@ -84,11 +84,11 @@ unanswered heard = record { verb = verb_told heard; text = take TOLD_LIMIT (text
 
 -- a line as it is told where a view acts on it
 abbrev pub told_of : HeardLine (List ℕ) → View → Heard
-told_of heard v = record (unanswered heard) { code = code_said (turn_of heard v) }
+told_of heard v = record (unanswered heard) { code = reply_code_said (turn_of_line heard v) }
 
 -- an ABOR that comes during a transfer
 abbrev pub abort_told : Heard
-abort_told = record { verb = Some verb.Abor; text = []; code = Some (code_of Texts.AbortDone) }
+abort_told = record { verb = Some verb.Abor; text = []; code = Some (fixed_reply_code Texts.AbortDone) }
 
 -- ---- what a call acts on
 
@@ -163,8 +163,8 @@ heard_len (Some heard) = length heard.text
 -- ---- what is told of the view alone
 
 -- the root and the rights of who is logged in
-abbrev pub login_in : Session → Option (Names × Rights)
-login_in s = if is_in s.access then Some (s.root, s.rights) else None
+abbrev pub login_of_session : Session → Option (Names × Rights)
+login_of_session s = if is_in s.access then Some (s.root, s.rights) else None
 
 -- the number that three digits are
 abbrev pub number_of_three : ℕ → ℕ → ℕ → ℕ

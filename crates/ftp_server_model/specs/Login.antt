@@ -36,13 +36,13 @@ abbrev pub user : Accounts → List ℕ → Session → Turn
 user accounts name s = user_named (open_account accounts name) name s
 
 -- 230 or 530; either way the USER that waited is used up
-abbrev pub checked : Option Account → Session → Turn
-checked (Some account) s = logs_in account s
-checked None s = tells Texts.LoginRefused (logged_out s)
+abbrev pub password_checked : Option Account → Session → Turn
+password_checked (Some account) s = logs_in account s
+password_checked None s = tells Texts.LoginRefused (logged_out s)
 
 -- PASS counts where a USER waits for it, and only once
 abbrev pub pass : Access (List ℕ) → Accounts → List ℕ → Session → Turn
-pass (AwaitsPass name) accounts word s = checked (login_account accounts name word) s
+pass (AwaitsPass name) accounts word s = password_checked (login_account accounts name word) s
 pass Nobody accounts word s = tells Texts.BadSequence s
 pass Known accounts word s = tells Texts.BadSequence s
 

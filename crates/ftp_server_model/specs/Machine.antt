@@ -193,10 +193,10 @@ heard_line heard v = if is_abort heard v then aborted v else later (record v { w
 -- ---- control octets
 
 -- a line as it is read: its command, or why it says none (`ftp_command`)
-abbrev pub IsRead : List ℕ → HeardLine (List ℕ) → Type 0
-IsRead text (Asks command) = Says text command
-IsRead text (Bad fault) = Refuses text fault
-IsRead text TooLong = ⊥
+abbrev pub IsLineRead : List ℕ → HeardLine (List ℕ) → Type 0
+IsLineRead text (Asks command) = Says text command
+IsLineRead text (Bad fault) = Refuses text fault
+IsLineRead text TooLong = ⊥
 
 -- a function that reads lines; there is one only, since no line says two commands or is refused in two ways
 abbrev pub Reading : Type 0
@@ -204,7 +204,7 @@ Reading = List ℕ → HeardLine (List ℕ)
 
 -- each line is read as it is to be
 abbrev pub IsReading : Reading → Type 0
-IsReading read = (text : List ℕ) → IsRead text (read text)
+IsReading read = (text : List ℕ) → IsLineRead text (read text)
 
 -- there is one: each text says a command, or is refused
 abbrev pub ReadingExists : Type 0

@@ -8,7 +8,7 @@ use Rattle.ftp_path.specs.Path.{IsPathText, text_of as path_text, Names}
 use Rattle.ftp_facts.specs.Moment.{moment_digits}
 use Rattle.ftp_direct.specs.Direct.{entry_at}
 pub use Rattle.ftp_ends.specs.Reply.{Reply, IsWritten, reply_of, reply_octets}
-use Rattle.ftp_server_model.specs.Texts.{code_of, text_of}
+use Rattle.ftp_server_model.specs.Texts.{fixed_reply_code, text_of}
 use Rattle.ftp_server_model.specs.View.{Session, seen}
 use Rattle.ftp_server_model.specs.Entries.{listed_line, features_text, chosen_text, is_any_chosen}
 use Rattle.ftp_server_model.specs.declared.room.TheConstants.{FREE_ROOM}
@@ -19,7 +19,7 @@ use Rattle.ftp_server_model.specs.declared.reply.ReplyKind.TheVariants as Replie
 
 -- a reply of the table of texts (`Texts`)
 abbrev pub fixed_reply : FixedReply → Reply
-fixed_reply text = reply_of (code_of text) (text_of text)
+fixed_reply text = reply_of (fixed_reply_code text) (text_of text)
 
 -- a path in double quotes, each double quote in it twice (RFC 959, appendix II)
 abbrev pub quoted : Names → List ℕ
@@ -34,12 +34,12 @@ abbrev pub made_text : Names → List ℕ
 made_text path = quoted path ++ codes " created"
 
 -- the text of 227: (h1,h2,h3,h4,p1,p2) (RFC 959, section 4.1.2)
-abbrev pub passive_text : Endpoint → List ℕ
-passive_text endpoint = codes "Entering Passive Mode (" ++ (six_text endpoint ++ codes ")")
+abbrev pub passive_reply_text : Endpoint → List ℕ
+passive_reply_text endpoint = codes "Entering Passive Mode (" ++ (six_text endpoint ++ codes ")")
 
 -- the text of 229: (|||port|) (RFC 2428, section 3)
-abbrev pub extended_text : ℕ → List ℕ
-extended_text port = codes "Entering Extended Passive Mode (|||" ++ (decimal port ++ codes "|)")
+abbrev pub extended_reply_text : ℕ → List ℕ
+extended_reply_text port = codes "Entering Extended Passive Mode (|||" ++ (decimal port ++ codes "|)")
 
 -- MLST: three lines (RFC 3659, section 7.3); the pathname of the entry is the canonical text (own choice)
 abbrev pub entry_reply : Session → Names → Reply
@@ -71,8 +71,8 @@ reply_said s (Replies.Fixed text) = Some (fixed_reply text)
 reply_said s Replies.Here = Some (reply_of 257 (here_text s.cwd))
 reply_said s (Replies.Made path) = Some (reply_of 257 (made_text path))
 reply_said s (Replies.Restarting place) = Some (reply_of 350 (codes "Restarting at " ++ decimal place))
-reply_said s (Replies.Passive endpoint) = Some (reply_of 227 (passive_text endpoint))
-reply_said s (Replies.Extended port) = Some (reply_of 229 (extended_text port))
+reply_said s (Replies.Passive endpoint) = Some (reply_of 227 (passive_reply_text endpoint))
+reply_said s (Replies.Extended port) = Some (reply_of 229 (extended_reply_text port))
 reply_said s (Replies.Size count) = Some (reply_of 213 (decimal count))
 reply_said s (Replies.Stamp digits) = Some (reply_of 213 digits)
 reply_said s (Replies.Entry path) = Some (entry_reply s path)

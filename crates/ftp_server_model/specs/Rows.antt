@@ -78,14 +78,14 @@ abbrev pub said_to_member : List (List ℕ) → List ℕ
 said_to_member texts = lines (codes "220 Ready" ∷ codes "230 Logged in" ∷ texts)
 
 -- it as that somebody finds it
-abbrev pub logged_in : Table → Names → View
-logged_in table root =
+abbrev pub logged_in_at : Table → Names → View
+logged_in_at table root =
     let v = start table (accounts root) here here in
     record v { session = record v.session { access = Known; root = root; rights = all_rights }; owed = said_to_member [] }
 
 -- the same after events
 abbrev pub member : Table → Names → List RowEvent → View
-member table root events = after_events events (logged_in table root)
+member table root events = after_events events (logged_in_at table root)
 
 -- it with this current directory
 abbrev pub at_directory : Names → View → View
@@ -108,7 +108,7 @@ LoginAnswered =
 abbrev pub OpenLogin : Type 0
 OpenLogin =
     (table : Table) (root : Names) → node_at table root ≡ Some Dir
-    → server table root (asks (command.User (codes "anonymous")) ∷ []) ≡ logged_in table root
+    → server table root (asks (command.User (codes "anonymous")) ∷ []) ≡ logged_in_at table root
 
 -- 530: the root of the account is no directory
 abbrev pub RootMissing : Type 0
@@ -270,7 +270,7 @@ OntoDone =
     (table : Table) (root : Names) (octets other : List ℕ) (moment later : ℕ) → IsTree (under table root)
     → node_at (under table root) (of (codes "d")) ≡ Some (File octets moment) → node_at (under table root) (of (codes "e")) ≡ Some (File other later)
     → let may = record all_rights { onto = true } in
-    let there = logged_in table root in
+    let there = logged_in_at table root in
     let asked = asks (command.Rnfr (codes "d")) ∷ asks (command.Rnto (codes "e")) ∷ [] in
     let v = after_events asked (record there { session = record there.session { rights = may } }) in
     (v.owed ≡ said_to_member (codes "350 Ready for the new name" ∷ codes "250 Done" ∷ []))

@@ -5,46 +5,46 @@ use Rattle.ftp_server_model.specs.declared.reply.FixedReply.{FixedReply}
 use Rattle.ftp_server_model.specs.declared.reply.FixedReply.TheVariants as Texts
 
 -- the code of a fixed reply
-abbrev pub code_of : FixedReply → ℕ
-code_of Texts.Ready = 220
-code_of Texts.Unknown = 500
-code_of Texts.LineTooLong = 500
-code_of Texts.BadArgument = 501
-code_of Texts.NotImplemented = 502
-code_of Texts.BadSequence = 503
-code_of Texts.BadParameter = 504
-code_of Texts.Protocol = 522
-code_of Texts.OnlyIpv4 = 522
-code_of Texts.OnlyIpv6 = 522
-code_of Texts.NotLoggedIn = 530
-code_of Texts.PasswordNeeded = 331
-code_of Texts.LoggedIn = 230
-code_of Texts.LoginRefused = 530
-code_of Texts.NotNeeded = 202
-code_of Texts.Done = 250
-code_of Texts.NewName = 350
-code_of Texts.Refused = 550
-code_of Texts.NotAllowed = 550
-code_of Texts.NameRefused = 553
-code_of Texts.NoRoom = 452
-code_of Texts.TooMuch = 552
-code_of Texts.Opens = 150
-code_of Texts.Complete = 226
-code_of Texts.NoConnection = 425
-code_of Texts.Broken = 426
-code_of Texts.LocalFault = 451
-code_of Texts.AbortDone = 226
-code_of Texts.TypeSet = 200
-code_of Texts.StructureSet = 200
-code_of Texts.ModeSet = 200
-code_of Texts.Utf8Set = 200
-code_of Texts.Fine = 200
-code_of Texts.EndpointTaken = 200
-code_of Texts.OnlyExtended = 200
-code_of Texts.System = 215
-code_of Texts.Help = 214
-code_of Texts.Serving = 211
-code_of Texts.Goodbye = 221
+abbrev pub fixed_reply_code : FixedReply → ℕ
+fixed_reply_code Texts.Ready = 220
+fixed_reply_code Texts.Unknown = 500
+fixed_reply_code Texts.LineTooLong = 500
+fixed_reply_code Texts.BadArgument = 501
+fixed_reply_code Texts.NotImplemented = 502
+fixed_reply_code Texts.BadSequence = 503
+fixed_reply_code Texts.BadParameter = 504
+fixed_reply_code Texts.Protocol = 522
+fixed_reply_code Texts.OnlyIpv4 = 522
+fixed_reply_code Texts.OnlyIpv6 = 522
+fixed_reply_code Texts.NotLoggedIn = 530
+fixed_reply_code Texts.PasswordNeeded = 331
+fixed_reply_code Texts.LoggedIn = 230
+fixed_reply_code Texts.LoginRefused = 530
+fixed_reply_code Texts.NotNeeded = 202
+fixed_reply_code Texts.Done = 250
+fixed_reply_code Texts.NewName = 350
+fixed_reply_code Texts.Refused = 550
+fixed_reply_code Texts.NotAllowed = 550
+fixed_reply_code Texts.NameRefused = 553
+fixed_reply_code Texts.NoRoom = 452
+fixed_reply_code Texts.TooMuch = 552
+fixed_reply_code Texts.Opens = 150
+fixed_reply_code Texts.Complete = 226
+fixed_reply_code Texts.NoConnection = 425
+fixed_reply_code Texts.Broken = 426
+fixed_reply_code Texts.LocalFault = 451
+fixed_reply_code Texts.AbortDone = 226
+fixed_reply_code Texts.TypeSet = 200
+fixed_reply_code Texts.StructureSet = 200
+fixed_reply_code Texts.ModeSet = 200
+fixed_reply_code Texts.Utf8Set = 200
+fixed_reply_code Texts.Fine = 200
+fixed_reply_code Texts.EndpointTaken = 200
+fixed_reply_code Texts.OnlyExtended = 200
+fixed_reply_code Texts.System = 215
+fixed_reply_code Texts.Help = 214
+fixed_reply_code Texts.Serving = 211
+fixed_reply_code Texts.Goodbye = 221
 
 -- its text
 abbrev pub text_of : FixedReply → List ℕ

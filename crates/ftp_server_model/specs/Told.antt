@@ -10,7 +10,7 @@ use Rattle.ftp_command.specs.declared.value.Value.{Value}
 use Rattle.ftp_command.specs.declared.value.Value.TheVariants as value
 use Rattle.ftp_path.specs.Path.{IsPathText, Names, fits, is_name, parent, resolved, text_of as path_text}
 use Rattle.ftp_server_model.specs.Act.{decided}
-use Rattle.ftp_server_model.specs.Machine.{IsRead, is_connection_busy}
+use Rattle.ftp_server_model.specs.Machine.{IsLineRead, is_connection_busy}
 use Rattle.ftp_server_model.specs.Replies.{Turn, IsTold}
 use Rattle.ftp_server_model.specs.View.{Accounts, Context, Session, Transfer}
 use Rattle.ftp_server_model.specs.declared.heard.HeardLine.{HeardLine}
@@ -67,7 +67,7 @@ CanBeHeard (Asks command) = CanBeSaid command
 
 -- so it is of every line that is read
 abbrev pub ReadCanBeHeard : Type 0
-ReadCanBeHeard = (line : List ℕ) (heard : HeardLine (List ℕ)) → IsRead line heard → CanBeHeard heard
+ReadCanBeHeard = (line : List ℕ) (heard : HeardLine (List ℕ)) → IsLineRead line heard → CanBeHeard heard
 
 -- ---- sessions
 

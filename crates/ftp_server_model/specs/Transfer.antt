@@ -32,13 +32,13 @@ use Rattle.ftp_server_model.specs.declared.session.ServerLink.TheVariants as Dat
 -- ---- where a transfer begins in its file
 
 -- REST: the offset is pending for the next line, or refused
-abbrev pub rests : Option Refusal → ℕ → Session → Turn
-rests None offset s = (record s { pending = Pendings.Restart offset }, Replies.Restarting offset)
-rests (Some why) offset s = tells (refusal_text why) s
+abbrev pub restart_pending : Option Refusal → ℕ → Session → Turn
+restart_pending None offset s = (record s { pending = Pendings.Restart offset }, Replies.Restarting offset)
+restart_pending (Some why) offset s = tells (refusal_text why) s
 
 -- REST: it counts octets of the transfer, and is 504 in records, but for 0 (own choice)
-abbrev pub rest : ℕ → Session → Turn
-rest offset s = rests (offset_refusal offset (how_in_force s.settings)) offset s
+abbrev pub restart_asked : ℕ → Session → Turn
+restart_asked offset s = restart_pending (offset_refusal offset (how_in_force s.settings)) offset s
 
 -- the place in the file at a path where a transfer begins: where the offset of REST leads, if it leads to one, else the start
 abbrev pub place_of : Pending Names → Names → Session → Option ℕ

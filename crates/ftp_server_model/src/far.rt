@@ -2,7 +2,7 @@
 ghost use Rattle.std.specs.Prelude.{◌≡◌, ◌<◌, ◌≤◌, ℕ, IsTrue, None, Option, drop, length, min, option_map, take};
 ghost use Rattle.ftp_server_model.specs.Calls.{break_step, clock_step, close_step, control_end, control_step, end_step, given_step, listening_step, may_receive, no_port_step, opened_step, refused_step, to_give, wants};
 ghost use Rattle.ftp_server_model.specs.Failing.{EndFails, GiveFails, KeepsCourse};
-ghost use Rattle.ftp_server_model.specs.Heard.{Heard, Tells, TellsHeard, TellsReceived, code_in, lent, login_in};
+ghost use Rattle.ftp_server_model.specs.Heard.{Heard, Tells, TellsHeard, TellsReceived, code_in, lent, login_of_session};
 ghost use Rattle.ftp_server_model.specs.Machine.{is_transferring, may_hear};
 ghost use Rattle.ftp_server_model.specs.Most.{IsMostHeard, IsMostReceived};
 ghost use Rattle.ftp_server_model.specs.Far.{Acts, AreTold, Hears, Receives, Server, Steps};
@@ -190,7 +190,7 @@ pub trait Far<A: Allocator + Copy, T: Tree<A>>: Drop {
     /// The root of the account of who is logged in, and its rights; none where nobody is.
     fn login(&self) -> Option<(&Path<A>, Rights)>
         // Witness: as of `answered`.
-        ensures { option_map (λ login. (login.0.now, login.1)) result ≡ login_in (server self.now).view.session };
+        ensures { option_map (λ login. (login.0.now, login.1)) result ≡ login_of_session (server self.now).view.session };
 
     /// How many octets of the control connection it owes.
     fn owed(&self) -> usize

@@ -18,11 +18,11 @@ use Rattle.ftp_server_replies.specs.declared.transfer.Told.TheVariants.{Nothing,
 -- ---- octets are given
 
 -- what a transfer has still to give
-abbrev pub given_of : Transfer → List ℕ
-given_of (Transfers.Upload path keep d) = []
-given_of Transfers.OverLimit = []
-given_of (Transfers.Download rest) = rest
-given_of (Transfers.Listing rest) = rest
+abbrev pub left_to_give : Transfer → List ℕ
+left_to_give (Transfers.Upload path keep d) = []
+left_to_give Transfers.OverLimit = []
+left_to_give (Transfers.Download rest) = rest
+left_to_give (Transfers.Listing rest) = rest
 
 -- the same behind so many octets of it
 abbrev pub behind : ℕ → Transfer → Transfer
@@ -37,11 +37,11 @@ is_nothing [] = true
 is_nothing (octet ∷ octets) = false
 
 -- a download or a listing of which nothing is left
-abbrev pub is_out : Transfer → Bool
-is_out (Transfers.Upload path keep d) = false
-is_out Transfers.OverLimit = false
-is_out (Transfers.Download rest) = is_nothing rest
-is_out (Transfers.Listing rest) = is_nothing rest
+abbrev pub has_nothing_left : Transfer → Bool
+has_nothing_left (Transfers.Upload path keep d) = false
+has_nothing_left Transfers.OverLimit = false
+has_nothing_left (Transfers.Download rest) = is_nothing rest
+has_nothing_left (Transfers.Listing rest) = is_nothing rest
 
 -- ---- octets come
 
@@ -53,7 +53,7 @@ takes_octets (Transfers.Download rest) = false
 takes_octets (Transfers.Listing rest) = false
 
 -- it is under way in a view with room for what is to be said of an octet, beside this part of the map
-pub record IsUnderWay (part : Table) (transfer : Transfer) (v : View) : Type 0 where
+pub record IsTransferUnderWay (part : Table) (transfer : Transfer) (v : View) : Type 0 where
   pub carried : v.session.connection ≡ Data.Transferring transfer
   pub going : v.session.closing ≡ false
   pub sees : seen v.session ≡ part
@@ -69,7 +69,7 @@ ComesTo v octets NoMemory w = (x : View) → Late (faulted v) x → AreReceived 
 
 -- the same of a transfer, in whichever view it is under way
 abbrev pub Comes : Table → Transfer → List ℕ → Told → Transfer → Type 0
-Comes part old octets told new = (v : View) → IsUnderWay part old v → ComesTo v octets told (with_connection (Data.Transferring new) v)
+Comes part old octets told new = (v : View) → IsTransferUnderWay part old v → ComesTo v octets told (with_connection (Data.Transferring new) v)
 
 -- ---- the end
 

@@ -1,8 +1,8 @@
 // A line that was acted on, as it is told: its verb, what it names, and the code of its reply.
 ghost use Rattle.std.specs.Prelude.{◌≡◌, ◌≤◌, length, take};
-ghost use Rattle.ftp_server_model.specs.Heard.{abort_told, code_if_any, lent, text_named, text_or_none, text_told, unanswered, value_text, verb_told};
+ghost use Rattle.ftp_server_model.specs.Heard.{abort_told, code_if_any, lent, text_named, text_or_none, text_told, unanswered, path_or_user_text, verb_told};
 ghost use Rattle.ftp_server_model.specs.Replies.{reply_said};
-ghost use Rattle.ftp_server_model.specs.Texts.{code_of};
+ghost use Rattle.ftp_server_model.specs.Texts.{fixed_reply_code};
 ghost use Rattle.ftp_server_model.specs.View.{Session};
 
 use arrayvec::ArrayVec;
@@ -140,7 +140,7 @@ fn text_named<A: Allocator + Copy>(command: &Command<Argument<A>>) -> &[u8]
 
 /// The same of a value.
 fn value_text<'a>(value: &Value<LentText<'a>>) -> &'a [u8]
-    ensures { result.now ≡ value_text value.now }
+    ensures { result.now ≡ path_or_user_text value.now }
 {
     match value {
         Value::Name(text) | Value::Path(text) => text.octets(),
@@ -181,7 +181,7 @@ pub fn reply_code<A: Allocator + Copy>(kind: &ReplyKind<Path<A>>) -> Option<u16>
 /// The code of a reply without a computed part (RFC 959, section 4.2).
 pub fn fixed_code(text: FixedReply) -> u16
     // Witness: equations; `edits/the_text_of_pass_is_told`.
-    ensures { result ≡ code_of text }
+    ensures { result ≡ fixed_reply_code text }
 {
     match text {
         FixedReply::Ready => 220,

@@ -5,7 +5,7 @@ ghost use Rattle.ftp_endpoint.specs.Written.{six_text};
 ghost use Rattle.ftp_nvt.specs.Lines.{written_octet};
 ghost use Rattle.ftp_facts.specs.Name.{fact_word};
 ghost use Rattle.ftp_server_model.specs.Entries.{chosen_text, fact_text, feature_text, features_text, is_any_chosen};
-ghost use Rattle.ftp_server_model.specs.Replies.{chosen_reply, features_reply, extended_text, here_text, made_text, mark_reply, passive_text};
+ghost use Rattle.ftp_server_model.specs.Replies.{chosen_reply, features_reply, extended_reply_text, here_text, made_text, mark_reply, passive_reply_text};
 
 use crate::fixed_replies::FIXED_LIMIT;
 use crate::output::Output;
@@ -76,7 +76,7 @@ impl<A: Allocator + Copy> Output<A> {
     pub fn put_extended(&mut self, port: u16)
         requires { length self.old + 512 ≤ OUTPUT_ROOM }
         // Witness: as of `put_here`.
-        ensures { self.new ≡ self.old ++ reply_octets (reply_of 229 (extended_text port)) }
+        ensures { self.new ≡ self.old ++ reply_octets (reply_of 229 (extended_reply_text port)) }
     {
         self.put(b"229 Entering Extended Passive Mode (|||");
         self.put_number(u64::from(port));
@@ -87,7 +87,7 @@ impl<A: Allocator + Copy> Output<A> {
     pub fn put_passive(&mut self, endpoint: Endpoint)
         requires { length self.old + 512 ≤ OUTPUT_ROOM }
         // Witness: as of `put_here`.
-        ensures { self.new ≡ self.old ++ reply_octets (reply_of 227 (passive_text endpoint)) }
+        ensures { self.new ≡ self.old ++ reply_octets (reply_of 227 (passive_reply_text endpoint)) }
     {
         self.put(b"227 Entering Passive Mode (");
         self.put_six(endpoint);

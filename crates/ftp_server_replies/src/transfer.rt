@@ -10,7 +10,7 @@ ghost use Rattle.ftp_server_model.specs.View.{Session as Seen};
 ghost use Rattle.ftp_server_model.specs.declared.session.Transfer.TheVariants as Transfers;
 ghost use Rattle.ftp_server_model.specs.Counting.{TellsSome};
 ghost use Rattle.ftp_server_replies.specs.Fault.{Counted};
-ghost use Rattle.ftp_server_replies.specs.ServerTransfer.{Comes, Ends, IsUpload, behind, given_of, is_out, takes_octets};
+ghost use Rattle.ftp_server_replies.specs.ServerTransfer.{Comes, Ends, IsUpload, behind, left_to_give, has_nothing_left, takes_octets};
 ghost use Rattle.ftp_tree.specs.Change.{IsSteady, NoStray};
 ghost use Rattle.ftp_tree.specs.Tree.{octets_or_none, under};
 
@@ -146,13 +146,13 @@ pub trait ServerTransfer<A: Allocator + Copy, T: Tree<A>>: Drop {
     fn give(&mut self, tree: &mut T, room: &mut [u8]) -> Given
         // Witness: as of `give`.
         ensures within { result.count ≤ length room.old }
-        ensures gave { NoStray (T.failures tree.old) (T.failures tree.new) → take result.count room.new ≡ take result.count (given_of (view self.old)) }
-        ensures most { NoStray (T.failures tree.old) (T.failures tree.new) → result.count ≤ length (given_of (view self.old)) }
+        ensures gave { NoStray (T.failures tree.old) (T.failures tree.new) → take result.count room.new ≡ take result.count (left_to_give (view self.old)) }
+        ensures most { NoStray (T.failures tree.old) (T.failures tree.new) → result.count ≤ length (left_to_give (view self.old)) }
         ensures on { NoStray (T.failures tree.old) (T.failures tree.new) → view self.new ≡ behind result.count (view self.old) }
 
         // It fills the room or gives all that is left, or what comes next was not had.
-        ensures full { NoStray (T.failures tree.old) (T.failures tree.new) → result.lost ≡ false → result.count ≡ min (length room.old) (length (given_of (view self.old))) }
-        ensures lost { NoStray (T.failures tree.old) (T.failures tree.new) → result.lost ≡ true → result.count < length (given_of (view self.old)) }
+        ensures full { NoStray (T.failures tree.old) (T.failures tree.new) → result.lost ≡ false → result.count ≡ min (length room.old) (length (left_to_give (view self.old))) }
+        ensures lost { NoStray (T.failures tree.old) (T.failures tree.new) → result.lost ≡ true → result.count < length (left_to_give (view self.old)) }
         ensures takes { takes_octets (view self.new) ≡ takes_octets (view self.old) }
         ensures table { T.table tree.new ≡ T.table tree.old }
         ensures steady { result.lost ≡ false → IsSteady (T.failures tree.old) (T.failures tree.new) }
@@ -161,7 +161,7 @@ pub trait ServerTransfer<A: Allocator + Copy, T: Tree<A>>: Drop {
     /// Whether all is given.
     fn is_given_out(&self) -> bool
         // Witness: equations, where memory was not refused.
-        ensures { result ≡ is_out (view self.now) };
+        ensures { result ≡ has_nothing_left (view self.now) };
 
     /// What stands at the path of an upload; none of another transfer.
     fn stands(&self, tree: &T, root: &Path<A>) -> Option<Standing>

@@ -2,7 +2,7 @@
 use Rattle.std.proofs.Common.{◌≡◌, ◌∙◌, ℕ, Bool, true, false, if◌then◌else◌, inl, inr, List, Option, Some, None, is_some, Result, Ok, Err, ap, arith, refl, sym}
 use Rattle.std.specs.Option.{option_map}
 use Rattle.ftp_path.specs.Path.{Names, fits, resolved}
-use Rattle.ftp_tree.specs.Change.{Failures, IsRefused, TellsOne, one_more}
+use Rattle.ftp_tree.specs.Change.{Failures, IsRefused, TellsOne, one_failure_more}
 use Rattle.ftp_tree.specs.Tree.{Table, moved, rename_refusal}
 use Rattle.ftp_tree.specs.declared.fault.TreeFault.{TreeFault}
 use Rattle.ftp_tree.specs.declared.fault.TreeFault.TheVariants as Faults
@@ -31,7 +31,7 @@ same_session table view old tree same =
     ap (λ t. record (session_of table view old) { table = t }) same
 
 -- counts with one failure more tell one
-one_told : (before after : Failures) → after ≡ one_more before → TellsOne before after
+one_told : (before after : Failures) → after ≡ one_failure_more before → TellsOne before after
 one_told before after moved = (ap (λ f. f.told) moved, omega (arith, ap (λ f. f.strays) moved))
 
 -- what a refused call makes of the counts

@@ -48,11 +48,11 @@ LineLost (Asks command) old new =
 
 -- what a command leaves once its turn has come: its row and the login it needs; or it could not be done, and a transfer command has
 -- forgotten the endpoint
-abbrev pub Asked : {A T J : Type 0} → (T → Table) → (T → Failures) → (J → Transfer) → Context → Command (List ℕ) → Pending Names → Held A T J → Held A T J → Result (ReplyKind Names) Fault → Type 0
-Asked table failures view context command pending old new (Ok kind) =
+abbrev pub DecidesCommand : {A T J : Type 0} → (T → Table) → (T → Failures) → (J → Transfer) → Context → Command (List ℕ) → Pending Names → Held A T J → Held A T J → Result (ReplyKind Names) Fault → Type 0
+DecidesCommand table failures view context command pending old new (Ok kind) =
     (NoStray (failures old.tree) (failures new.tree) → (session_of table view new, kind) ≡ decided context (Asks command) pending (session_of table view old))
     × IsSteady (failures old.tree) (failures new.tree)
-Asked table failures view context command pending old new (Err fault) =
+DecidesCommand table failures view context command pending old new (Err fault) =
     (is_allowed command (session_of table view old) ≡ true) × (may_fail command ≡ true)
     × (NoStray (failures old.tree) (failures new.tree) → session_of table view new ≡ forgets command (session_of table view old))
     × Counted fault (failures old.tree) (failures new.tree)

@@ -27,14 +27,14 @@ is_busy (Data.Opening transfer way) = true
 is_busy (Data.Transferring transfer) = true
 
 -- a reply without a computed part, or none: all that is said by a command that leaves the data connection busy
-abbrev pub is_short : ReplyKind Names → Bool
-is_short Replies.Nothing = true
-is_short (Replies.Fixed text) = true
-is_short other = false
+abbrev pub is_short_reply : ReplyKind Names → Bool
+is_short_reply Replies.Nothing = true
+is_short_reply (Replies.Fixed text) = true
+is_short_reply other = false
 
 -- where the data connection is left busy, the reply is short
 abbrev pub SaysLittle : {J : Type 0} → ServerLink J → Result (ReplyKind Names) Fault → Type 0
-SaysLittle connection (Ok kind) = is_busy connection ≡ true → is_short kind ≡ true
+SaysLittle connection (Ok kind) = is_busy connection ≡ true → is_short_reply kind ≡ true
 SaysLittle connection (Err fault) = Unit {0}
 
 -- the octets of the name that a value is

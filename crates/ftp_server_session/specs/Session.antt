@@ -19,14 +19,14 @@ use Rattle.ftp_server_session.specs.declared.context.Context.{Context as Stands}
 use Rattle.ftp_server_session.specs.declared.session.Session.{Session as Held}
 
 -- a data connection, by how its transfer is seen
-abbrev pub connection_of : {J : Type 0} → (J → Transfer) → ServerLink J → ServerLink Transfer
-connection_of view Data.Free = Data.Free
-connection_of view (Data.Asked asked) = Data.Asked asked
-connection_of view (Data.Active endpoint) = Data.Active endpoint
-connection_of view Data.Passive = Data.Passive
-connection_of view Data.Ready = Data.Ready
-connection_of view (Data.Opening transfer way) = Data.Opening (view transfer) way
-connection_of view (Data.Transferring transfer) = Data.Transferring (view transfer)
+abbrev pub connection_seen : {J : Type 0} → (J → Transfer) → ServerLink J → ServerLink Transfer
+connection_seen view Data.Free = Data.Free
+connection_seen view (Data.Asked asked) = Data.Asked asked
+connection_seen view (Data.Active endpoint) = Data.Active endpoint
+connection_seen view Data.Passive = Data.Passive
+connection_seen view Data.Ready = Data.Ready
+connection_seen view (Data.Opening transfer way) = Data.Opening (view transfer) way
+connection_seen view (Data.Transferring transfer) = Data.Transferring (view transfer)
 
 -- a transfer is under way, its data connection open or still to come
 abbrev pub has_transfer : {J : Type 0} → ServerLink J → Bool
@@ -50,7 +50,7 @@ session_of table view s = record {
   settings = s.settings;
   facts = s.facts;
   only_extended = s.only_extended;
-  connection = connection_of view s.connection;
+  connection = connection_seen view s.connection;
   closing = s.closing;
   life = s.life;
 }

@@ -3,7 +3,7 @@ ghost use Rattle.std.specs.Prelude.{◌≡◌, Ok};
 ghost use Rattle.ftp_command.specs.Line.{IfGiven};
 ghost use Rattle.ftp_path.specs.Path.{IsPathText};
 ghost use Rattle.ftp_server_model.specs.Ask.{has_size, mdtm, mlst, size};
-ghost use Rattle.ftp_server_model.specs.Transfer.{rest};
+ghost use Rattle.ftp_server_model.specs.Transfer.{restart_asked};
 ghost use Rattle.ftp_server_model.specs.View.{how_in_force};
 
 use crate::session::Session;
@@ -25,7 +25,7 @@ impl<A: Allocator + Copy, T: Tree<A>, J: ServerTransfer<A, T>> Session<A, T, J> 
 
     /// REST.
     pub(crate) fn rest(&mut self, offset: u64) -> ReplyKind<Path<A>>
-        ensures turn { (session_of T.table J.view self.new, result) ≡ rest offset (session_of T.table J.view self.old) }
+        ensures turn { (session_of T.table J.view self.new, result) ≡ restart_asked offset (session_of T.table J.view self.old) }
         ensures tree { self.new.tree ≡ self.old.tree }
         ensures little { LeavesLittle 0 self.old self.new (Ok result) }
     {

@@ -18,7 +18,7 @@ use std::alloc::Allocator;
 
 impl<A: Allocator + Copy, T: Tree<A>, J: ServerTransfer<A, T>> Session<A, T, J> {
     ghost use Rattle.ftp_server_session.specs.Session.{context_of, session_of};
-    ghost use Rattle.ftp_server_session.specs.Line.{Asked, Decides};
+    ghost use Rattle.ftp_server_session.specs.Line.{DecidesCommand, Decides};
 
     /// Acts on a line: what was pending is taken, the order of decisions gone through, and the reply that is to be said answered. A server has
     /// its lines wait while a transfer is under way; one that comes here then is out of sequence, and nothing is done.
@@ -71,7 +71,7 @@ impl<A: Allocator + Copy, T: Tree<A>, J: ServerTransfer<A, T>> Session<A, T, J> 
         pending: &Pending<Path<A>>,
     ) -> Result<ReplyKind<Path<A>>, Fault>
         requires paths { HasPathTexts command }
-        ensures asked { Asked T.table T.failures J.view (context_of context.now) command pending.now self.old self.new result }
+        ensures asked { DecidesCommand T.table T.failures J.view (context_of context.now) command pending.now self.old self.new result }
         ensures little { LeavesLittle (name_len command) self.old self.new result }
     {
         let is_transfer = is_transfer(&command);

@@ -15,11 +15,11 @@ use std::alloc::Allocator;
 
 impl<A: Allocator + Copy, T: Tree<A>, J: ServerTransfer<A, T>> Session<A, T, J> {
     ghost use Rattle.ftp_server_session.specs.Little.{LeavesLittle};
-    ghost use Rattle.ftp_server_session.specs.Session.{connection_of, context_of, session_of};
+    ghost use Rattle.ftp_server_session.specs.Session.{connection_seen, context_of, session_of};
 
     /// Whether the data connection is open, or a port is listened at.
     pub fn is_standing(&self) -> bool
-        ensures { result ≡ is_standing (connection_of J.view self.now.connection) }
+        ensures { result ≡ is_standing (connection_seen J.view self.now.connection) }
     {
         match &self.connection {
             ServerLink::Free | ServerLink::Asked(_) | ServerLink::Active(_) => false,

@@ -43,7 +43,7 @@ pub(crate) const DEFAULTS: Representation = Representation {
 };
 
 impl<A: Allocator + Copy, T: Tree<A>, J: ServerTransfer<A, T>> Session<A, T, J> {
-    ghost use Rattle.ftp_server_session.specs.Session.{connection_of, has_transfer, session_of};
+    ghost use Rattle.ftp_server_session.specs.Session.{connection_seen, has_transfer, session_of};
 
     /// A session as it begins: nobody is logged in, and all is as after REIN. Takes no memory.
     pub fn new(alloc: A, tree: T) -> Session<A, T, J>
@@ -72,7 +72,7 @@ impl<A: Allocator + Copy, T: Tree<A>, J: ServerTransfer<A, T>> Session<A, T, J> 
 
     /// Whether a transfer is under way, or a port was asked for.
     pub fn is_busy(&self) -> bool
-        ensures busy { result ≡ is_connection_busy (connection_of J.view self.now.connection) }
+        ensures busy { result ≡ is_connection_busy (connection_seen J.view self.now.connection) }
         // Witness of idle: follows from `busy`.
         ensures idle { result ≡ false → has_transfer self.now.connection ≡ false }
     {

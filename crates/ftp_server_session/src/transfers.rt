@@ -27,7 +27,7 @@ use ftp_tree::{Sight, Tree, TreeFault};
 use std::alloc::Allocator;
 
 impl<A: Allocator + Copy, T: Tree<A>, J: ServerTransfer<A, T>> Session<A, T, J> {
-    ghost use Rattle.ftp_server_session.specs.Little.{LeavesLittle, is_short};
+    ghost use Rattle.ftp_server_session.specs.Little.{LeavesLittle, is_short_reply};
     ghost use Rattle.ftp_server_session.specs.Session.{Looks, Turns, session_of};
 
     /// RETR, where the REST before it put it.
@@ -241,7 +241,7 @@ impl<A: Allocator + Copy, T: Tree<A>, J: ServerTransfer<A, T>> Session<A, T, J> 
             (session_of T.table J.view self.new, result) ≡ begin s.connection (J.view transfer) s }
         ensures tree { self.new.tree ≡ self.old.tree }
         ensures access { self.new.access ≡ self.old.access }
-        ensures short { is_short result ≡ true }
+        ensures short { is_short_reply result ≡ true }
     {
         self.connection = match self.connection {
             ServerLink::Active(endpoint) => ServerLink::Opening(transfer, Way::Connect(endpoint)),
@@ -260,7 +260,7 @@ impl<A: Allocator + Copy, T: Tree<A>, J: ServerTransfer<A, T>> Session<A, T, J> 
         ensures turn { (session_of T.table J.view self.new, result) ≡ tells text (forgotten (session_of T.table J.view self.old)) }
         ensures tree { self.new.tree ≡ self.old.tree }
         ensures access { self.new.access ≡ self.old.access }
-        ensures short { is_short result ≡ true }
+        ensures short { is_short_reply result ≡ true }
     {
         self.forget();
         ReplyKind::Fixed(text)

@@ -26,13 +26,13 @@ use Rattle.ftp_facts.specs.declared.name.Facts.{Facts}
 use Rattle.ftp_server_transfer.specs.Rest.{text_left}
 use Rattle.ftp_server_transfer.specs.declared.line.What.{What}
 use Rattle.ftp_server_transfer.specs.declared.listing.Listing.{Listing}
-use Rattle.ftp_server_transfer.specs.Lines.{Puts, columns_of, entry_facts, entry_line, lines_from, lines_of, pathname_of}
+use Rattle.ftp_server_transfer.specs.Lines.{PutsLine, columns_of, entry_facts, line_of_entry, lines_from, lines_of, pathname_of}
 use Rattle.ftp_server_transfer.specs.declared.line.What.TheVariants as Whats
 
 -- ---- a line and its end
 
 -- what was put, as lines
-pub put_is : (o : Option (List ℕ)) (old new : List ℕ) → Puts o old new → new ≡ old ++ lines_file (option_to_list o)
+pub put_is : (o : Option (List ℕ)) (old new : List ℕ) → PutsLine o old new → new ≡ old ++ lines_file (option_to_list o)
 put_is None old new put = put ∙ sym (append-nil old)
 put_is (Some line) old new put = put ∙ ap (λ l. old ++ l) (sym (append-nil (text_line line)))
 
@@ -66,7 +66,7 @@ one_more f all n x is =
     ∙ lines_cons (f x) (filter_map f (drop (n + 1) all))
 
 -- with the line of one more entry
-pub with_line : {X : Type 0} (f : X → Option (List ℕ)) (all : List X) (n m : ℕ) (x : X) (whole old new : List ℕ) → Some x ≡ slice_get all n → n + 1 ≡ m → Puts (f x) old new
+pub with_line : {X : Type 0} (f : X → Option (List ℕ)) (all : List X) (n m : ℕ) (x : X) (whole old new : List ℕ) → Some x ≡ slice_get all n → n + 1 ≡ m → PutsLine (f x) old new
     → whole ≡ old ++ lines_file (filter_map f (drop n all)) → whole ≡ new ++ lines_file (filter_map f (drop m all))
 with_line f all n m x whole old new is next put left =
     left ∙ ap (λ l. old ++ l) (one_more f all n x is) ∙ sym (append_assoc old (lines_file (option_to_list (f x))) (lines_file (filter_map f (drop (n + 1) all))))
@@ -110,11 +110,11 @@ lines_shown f g h [] same = refl
 lines_shown f g h (x ∷ xs) same = ap (λ o. cons_option o (filter_map f xs)) (same x) ∙ ap (cons_option (g (h x))) (lines_shown f g h xs same)
 
 of_directory : {A : Type 0} (what : What A) (f : List ℕ → Option (List ℕ)) (table : Table) (path : Names)
-    → ((name : List ℕ) → f name ≡ entry_line what path (name, of_node shown_of (node_at table (child path name))))
+    → ((name : List ℕ) → f name ≡ line_of_entry what path (name, of_node shown_of (node_at table (child path name))))
     → filter_map f (children table path) ≡ lines_from what path (entries_at table path) (Some 0)
 unfolding entries_at children node_at maps.entries_at
 of_directory what f table path same =
-    lines_shown f (entry_line what path) (λ name. (name, of_node shown_of (node_at table (child path name)))) (children table path) same
+    lines_shown f (line_of_entry what path) (λ name. (name, of_node shown_of (node_at table (child path name)))) (children table path) same
 
 -- of a name, whatever stands there
 child_shown : (path : Names) (name : List ℕ) (node : Option Node)

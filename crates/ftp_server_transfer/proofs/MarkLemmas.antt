@@ -6,7 +6,7 @@ use Rattle.ftp_repr.specs.Signs.{Sign, end_record, end_file}
 use Rattle.ftp_settings.specs.Marker.{is_marker_octet}
 use Rattle.ftp_settings.specs.declared.marker.TheConstants.{MARKER_LIMIT}
 use Rattle.ftp_mode.specs.Said.{Said, says, marker}
-use Rattle.ftp_mode.specs.Block.{has, count_of, ends_of}
+use Rattle.ftp_mode.specs.Block.{has, block_count, ends_of}
 use Rattle.ftp_mode.specs.declared.descriptor.TheConstants.{END_OF_FILE, END_OF_RECORD, RESTART_MARKER}
 use Rattle.ftp_mode.specs.declared.escape.TheConstants.{ESCAPE, RECORD_CODE, FILE_CODE, BOTH_CODE}
 use Rattle.ftp_mode.specs.Reading.{Reading, going, failed, plain, outside, escaped, at_head, at_high, at_low, inside, marking, ended, read_out}
@@ -60,7 +60,7 @@ short_said (going n escaped) c =
 short_said (going n at_head) c = none
 short_said (going n (at_high d)) c = none
 short_said (going n (at_low d high)) c =
-    either (has d RESTART_MARKER) [] _ none (either (count_of high c == 0) (ends_of d) [] (ends_short (has d END_OF_RECORD) (has d END_OF_FILE)) none)
+    either (has d RESTART_MARKER) [] _ none (either (block_count high c == 0) (ends_of d) [] (ends_short (has d END_OF_RECORD) (has d END_OF_FILE)) none)
 short_said (going n (inside d left)) c = sign_first _ (if left == 1 then ends_of d else [])
 short_said (going n (marking d left text)) c = last_of (is_marker_octet c) (nat_lt (length text) MARKER_LIMIT) (left == 1) text c (ends_of d) refl
 short_said (going n ended) c = none

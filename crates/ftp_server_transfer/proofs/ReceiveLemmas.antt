@@ -21,10 +21,10 @@ use Rattle.ftp_server_model.specs.declared.heard.HeardLine.{HeardLine as Line}
 use Rattle.ftp_server_model.specs.declared.session.Keep.{Keep}
 use Rattle.ftp_server_model.specs.declared.session.Transfer.TheVariants as Transfers
 use Rattle.ftp_server_model.specs.declared.session.ServerLink.TheVariants as Data
-use Rattle.ftp_server_replies.specs.ServerTransfer.{IsUnderWay, ComesTo, Comes}
+use Rattle.ftp_server_replies.specs.ServerTransfer.{IsTransferUnderWay, ComesTo, Comes}
 use Rattle.ftp_server_replies.specs.declared.transfer.Told.{Told}
 use Rattle.ftp_server_replies.specs.declared.transfer.Told.TheVariants as Tells
-use Rattle.ftp_server_transfer.specs.Receiving.{Leaves, is_over, IsTold}
+use Rattle.ftp_server_transfer.specs.Receiving.{Leaves, is_over, IsSaidOfHeard}
 
 -- a view in which this upload is under way, and one in which it passed a limit
 abbrev holding : Names → Keep → Decoder → View → View
@@ -136,7 +136,7 @@ marked path keep d v w octet text theirs rest count held going fine said counted
 
 last : (path : Names) (keep : Keep) (most : ℕ) (v : View) (d : Decoder) (octet : ℕ) (mark : Option ℕ) (text : List ℕ) (heard : Decoded) (new : Decoder) (told : Told)
     → Limits path keep most v → v.session.closing ≡ false → has_room v ≡ true → length d.content ≤ most → Marks mark text d (octet_says d octet)
-    → EndsBy most d octet heard new → IsTold (kept_count keep) mark text heard told → ComesTo (holding path keep d v) (octet ∷ []) told (left path keep heard new v)
+    → EndsBy most d octet heard new → IsSaidOfHeard (kept_count keep) mark text heard told → ComesTo (holding path keep d v) (octet ∷ []) told (left path keep heard new v)
 last path keep most v d octet None text Heards.More new told limit going room within marks ends is =
     let P : Told → Type 0 = λ t. ComesTo (holding path keep d v) (octet ∷ []) t (holding path keep new v) in
     let takes = takes_within path keep most v (read_on d octet) (octet_says d octet) limit marks ends.1 in
@@ -196,17 +196,17 @@ on path keep d e v w octet octets Tells.NoMemory can is h = λ x late. (can, hol
 
 -- no octet came
 nothing : (path : Names) (keep : Keep) (v : View) (d : Decoder) (mark : Option ℕ) (text : List ℕ) (heard : Decoded) (new : Decoder) (told : Told)
-    → mark ≡ None → heard ≡ Heards.More → new ≡ d → IsTold (kept_count keep) mark text heard told → ComesTo (holding path keep d v) [] told (left path keep heard new v)
+    → mark ≡ None → heard ≡ Heards.More → new ≡ d → IsSaidOfHeard (kept_count keep) mark text heard told → ComesTo (holding path keep d v) [] told (left path keep heard new v)
 nothing path keep v d mark text heard new told unmarked more same is =
-    let P : Decoded → Type 0 = λ h. IsTold (kept_count keep) mark text h told in
-    let Q : Option ℕ → Type 0 = λ m. IsTold (kept_count keep) m text Heards.More told in
+    let P : Decoded → Type 0 = λ h. IsSaidOfHeard (kept_count keep) mark text h told in
+    let Q : Option ℕ → Type 0 = λ m. IsSaidOfHeard (kept_count keep) m text Heards.More told in
     let R : Told → Type 0 = λ t. ComesTo (holding path keep d v) [] t (left path keep heard new v) in
     let is_nothing : told ≡ Tells.Nothing = subst Q unmarked (subst P more is) in
     subst R (sym is_nothing) (tt, ap (λ e. holding path keep e v) (sym same) ∙ ap (λ h. left path keep h new v) (sym more))
 
 comes_to : (path : Names) (keep : Keep) (most : ℕ) (v : View) (d : Decoder) (octets : List ℕ) (mark : Option ℕ) (text : List ℕ) (heard : Decoded) (new : Decoder) (told : Told)
     → Limits path keep most v → v.session.closing ≡ false → has_room v ≡ true → length d.content ≤ most → Hears most d octets mark text heard new
-    → IsTold (kept_count keep) mark text heard told → ComesTo (holding path keep d v) octets told (left path keep heard new v)
+    → IsSaidOfHeard (kept_count keep) mark text heard told → ComesTo (holding path keep d v) octets told (left path keep heard new v)
 comes_to path keep most v d [] mark text heard new told limit going room within h is = nothing path keep v d mark text heard new told h.0 h.1 h.2 is
 comes_to path keep most v d (octet ∷ []) mark text heard new told limit going room within h is =
     last path keep most v d octet mark text heard new told limit going room within h.0 h.1 is
@@ -220,14 +220,14 @@ comes_to path keep most v d (octet ∷ next ∷ octets) mark text heard new told
 
 -- it is enough to see it in a view that it stands in
 in_view : (part : Table) (path : Names) (keep : Keep) (d : Decoder) (octets : List ℕ) (told : Told) (v w : View)
-    → IsUnderWay part (Transfers.Upload path keep d) v → ComesTo (holding path keep d v) octets told w → ComesTo v octets told w
+    → IsTransferUnderWay part (Transfers.Upload path keep d) v → ComesTo (holding path keep d v) octets told w → ComesTo v octets told w
 in_view part path keep d octets told v w under h =
     let P : View → Type 0 = λ y. ComesTo y octets told w in
     subst P (sym (ap (λ c. with_connection c v) under.carried)) h
 
 -- what was heard leads there
 pub comes : (part : Table) (path : Names) (keep : Keep) (most : ℕ) (d : Decoder) (octets : List ℕ) (mark : Option ℕ) (text : List ℕ) (heard : Decoded) (new : Decoder) (told : Told)
-    → Leaves part path (kept_count keep) most → length d.content ≤ most → Hears most d octets mark text heard new → IsTold (kept_count keep) mark text heard told
+    → Leaves part path (kept_count keep) most → length d.content ≤ most → Hears most d octets mark text heard new → IsSaidOfHeard (kept_count keep) mark text heard told
     → Comes part (Transfers.Upload path keep d) octets told (if is_over heard then Transfers.OverLimit else Transfers.Upload path keep new)
 comes part path keep most d octets mark text heard new told leaves within h is = λ v under.
     let P : Table → Type 0 = λ p. (count : ℕ) → is_some (octets_refusal p path (kept_count keep + count)) ≡ not (nat_le count most) in

@@ -14,10 +14,10 @@ abbrev pub is_plain : Representation → Bool
 is_plain r = same_kind r.kind Image && same_structure r.structure File && same_mode r.mode Stream
 
 -- the octets of the wire that are still to come, where these of the file are: through its encoder, or as they are where it has none
-abbrev pub given_by : Option Encoder → List ℕ → List ℕ
-given_by None file = file
-given_by (Some encoder) file = still_to_give encoder file
+abbrev pub wire_given_by : Option Encoder → List ℕ → List ℕ
+wire_given_by None file = file
+wire_given_by (Some encoder) file = still_to_give encoder file
 
 -- the octets of the wire that are still to come, where `opened` are the octets of an open file
 abbrev pub rest_of : {A T O D : Type 0} → (O → List ℕ) → Download A T O D → List ℕ
-rest_of opened d = given_by d.encoder (drop d.at (opened d.file))
+rest_of opened d = wire_given_by d.encoder (drop d.at (opened d.file))

@@ -39,15 +39,15 @@ shown_line (Whats.Names text) entry = pathname_of text entry
 shown_line (Whats.Entries facts) entry = Some (listed_line facts (entry_facts entry))
 
 -- the same in the directory at a path; nothing is said of a path past the limits of paths
-abbrev pub entry_line : {A : Type 0} → What A → Names → List ℕ × Option (ℕ × ℕ) → Option (List ℕ)
-entry_line what path entry = if fits (child path entry.0) then shown_line what entry else None
+abbrev pub line_of_entry : {A : Type 0} → What A → Names → List ℕ × Option (ℕ × ℕ) → Option (List ℕ)
+line_of_entry what path entry = if fits (child path entry.0) then shown_line what entry else None
 
 -- the lines of the entries from a place on; none where there is no such place
 abbrev pub lines_from : {A : Type 0} → What A → Names → List (List ℕ × Option (ℕ × ℕ)) → Option ℕ → List (List ℕ)
 lines_from what path entries None = []
-lines_from what path entries (Some place) = filter_map (entry_line what path) (drop place entries)
+lines_from what path entries (Some place) = filter_map (line_of_entry what path) (drop place entries)
 
 -- the line was put behind the octets, with LF behind it, or there is none
-abbrev pub Puts : Option (List ℕ) → List ℕ → List ℕ → Type 0
-Puts None old new = new ≡ old
-Puts (Some line) old new = new ≡ old ++ text_line line
+abbrev pub PutsLine : Option (List ℕ) → List ℕ → List ℕ → Type 0
+PutsLine None old new = new ≡ old
+PutsLine (Some line) old new = new ≡ old ++ text_line line

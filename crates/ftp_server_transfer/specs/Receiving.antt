@@ -27,13 +27,13 @@ IsMark text held Tells.Faulty = ⊥
 IsMark text held Tells.NoMemory = ⊥
 
 -- a marker is answered by the octets kept and those that were settled when it came
-abbrev pub IsAnswer : ℕ → Option ℕ → List ℕ → Told → Type 0
-IsAnswer keep None text told = told ≡ Tells.Nothing
-IsAnswer keep (Some held) text told = IsMark text (keep + held) told
+abbrev pub IsMarkerAnswer : ℕ → Option ℕ → List ℕ → Told → Type 0
+IsMarkerAnswer keep None text told = told ≡ Tells.Nothing
+IsMarkerAnswer keep (Some held) text told = IsMark text (keep + held) told
 
 -- what is to be said of what was heard
-abbrev pub IsTold : ℕ → Option ℕ → List ℕ → Decoded → Told → Type 0
-IsTold keep mark text Heards.More told = IsAnswer keep mark text told
-IsTold keep mark text (Heards.Faulty fault) told = told ≡ Tells.Faulty
-IsTold keep mark text Heards.Over told = IsAnswer keep mark text told
-IsTold keep mark text Heards.NoMemory told = told ≡ Tells.NoMemory
+abbrev pub IsSaidOfHeard : ℕ → Option ℕ → List ℕ → Decoded → Told → Type 0
+IsSaidOfHeard keep mark text Heards.More told = IsMarkerAnswer keep mark text told
+IsSaidOfHeard keep mark text (Heards.Faulty fault) told = told ≡ Tells.Faulty
+IsSaidOfHeard keep mark text Heards.Over told = IsMarkerAnswer keep mark text told
+IsSaidOfHeard keep mark text Heards.NoMemory told = told ≡ Tells.NoMemory

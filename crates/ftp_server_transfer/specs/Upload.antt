@@ -4,5 +4,5 @@ use Rattle.ftp_server_model.specs.declared.session.Transfer.TheVariants as Trans
 use Rattle.ftp_server_transfer.specs.declared.upload.Upload.{Upload}
 
 -- the transfer that it is
-abbrev pub upload_of : {A T O D : Type 0} → Upload A T O D → Transfer
-upload_of u = Transfers.Upload u.path u.keep u.decoder.decoder
+abbrev pub upload_seen : {A T O D : Type 0} → Upload A T O D → Transfer
+upload_seen u = Transfers.Upload u.path u.keep u.decoder.decoder

@@ -2,7 +2,7 @@
 ghost use Rattle.std.specs.Prelude.{◌≡◌, ◌≤◌, ◌<◌, ◌+◌, ◌⊎◌, ◌↔◌, ◌^◌, ◌++◌, ℕ, List, [], IfOk, IsTrue, OnErr, OnOk, drop, false, length, min, take, true};
 ghost use Rattle.ftp_wire.specs.Encoding.{still_to_give};
 ghost use Rattle.ftp_server_model.specs.Transfer.{file_wire};
-ghost use Rattle.ftp_server_transfer.specs.Download.{given_by, is_plain};
+ghost use Rattle.ftp_server_transfer.specs.Download.{wire_given_by, is_plain};
 ghost use Rattle.ftp_tree.specs.Change.{IsSteady, NoStray, TellsOne};
 
 use ftp_server_replies::Given;
@@ -128,7 +128,7 @@ impl<A: Allocator + Copy, T: Tree<A>> Download<A, T> {
         requires len { len ≡ length (T.opened self.old.file) }
         ensures within { IfOk result (λ moved. (moved.made ≤ length room.old) × (moved.taken ≤ length (drop self.old.at (T.opened self.old.file)))) }
         ensures text { NoStray (T.failures tree.old) (T.failures tree.new) → IfOk result (λ moved. rest_of T.opened self.old
-            ≡ take moved.made room.new ++ given_by self.new.encoder (drop (self.old.at + moved.taken) (T.opened self.old.file))) }
+            ≡ take moved.made room.new ++ wire_given_by self.new.encoder (drop (self.old.at + moved.taken) (T.opened self.old.file))) }
         ensures some { IfOk result (λ moved. 0 < moved.taken + moved.made) }
         ensures back { OnErr result (self.new.encoder ≡ self.old.encoder) }
         ensures file { (T.opened self.new.file ≡ T.opened self.old.file) × (self.new.at ≡ self.old.at) }
@@ -200,7 +200,7 @@ impl<A: Allocator + Copy, T: Tree<A>> Download<A, T> {
 
 /// What encodes a file from a place on; nothing does where its octets go as they are.
 fn encoder_of(settings: Representation, at: u64) -> Option<Encoder>
-    ensures { (file : List ℕ) → at + length file < 2 ^ 64 → given_by result file ≡ file_wire settings at file }
+    ensures { (file : List ℕ) → at + length file < 2 ^ 64 → wire_given_by result file ≡ file_wire settings at file }
 {
     if is_plain(settings) {
         return None;

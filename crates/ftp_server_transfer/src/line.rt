@@ -6,7 +6,7 @@ ghost use Rattle.ftp_direct.specs.Direct.{behind, child};
 ghost use Rattle.ftp_server_model.specs.Entries.{listed_line};
 ghost use Rattle.ftp_server_model.specs.Held.{lines_limit};
 ghost use Rattle.ftp_server_model.specs.Listing.{lines_file, text_line};
-ghost use Rattle.ftp_server_transfer.specs.Lines.{Puts, columns_of, entry_facts, entry_line, lines_from, pathname_of};
+ghost use Rattle.ftp_server_transfer.specs.Lines.{PutsLine, columns_of, entry_facts, line_of_entry, lines_from, pathname_of};
 
 use crate::named::Named;
 use ftp_direct::{entry_of, put_dir_line, put_file_line};
@@ -64,7 +64,7 @@ fn put_line<A: Allocator + Copy>(
     found: DirEntry<'_>,
     line: &mut Vec<u8, A>,
 ) -> Result<(), AllocError>
-    ensures line { OnOk result (Puts (entry_line what.now path.now (shown_entry found.entry)) line.old.items line.new.items) }
+    ensures line { OnOk result (PutsLine (line_of_entry what.now path.now (shown_entry found.entry)) line.old.items line.new.items) }
     ensures few { OnOk result (length line.new.items ≤ length line.old.items + (text_limit + 257)) }
 {
     if !fits_below(path, found.name) {
@@ -106,7 +106,7 @@ fn put_file<A: Allocator + Copy>(
     found: DirEntry<'_>,
     line: &mut Vec<u8, A>,
 ) -> Result<(), AllocError>
-    ensures line { OnOk result (Puts (pathname_of text.now (shown_entry found.entry)) line.old.items line.new.items) }
+    ensures line { OnOk result (PutsLine (pathname_of text.now (shown_entry found.entry)) line.old.items line.new.items) }
     ensures few { OnOk result (length line.new.items ≤ length line.old.items + (length text.now + 257)) }
 {
     if found.file.is_none() {

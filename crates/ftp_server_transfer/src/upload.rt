@@ -45,13 +45,13 @@ pub struct Arrived {
 }
 
 impl<A: Allocator + Copy, T: Tree<A>> Upload<A, T> {
-    ghost use Rattle.ftp_server_transfer.specs.Receiving.{IsTold, Leaves};
-    ghost use Rattle.ftp_server_transfer.specs.Upload.{upload_of};
+    ghost use Rattle.ftp_server_transfer.specs.Receiving.{IsSaidOfHeard, Leaves};
+    ghost use Rattle.ftp_server_transfer.specs.Upload.{upload_seen};
 
     /// An upload to a path, which keeps so much of the file there, in a representation, into a draft. Takes no memory.
     pub fn new(path: Path<A>, keep: Keep, settings: Representation, draft: T::Draft) -> Upload<A, T>
         // Witness: an equation, where memory was not refused.
-        ensures { upload_of result ≡ Transfers.Upload path keep (record (no_octets settings) { content = T.Draft.octets draft }) }
+        ensures { upload_seen result ≡ Transfers.Upload path keep (record (no_octets settings) { content = T.Draft.octets draft }) }
     {
         Upload {
             path,
@@ -74,8 +74,8 @@ impl<A: Allocator + Copy, T: Tree<A>> Upload<A, T> {
         ensures within { result.received.count ≤ length piece.now }
         // Witness of comes: for every server's view an equation, by what is told; `TreeTransfer::receive` needs it; `room_left`'s `none`:
         // `edits/a_directory_is_told_as_no_memory`.
-        ensures comes { Comes (under (T.table tree.now) root.now) (upload_of self.old) (take result.received.count piece.now)
-            result.received.told (if result.is_over then Transfers.OverLimit else upload_of self.new) }
+        ensures comes { Comes (under (T.table tree.now) root.now) (upload_seen self.old) (take result.received.count piece.now)
+            result.received.told (if result.is_over then Transfers.OverLimit else upload_seen self.new) }
         ensures some { 0 < length piece.now → 0 < result.received.count }
     {
         if piece.is_empty() {
@@ -108,7 +108,7 @@ impl<A: Allocator + Copy, T: Tree<A>> Upload<A, T> {
     /// What is to be said of octets that were taken.
     fn told(&self, taken: Taken) -> Told
         requires { (held : ℕ) → taken.mark ≡ Some held → (kept_count self.now.keep + held < 2 ^ 64) × (length self.now.decoder.marker ≤ MARKER_LIMIT) }
-        ensures { IsTold (kept_count self.now.keep) taken.mark self.now.decoder.marker taken.heard result }
+        ensures { IsSaidOfHeard (kept_count self.now.keep) taken.mark self.now.decoder.marker taken.heard result }
     {
         match taken.heard {
             Decoded::Faulty(_) => Told::Faulty,
@@ -139,7 +139,7 @@ impl<A: Allocator + Copy, T: Tree<A>> Upload<A, T> {
         // Witness: of what is put: equations of the map where nothing failed; `edits/a_break_of_a_whole_file_is_answered_226`,
         // `edits/one_octet_fewer_is_kept`, `edits/nothing_is_kept`, `edits/appe_keeps_what_stood_when_it_began`.
         ensures { (s : Session) → s.table ≡ T.table tree.old → s.root ≡ root.now → s.rights ≡ rights
-            → Ends (at_end moment.seconds (upload_of self) s) s (T.table tree.new) result (T.failures tree.old) (T.failures tree.new) }
+            → Ends (at_end moment.seconds (upload_seen self) s) s (T.table tree.new) result (T.failures tree.old) (T.failures tree.new) }
     {
         if !self.decoder.is_whole() {
             return self.at_break(tree, root, rights, moment);
@@ -161,7 +161,7 @@ impl<A: Allocator + Copy, T: Tree<A>> Upload<A, T> {
     ) -> Result<FixedReply, Fault>
         // Witness: as of `at_end`.
         ensures { (s : Session) → s.table ≡ T.table tree.old → s.root ≡ root.now → s.rights ≡ rights
-            → Ends (at_break moment.seconds (upload_of self) s) s (T.table tree.new) result (T.failures tree.old) (T.failures tree.new) }
+            → Ends (at_break moment.seconds (upload_seen self) s) s (T.table tree.new) result (T.failures tree.old) (T.failures tree.new) }
     {
         if is_overtaken(self.keep) {
             return Ok(FixedReply::Broken);
@@ -178,7 +178,7 @@ impl<A: Allocator + Copy, T: Tree<A>> Upload<A, T> {
 
     /// Others changed what stands at its path.
     pub(crate) fn overtake(&mut self)
-        ensures { upload_of self.new ≡ overtaken (upload_of self.old) }
+        ensures { upload_seen self.new ≡ overtaken (upload_seen self.old) }
     {
         self.keep = overtaken_keep(self.keep);
     }

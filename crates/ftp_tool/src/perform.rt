@@ -1,6 +1,6 @@
 // What the program does for a command line, between a reader and two writers.
 ghost use Rattle.std.specs.Prelude.{◌≡◌, ◌≢◌};
-ghost use Rattle.ftp_tool.specs.Perform.{Does, BreaksOff};
+ghost use Rattle.ftp_tool.specs.Perform.{DoesTask, TaskBreaksOff};
 
 use std::alloc::Allocator;
 use std::io::{Read, Write};
@@ -22,9 +22,9 @@ where
     W: Write,
     F: Write,
     // Witness: `edits/facts_are_read_as_a_dialogue`.
-    ensures done { result ≢ 3 → Does A task (R.remaining reader.old) (R.remaining reader.new) (W.contents writer.old) (W.contents writer.new)
+    ensures done { result ≢ 3 → DoesTask A task (R.remaining reader.old) (R.remaining reader.new) (W.contents writer.old) (W.contents writer.new)
         (F.contents faults.old) (F.contents faults.new) result }
-    ensures failed { result ≡ 3 → BreaksOff A task (R.remaining reader.old) (R.remaining reader.new) (W.contents writer.old) (W.contents writer.new)
+    ensures failed { result ≡ 3 → TaskBreaksOff A task (R.remaining reader.old) (R.remaining reader.new) (W.contents writer.old) (W.contents writer.new)
         (F.contents faults.old) (F.contents faults.new) }
 {
     match task {

@@ -15,8 +15,8 @@ abbrev pub next_count : ℕ → ℕ
 next_count count = (count + 1) % 2 ^ 64
 
 -- with one failure more told
-abbrev pub one_more : Failures → Failures
-one_more failures = record failures { told = next_count failures.told }
+abbrev pub one_failure_more : Failures → Failures
+one_failure_more failures = record failures { told = next_count failures.told }
 
 -- those of a device that never strays
 abbrev pub never_strayed : ℕ → Failures
@@ -44,7 +44,7 @@ Tells (Err other) before after = IsSteady before after
 -- count of the device's failures moves on, by one.
 abbrev pub Refuses : Option TreeFault → TreeFault → (before after : Failures) → Type 0
 Refuses (Some why) fault before after = (fault ≡ why) × (after ≡ before)
-Refuses None fault before after = ((fault ≡ Memory) × (after ≡ before)) ⊎ ((fault ≡ Device) × (after ≡ one_more before))
+Refuses None fault before after = ((fault ≡ Memory) × (after ≡ before)) ⊎ ((fault ≡ Device) × (after ≡ one_failure_more before))
 
 -- done: no reason applied, and this is the table now
 abbrev pub IsDone : Option TreeFault → Table → Table → (before after : Failures) → Type 0

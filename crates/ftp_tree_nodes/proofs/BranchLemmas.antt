@@ -20,7 +20,7 @@ use Rattle.ftp_path.specs.Path.{Names, path_cmp, is_name, is_within, name_in, jo
 use Rattle.ftp_tree.specs.Map.{Node, Dir, File, Map, node_at, under, with_part, children, octets_in, length_of}
 use Rattle.ftp_tree.specs.Rows.{Rows, is_in_order, octets_of_rows}
 use Rattle.ftp_tree.specs.Text.{is_short, is_within_room}
-use Rattle.ftp_tree_nodes.specs.Branch.{IsDirectory, Part, behind, part_rows, parts_table, name_cmp, found, file_alone}
+use Rattle.ftp_tree_nodes.specs.Branch.{IsDirectory, NamedMap, behind, part_rows, parts_table, name_cmp, found, file_alone}
 use Rattle.ftp_tree.proofs.EntryLemmas.{path_total, true-from, T-from, less-from}
 use Rattle.ftp_tree.proofs.MapLemmas.{at-insert, as-part, cmp-front, empty-at, equal-from, false-where, get-node, part-back, part-comes, part-stays, part_whole, same-nodes, under-stands}
 use Rattle.ftp_path.proofs.KeyLemmas.{within-append, within-parts}
@@ -48,7 +48,7 @@ below-append p (x ∷ xs) ys one two =
     let both = and_parts (is_lt (path_cmp p x.0)) (below_all path_cmp p xs) one in
     and_from (is_lt (path_cmp p x.0)) _ both.0 (below-append p xs ys both.1 two)
 
-rows-below : (ps : List Part) → below_all path_cmp [] (part_rows ps) ≡ true
+rows-below : (ps : List NamedMap) → below_all path_cmp [] (part_rows ps) ≡ true
 rows-below [] = refl
 rows-below (p ∷ ps) = below-append [] (behind p) (part_rows ps) (below-front (fin.entries p.1) p.0) (rows-below ps)
 
@@ -58,7 +58,7 @@ front-less n m q [] less = refl
 front-less n m q (x ∷ xs) less =
     and_from (is_lt (path_cmp (n ∷ q) (m ∷ x.0))) _ (ap (λ r. is_lt (ordering_then r (path_cmp q x.0))) less) (front-less n m q xs less)
 
-names-less : (n : List ℕ) (q : Names) (ps : List Part) → below_all name_cmp n ps ≡ true → below_all path_cmp (n ∷ q) (part_rows ps) ≡ true
+names-less : (n : List ℕ) (q : Names) (ps : List NamedMap) → below_all name_cmp n ps ≡ true → below_all path_cmp (n ∷ q) (part_rows ps) ≡ true
 names-less n q [] below = refl
 names-less n q (p ∷ ps) below =
     let both = and_parts (is_lt (name_cmp n p.0)) (below_all name_cmp n ps) below in
@@ -70,7 +70,7 @@ below-inside n q (x ∷ xs) below =
     let both = and_parts (is_lt (path_cmp q x.0)) (below_all path_cmp q xs) below in
     and_from (is_lt (path_cmp (n ∷ q) (n ∷ x.0))) _ (ap is_lt (cmp-front (n ∷ []) q x.0) ∙ both.0) (below-inside n q xs both.1)
 
-sorted-behind : (n : List ℕ) (xs : Rows) (ps : List Part) → is_sorted path_cmp xs ≡ true → below_all name_cmp n ps ≡ true → is_sorted path_cmp (part_rows ps) ≡ true
+sorted-behind : (n : List ℕ) (xs : Rows) (ps : List NamedMap) → is_sorted path_cmp xs ≡ true → below_all name_cmp n ps ≡ true → is_sorted path_cmp (part_rows ps) ≡ true
     → is_sorted path_cmp (map (λ e. (n ∷ e.0, e.1)) xs ++ part_rows ps) ≡ true
 sorted-behind n [] ps sorted below rest = rest
 sorted-behind n (x ∷ xs) ps sorted below rest =
@@ -79,13 +79,13 @@ sorted-behind n (x ∷ xs) ps sorted below rest =
     (below-append (n ∷ x.0) (map (λ e. (n ∷ e.0, e.1)) xs) (part_rows ps) (below-inside n x.0 xs both.0) (names-less n x.0 ps below))
     (sorted-behind n xs ps both.1 below rest)
 
-rows-sorted : (ps : List Part) → is_sorted name_cmp ps ≡ true → is_sorted path_cmp (part_rows ps) ≡ true
+rows-sorted : (ps : List NamedMap) → is_sorted name_cmp ps ≡ true → is_sorted path_cmp (part_rows ps) ≡ true
 rows-sorted [] sorted = refl
 rows-sorted (p ∷ ps) sorted =
     let both = and_parts (below_all name_cmp p.0 ps) (is_sorted name_cmp ps) sorted in
     sorted-behind p.0 (fin.entries p.1) ps (true-from _ (fin.entries_sorted p.1)) both.0 (rows-sorted ps both.1)
 
-pub in-order : (ps : List Part) → is_sorted name_cmp ps ≡ true → is_in_order (part_rows ps) ≡ true
+pub in-order : (ps : List NamedMap) → is_sorted name_cmp ps ≡ true → is_in_order (part_rows ps) ≡ true
 in-order ps sorted = and_from (below_all path_cmp [] (part_rows ps)) _ (rows-below ps) (rows-sorted ps sorted)
 
 -- ---- what stands at a path
@@ -123,7 +123,7 @@ find-own n m q (x ∷ xs) own =
 abbrev pub at-part : Option Map → Names → Option Node
 at-part part q = node_at (found part) q
 
-find-nothing : (n : List ℕ) (q : Names) (ps : List Part) → below_all name_cmp n ps ≡ true → find path_cmp (n ∷ q) (part_rows ps) ≡ None
+find-nothing : (n : List ℕ) (q : Names) (ps : List NamedMap) → below_all name_cmp n ps ≡ true → find path_cmp (n ∷ q) (part_rows ps) ≡ None
 find-nothing n q [] below = refl
 find-nothing n q (p ∷ ps) below =
     let both = and_parts (is_lt (name_cmp n p.0)) (below_all name_cmp n ps) below in
@@ -131,7 +131,7 @@ find-nothing n q (p ∷ ps) below =
     ∙ ap (λ o. cond (is_some o) o (find path_cmp (n ∷ q) (part_rows ps))) (find-other n p.0 q (fin.entries p.1) (ap is_eq (less-from (name_cmp n p.0) both.0)))
     ∙ find-nothing n q ps both.1
 
-found-rows : (n : List ℕ) (q : Names) (ps : List Part) → is_sorted name_cmp ps ≡ true → find path_cmp (n ∷ q) (part_rows ps) ≡ at-part (find name_cmp n ps) q
+found-rows : (n : List ℕ) (q : Names) (ps : List NamedMap) → is_sorted name_cmp ps ≡ true → find path_cmp (n ∷ q) (part_rows ps) ≡ at-part (find name_cmp n ps) q
 found-rows n q [] sorted = sym (empty-at q)
 found-rows n q (p ∷ ps) sorted =
     let both = and_parts (below_all name_cmp p.0 ps) (is_sorted name_cmp ps) sorted in
@@ -149,18 +149,18 @@ found-rows n q (p ∷ ps) sorted =
     all-or None = refl
     all-or (Some node) = refl
 
-    below-tied : (n m : List ℕ) (ps : List Part) → eq_by_cmp name_cmp n m ≡ true → below_all name_cmp m ps ≡ true → below_all name_cmp n ps ≡ true
+    below-tied : (n m : List ℕ) (ps : List NamedMap) → eq_by_cmp name_cmp n m ≡ true → below_all name_cmp m ps ≡ true → below_all name_cmp n ps ≡ true
     below-tied n m ps own below = ap (λ x. below_all name_cmp x ps) (name_same n m (equal-from (name_cmp n m) own)) ∙ below
 
-pub at-top : (ps : List Part) → is_sorted name_cmp ps ≡ true → node_at (parts_table ps) [] ≡ Some Dir
+pub at-top : (ps : List NamedMap) → is_sorted name_cmp ps ≡ true → node_at (parts_table ps) [] ≡ Some Dir
 at-top ps sorted = node_at-root (part_rows ps) (in-order ps sorted)
 
-pub at-name : (ps : List Part) → is_sorted name_cmp ps ≡ true → (n : List ℕ) (q : Names) → node_at (parts_table ps) (n ∷ q) ≡ node_at (found (find name_cmp n ps)) q
+pub at-name : (ps : List NamedMap) → is_sorted name_cmp ps ≡ true → (n : List ℕ) (q : Names) → node_at (parts_table ps) (n ∷ q) ≡ node_at (found (find name_cmp n ps)) q
 at-name ps sorted n q = node_at-name (part_rows ps) (in-order ps sorted) n q ∙ found-rows n q ps sorted
 
 -- ---- the part below a name
 
-pub under-name : (ps : List Part) → is_sorted name_cmp ps ≡ true → (n : List ℕ) → under (parts_table ps) (n ∷ []) ≡ found (find name_cmp n ps)
+pub under-name : (ps : List NamedMap) → is_sorted name_cmp ps ≡ true → (n : List ℕ) → under (parts_table ps) (n ∷ []) ≡ found (find name_cmp n ps)
 under-name ps sorted n = same-nodes _ _ (λ q. under-stands (parts_table ps) (n ∷ []) q ∙ at-name ps sorted n q)
 
 pub under-under : (table : Map) (one other : Names) → under (under table one) other ≡ under table (one ++ other)
@@ -172,7 +172,7 @@ unfolding is_within
 within-name n m q out =
     false-where _ (λ equal. true≢false (sym (within-append (n ∷ []) q) ∙ ap (λ x. is_within (n ∷ []) (x ∷ q)) (sym (name_same m n (equal-from (name_cmp m n) equal))) ∙ out))
 
-pub with-name : (ps : List Part) → is_sorted name_cmp ps ≡ true → (n : List ℕ) (t : Map) → parts_table (put name_cmp n t ps) ≡ with_part (parts_table ps) (n ∷ []) t
+pub with-name : (ps : List NamedMap) → is_sorted name_cmp ps ≡ true → (n : List ℕ) (t : Map) → parts_table (put name_cmp n t ps) ≡ with_part (parts_table ps) (n ∷ []) t
 with-name ps sorted n t =
     let after = true-from _ (is_sorted-put name_cmp name_total n t ps (T-from _ sorted)) in
     sym (as-part (parts_table ps) (n ∷ []) t (parts_table (put name_cmp n t ps))
@@ -186,10 +186,10 @@ with-name ps sorted n t =
         ∙ sym (at-name ps sorted m q)
 
 -- all parts but that of a name
-abbrev pub but : List ℕ → List Part → List Part
+abbrev pub but : List ℕ → List NamedMap → List NamedMap
 but n = where_key name_cmp (λ name. not (eq_by_cmp name_cmp n name))
 
-pub but-name : (ps : List Part) → is_sorted name_cmp ps ≡ true → (n : List ℕ) → parts_table (but n ps) ≡ with_part (parts_table ps) (n ∷ []) fin.empty
+pub but-name : (ps : List NamedMap) → is_sorted name_cmp ps ≡ true → (n : List ℕ) → parts_table (but n ps) ≡ with_part (parts_table ps) (n ∷ []) fin.empty
 but-name ps sorted n =
     let after = true-from _ (is_sorted-where_key name_cmp (λ name. not (eq_by_cmp name_cmp n name)) ps (T-from _ sorted)) in
     let gone : (m : List ℕ) → find name_cmp m (but n ps) ≡ cond (not (eq_by_cmp name_cmp n m)) (find name_cmp m ps) None =
@@ -209,18 +209,18 @@ but-name ps sorted n =
 
 -- ---- how much the parts are together
 
-pub weigh : (Map → ℕ) → List Part → ℕ
+pub weigh : (Map → ℕ) → List NamedMap → ℕ
 weigh w [] = 0
 weigh w (p ∷ ps) = w p.1 + weigh w ps
 
-length-rows : (ps : List Part) → length (part_rows ps) ≡ weigh fin.len ps
+length-rows : (ps : List NamedMap) → length (part_rows ps) ≡ weigh fin.len ps
 unfolding weigh
 length-rows [] = refl
 length-rows (p ∷ ps) =
     length-append (behind p) (part_rows ps) ∙ ap (λ k. k + length (part_rows ps)) (length-map (fin.entries p.1) (λ e. (p.0 ∷ e.0, e.1)) ∙ sym (fin.len-entries p.1))
     ∙ ap (λ k. fin.len p.1 + k) (length-rows ps)
 
-pub len-weigh : (ps : List Part) → is_sorted name_cmp ps ≡ true → fin.len (parts_table ps) ≡ suc (weigh fin.len ps)
+pub len-weigh : (ps : List NamedMap) → is_sorted name_cmp ps ≡ true → fin.len (parts_table ps) ≡ suc (weigh fin.len ps)
 len-weigh ps sorted = len-table (part_rows ps) (in-order ps sorted) ∙ ap suc (length-rows ps)
 
 octets-append : (xs ys : Rows) → octets_of_rows (xs ++ ys) ≡ octets_of_rows xs + octets_of_rows ys
@@ -235,29 +235,29 @@ octets-front n (x ∷ xs) =
     sum_by-cons (λ (e : Names × Node). length_of e.1) (n ∷ x.0, x.1) (map (λ e. (n ∷ e.0, e.1)) xs) ∙ ap (λ k. length_of x.1 + k) (octets-front n xs)
     ∙ sym (sum_by-cons (λ (e : Names × Node). length_of e.1) x xs)
 
-octets-rows : (ps : List Part) → octets_of_rows (part_rows ps) ≡ weigh octets_in ps
+octets-rows : (ps : List NamedMap) → octets_of_rows (part_rows ps) ≡ weigh octets_in ps
 unfolding weigh octets_in
 octets-rows [] = refl
 octets-rows (p ∷ ps) =
     octets-append (behind p) (part_rows ps) ∙ ap (λ k. k + octets_of_rows (part_rows ps)) (octets-front p.0 (fin.entries p.1)) ∙ ap (λ k. octets_in p.1 + k) (octets-rows ps)
 
-pub octets-weigh : (ps : List Part) → is_sorted name_cmp ps ≡ true → octets_in (parts_table ps) ≡ weigh octets_in ps
+pub octets-weigh : (ps : List NamedMap) → is_sorted name_cmp ps ≡ true → octets_in (parts_table ps) ≡ weigh octets_in ps
 octets-weigh ps sorted = octets-table (part_rows ps) (in-order ps sorted) ∙ octets-rows ps
 
-find-later : (n : List ℕ) (ps : List Part) → below_all name_cmp n ps ≡ true → find name_cmp n ps ≡ None
+find-later : (n : List ℕ) (ps : List NamedMap) → below_all name_cmp n ps ≡ true → find name_cmp n ps ≡ None
 find-later n [] below = refl
 find-later n (p ∷ ps) below =
     let both = and_parts (is_lt (name_cmp n p.0)) (below_all name_cmp n ps) below in
     ap (λ r. cond (is_eq r) (Some p.1) (find name_cmp n ps)) (less-from (name_cmp n p.0) both.0) ∙ find-later n ps both.1
 
-below-before : (n m : List ℕ) (ps : List Part) → name_cmp n m ≡ Less → below_all name_cmp m ps ≡ true → below_all name_cmp n ps ≡ true
+below-before : (n m : List ℕ) (ps : List NamedMap) → name_cmp n m ≡ Less → below_all name_cmp m ps ≡ true → below_all name_cmp n ps ≡ true
 below-before n m [] less below = refl
 below-before n m (p ∷ ps) less below =
     let both = and_parts (is_lt (name_cmp m p.0)) (below_all name_cmp m ps) below in
     and_from (is_lt (name_cmp n p.0)) _ (ap is_lt (name_total.trans n m p.0 less (less-from (name_cmp m p.0) both.0))) (below-before n m ps less both.1)
 
 module _ (w : Map → ℕ) (none : w fin.empty ≡ 0) where
-  pub weigh-put : (n : List ℕ) (t : Map) (ps : List Part) → is_sorted name_cmp ps ≡ true → weigh w (put name_cmp n t ps) + w (found (find name_cmp n ps)) ≡ weigh w ps + w t
+  pub weigh-put : (n : List ℕ) (t : Map) (ps : List NamedMap) → is_sorted name_cmp ps ≡ true → weigh w (put name_cmp n t ps) + w (found (find name_cmp n ps)) ≡ weigh w ps + w t
   unfolding weigh
   weigh-put n t [] sorted = omega (arith, none)
   weigh-put n t (p ∷ ps) sorted =
@@ -272,13 +272,13 @@ module _ (w : Map → ℕ) (none : w fin.empty ≡ 0) where
         | Greater ↦ λ greater. omega (arith, rest)
       ] refl
 
-  but-later : (n : List ℕ) (ps : List Part) → below_all name_cmp n ps ≡ true → but n ps ≡ ps
+  but-later : (n : List ℕ) (ps : List NamedMap) → below_all name_cmp n ps ≡ true → but n ps ≡ ps
   but-later n [] below = refl
   but-later n (p ∷ ps) below =
       let both = and_parts (is_lt (name_cmp n p.0)) (below_all name_cmp n ps) below in
       ap (λ r. cond (not (is_eq r)) (p ∷ but n ps) (but n ps)) (less-from (name_cmp n p.0) both.0) ∙ ap (λ rest. p ∷ rest) (but-later n ps both.1)
 
-  pub weigh-but : (n : List ℕ) (ps : List Part) → is_sorted name_cmp ps ≡ true → weigh w (but n ps) + w (found (find name_cmp n ps)) ≡ weigh w ps
+  pub weigh-but : (n : List ℕ) (ps : List NamedMap) → is_sorted name_cmp ps ≡ true → weigh w (but n ps) + w (found (find name_cmp n ps)) ≡ weigh w ps
   unfolding weigh
   weigh-but n [] sorted = omega (arith, none)
   weigh-but n (p ∷ ps) sorted =
@@ -367,7 +367,7 @@ with-cons table name rest part =
 pub with-nothing : (table : Map) (path : Names) → under table path ≡ fin.empty → with_part table path fin.empty ≡ table
 with-nothing table path none = ap (with_part table path) (sym none) ∙ part-back table path
 
-named-put : (n : List ℕ) (t : Map) (ps : List Part) → is_name n ≡ true → list_all (λ p. is_name p.0) ps ≡ true → list_all (λ p. is_name p.0) (put name_cmp n t ps) ≡ true
+named-put : (n : List ℕ) (t : Map) (ps : List NamedMap) → is_name n ≡ true → list_all (λ p. is_name p.0) ps ≡ true → list_all (λ p. is_name p.0) (put name_cmp n t ps) ≡ true
 named-put n t [] here all = and_from (is_name n) true here refl
 named-put n t (p ∷ ps) here all =
     let both = and_parts (is_name p.0) (list_all (λ p. is_name p.0) ps) all in
@@ -377,7 +377,7 @@ named-put n t (p ∷ ps) here all =
       | Greater ↦ and_from (is_name p.0) _ both.0 (named-put n t ps here both.1)
     ]
 
-stands-put : (n : List ℕ) (t : Map) (ps : List Part) → is_some (node_at t []) ≡ true → list_all (λ p. is_some (node_at p.1 [])) ps ≡ true → list_all (λ p. is_some (node_at p.1 [])) (put name_cmp n t ps) ≡ true
+stands-put : (n : List ℕ) (t : Map) (ps : List NamedMap) → is_some (node_at t []) ≡ true → list_all (λ p. is_some (node_at p.1 [])) ps ≡ true → list_all (λ p. is_some (node_at p.1 [])) (put name_cmp n t ps) ≡ true
 stands-put n t [] here all = and_from (is_some (node_at t [])) true here refl
 stands-put n t (p ∷ ps) here all =
     let both = and_parts (is_some (node_at p.1 [])) (list_all (λ p. is_some (node_at p.1 [])) ps) all in
@@ -387,7 +387,7 @@ stands-put n t (p ∷ ps) here all =
       | Greater ↦ and_from (is_some (node_at p.1 [])) _ both.0 (stands-put n t ps here both.1)
     ]
 
-all-but : (f : Part → Bool) (n : List ℕ) (ps : List Part) → list_all f ps ≡ true → list_all f (but n ps) ≡ true
+all-but : (f : NamedMap → Bool) (n : List ℕ) (ps : List NamedMap) → list_all f ps ≡ true → list_all f (but n ps) ≡ true
 all-but f n [] all = refl
 all-but f n (p ∷ ps) all =
     let both = and_parts (f p) (list_all f ps) all in
@@ -397,21 +397,21 @@ all-but f n (p ∷ ps) all =
     ]
 
 -- how much there is where a part takes the place of another: some more, and some gone
-pub record Changes (ps : List Part) (n : List ℕ) (t : Map) (more gone : ℕ) (w : Map → ℕ) : Type 0 where
+pub record Changes (ps : List NamedMap) (n : List ℕ) (t : Map) (more gone : ℕ) (w : Map → ℕ) : Type 0 where
   pub whole : w t + gone ≡ w (found (find name_cmp n ps)) + more
 
-weighs-changed : (ps : List Part) (n : List ℕ) (t : Map) (more gone : ℕ) (w : Map → ℕ) → w fin.empty ≡ 0 → is_sorted name_cmp ps ≡ true → Changes ps n t more gone w
+weighs-changed : (ps : List NamedMap) (n : List ℕ) (t : Map) (more gone : ℕ) (w : Map → ℕ) → w fin.empty ≡ 0 → is_sorted name_cmp ps ≡ true → Changes ps n t more gone w
     → weigh w (put name_cmp n t ps) + gone ≡ weigh w ps + more
 weighs-changed ps n t more gone w none sorted changes = let put = weigh-put w none n t ps sorted in let whole = changes.whole in omega arith
 
-pub record IsPut (ps : List Part) (n : List ℕ) (t : Map) (nodes octets more_nodes more_octets gone_nodes gone_octets : ℕ) : Type 0 where
+pub record IsPut (ps : List NamedMap) (n : List ℕ) (t : Map) (nodes octets more_nodes more_octets gone_nodes gone_octets : ℕ) : Type 0 where
   pub nodes_fit : gone_nodes ≤ nodes + more_nodes
   pub octets_fit : gone_octets ≤ octets + more_octets
   pub directory : IsDirectory (put name_cmp n t ps) (nodes + more_nodes - gone_nodes) (octets + more_octets - gone_octets)
   pub nodes_are : fin.len (parts_table (put name_cmp n t ps)) + gone_nodes ≡ fin.len (parts_table ps) + more_nodes
   pub octets_are : octets_in (parts_table (put name_cmp n t ps)) + gone_octets ≡ octets_in (parts_table ps) + more_octets
 
-pub is-put : (ps : List Part) (n : List ℕ) (t : Map) (nodes octets more_nodes more_octets gone_nodes gone_octets : ℕ) → IsDirectory ps nodes octets → is_name n ≡ true → is_some (node_at t []) ≡ true
+pub is-put : (ps : List NamedMap) (n : List ℕ) (t : Map) (nodes octets more_nodes more_octets gone_nodes gone_octets : ℕ) → IsDirectory ps nodes octets → is_name n ≡ true → is_some (node_at t []) ≡ true
     → Changes ps n t more_nodes gone_nodes fin.len → Changes ps n t more_octets gone_octets octets_in → IsPut ps n t nodes octets more_nodes more_octets gone_nodes gone_octets
 is-put ps n t nodes octets more_nodes more_octets gone_nodes gone_octets old named stands few many =
     let after = true-from _ (is_sorted-put name_cmp name_total n t ps (T-from _ old.sorted)) in
@@ -438,14 +438,14 @@ is-put ps n t nodes octets more_nodes more_octets gone_nodes gone_octets old nam
       octets_are = omega arith;
     }
 
-pub record IsGone (ps : List Part) (n : List ℕ) (nodes octets : ℕ) : Type 0 where
+pub record IsGone (ps : List NamedMap) (n : List ℕ) (nodes octets : ℕ) : Type 0 where
   pub nodes_fit : fin.len (found (find name_cmp n ps)) ≤ nodes
   pub octets_fit : octets_in (found (find name_cmp n ps)) ≤ octets
   pub directory : IsDirectory (but n ps) (nodes - fin.len (found (find name_cmp n ps))) (octets - octets_in (found (find name_cmp n ps)))
   pub nodes_are : fin.len (parts_table (but n ps)) + fin.len (found (find name_cmp n ps)) ≡ fin.len (parts_table ps)
   pub octets_are : octets_in (parts_table (but n ps)) + octets_in (found (find name_cmp n ps)) ≡ octets_in (parts_table ps)
 
-pub is-gone : (ps : List Part) (n : List ℕ) (nodes octets : ℕ) → IsDirectory ps nodes octets → IsGone ps n nodes octets
+pub is-gone : (ps : List NamedMap) (n : List ℕ) (nodes octets : ℕ) → IsDirectory ps nodes octets → IsGone ps n nodes octets
 is-gone ps n nodes octets old =
     let after = true-from _ (is_sorted-where_key name_cmp (λ name. not (eq_by_cmp name_cmp n name)) ps (T-from _ old.sorted)) in
     let before_len = len-weigh ps old.sorted in
@@ -495,7 +495,7 @@ names-front : (n : List ℕ) (xs : Rows) → filter_map (λ (row : Names × Node
 names-front n [] = refl
 names-front n (x ∷ xs) = ap (cons_option (name_in [] (n ∷ x.0))) (names-front n xs)
 
-names-rows : (ps : List Part) → list_all (λ p. is_some (node_at p.1 [])) ps ≡ true → filter_map (λ (row : Names × Node). name_in [] row.0) (part_rows ps) ≡ map (λ p. p.0) ps
+names-rows : (ps : List NamedMap) → list_all (λ p. is_some (node_at p.1 [])) ps ≡ true → filter_map (λ (row : Names × Node). name_in [] row.0) (part_rows ps) ≡ map (λ p. p.0) ps
 names-rows [] all = refl
 names-rows (p ∷ ps) all =
     let both = and_parts (is_some (node_at p.1 [])) (list_all (λ p. is_some (node_at p.1 [])) ps) all in
@@ -504,7 +504,7 @@ names-rows (p ∷ ps) all =
     ∙ one-name p.0 (fin.entries p.1) (true-from _ (fin.entries_sorted p.1)) (ap is_some (get-node p.1 []) ∙ both.0))
     ∙ ap (λ l. p.0 ∷ l) (names-rows ps both.1)
 
-pub names-top : (ps : List Part) (nodes octets : ℕ) → IsDirectory ps nodes octets → children (parts_table ps) [] ≡ map (λ p. p.0) ps
+pub names-top : (ps : List NamedMap) (nodes octets : ℕ) → IsDirectory ps nodes octets → children (parts_table ps) [] ≡ map (λ p. p.0) ps
 names-top ps nodes octets here = children-table (part_rows ps) (in-order ps here.sorted) [] ∙ names-rows ps here.standing
 
 pub file-names : (octets : List ℕ) (moment : ℕ) → children (file_alone octets moment) [] ≡ []
@@ -516,18 +516,18 @@ keys-front f n [] = refl
 keys-front f n (x ∷ xs) = ap (λ b. f (n ∷ x.0) && b) (keys-front f n xs)
 
 -- a test of each path in each part
-pub all-parts : (Names → Bool) → List Part → Bool
+pub all-parts : (Names → Bool) → List NamedMap → Bool
 all-parts f [] = true
 all-parts f (p ∷ ps) = list_all (λ q. f (p.0 ∷ q)) (fin.keys p.1) && all-parts f ps
 
-keys-rows : (f : Names → Bool) (ps : List Part) → list_all f (map (λ (e : Names × Node). e.0) (part_rows ps)) ≡ all-parts f ps
+keys-rows : (f : Names → Bool) (ps : List NamedMap) → list_all f (map (λ (e : Names × Node). e.0) (part_rows ps)) ≡ all-parts f ps
 unfolding all-parts
 keys-rows f [] = refl
 keys-rows f (p ∷ ps) =
     ap (list_all f) (map-append (λ (e : Names × Node). e.0) (behind p) (part_rows ps)) ∙ list_all-append f (map (λ (e : Names × Node). e.0) (behind p)) (map (λ (e : Names × Node). e.0) (part_rows ps))
     ∙ ap (λ b. b && list_all f (map (λ (e : Names × Node). e.0) (part_rows ps))) (keys-front f p.0 (fin.entries p.1)) ∙ ap (λ b. list_all (λ q. f (p.0 ∷ q)) (fin.keys p.1) && b) (keys-rows f ps)
 
-pub keys-parts : (f : Names → Bool) (ps : List Part) → is_sorted name_cmp ps ≡ true → list_all f (fin.keys (parts_table ps)) ≡ (f [] && all-parts f ps)
+pub keys-parts : (f : Names → Bool) (ps : List NamedMap) → is_sorted name_cmp ps ≡ true → list_all f (fin.keys (parts_table ps)) ≡ (f [] && all-parts f ps)
 keys-parts f ps sorted = ap (λ (l : Rows). list_all f (map (λ (e : Names × Node). e.0) l)) (entries-table (part_rows ps) (in-order ps sorted)) ∙ ap (λ b. f [] && b) (keys-rows f ps)
 
 pub file-keys : (f : Names → Bool) (octets : List ℕ) (moment : ℕ) → list_all f (fin.keys (file_alone octets moment)) ≡ (f [] && true)
@@ -535,7 +535,7 @@ file-keys f octets moment = ap (λ (l : Rows). list_all f (map (λ (e : Names ×
 
 -- ---- a part that is changed below, put anew, taken
 
-stands-found : (n : List ℕ) (ps : List Part) (t : Map) → list_all (λ p. is_some (node_at p.1 [])) ps ≡ true → find name_cmp n ps ≡ Some t → is_some (node_at t []) ≡ true
+stands-found : (n : List ℕ) (ps : List NamedMap) (t : Map) → list_all (λ p. is_some (node_at p.1 [])) ps ≡ true → find name_cmp n ps ≡ Some t → is_some (node_at t []) ≡ true
 stands-found n [] t all found = cc
 stands-found n (p ∷ ps) t all found =
     let both = and_parts (is_some (node_at p.1 [])) (list_all (λ p. is_some (node_at p.1 [])) ps) all in
@@ -553,16 +553,16 @@ stands-with table [] part stands below = ap (λ t. is_some (node_at t [])) (part
 stands-with table (name ∷ rest) part stands below = ap is_some (part-stays table (name ∷ rest) part [] (out-top name rest)) ∙ stands
 
 -- what the part below a name becomes, the directory becomes with it
-with-below : (ps : List Part) → is_sorted name_cmp ps ≡ true → (n : List ℕ) (rest : Names) (old new part : Map) → find name_cmp n ps ≡ Some old → new ≡ with_part old rest part
+with-below : (ps : List NamedMap) → is_sorted name_cmp ps ≡ true → (n : List ℕ) (rest : Names) (old new part : Map) → find name_cmp n ps ≡ Some old → new ≡ with_part old rest part
     → parts_table (put name_cmp n new ps) ≡ with_part (parts_table ps) (n ∷ rest) part
 with-below ps sorted n rest old new part there is =
     with-name ps sorted n new ∙ ap (with_part (parts_table ps) (n ∷ [])) (is ∙ ap (λ t. with_part t rest part) (sym (under-name ps sorted n ∙ ap found there))) ∙ sym (with-cons (parts_table ps) n rest part)
 
-pub record PutsBelow (ps : List Part) (n : List ℕ) (rest : Names) (new node : Map) (nodes octets more_nodes more_octets gone_nodes gone_octets : ℕ) : Type 0 where
+pub record PutsBelow (ps : List NamedMap) (n : List ℕ) (rest : Names) (new node : Map) (nodes octets more_nodes more_octets gone_nodes gone_octets : ℕ) : Type 0 where
   pub done : IsPut ps n new nodes octets more_nodes more_octets gone_nodes gone_octets
   pub table : parts_table (put name_cmp n new ps) ≡ with_part (parts_table ps) (n ∷ rest) node
 
-pub puts-below : (ps : List Part) (nodes octets : ℕ) (n : List ℕ) (rest : Names) (old new node : Map) (gone_nodes gone_octets : ℕ) → IsDirectory ps nodes octets → is_name n ≡ true → find name_cmp n ps ≡ Some old
+pub puts-below : (ps : List NamedMap) (nodes octets : ℕ) (n : List ℕ) (rest : Names) (old new node : Map) (gone_nodes gone_octets : ℕ) → IsDirectory ps nodes octets → is_name n ≡ true → find name_cmp n ps ≡ Some old
     → is_some (node_at node []) ≡ true → new ≡ with_part old rest node → fin.len new + gone_nodes ≡ fin.len old + fin.len node → octets_in new + gone_octets ≡ octets_in old + octets_in node
     → PutsBelow ps n rest new node nodes octets (fin.len node) (octets_in node) gone_nodes gone_octets
 puts-below ps nodes octets n rest old new node gone_nodes gone_octets here named there stands is few many =
@@ -573,7 +573,7 @@ puts-below ps nodes octets n rest old new node gone_nodes gone_octets here named
       table = with-below ps here.sorted n rest old new node there is;
     }
 
-pub puts-new : (ps : List Part) (nodes octets : ℕ) (n : List ℕ) (rest : Names) (node : Map) → IsDirectory ps nodes octets → is_name n ≡ true → find name_cmp n ps ≡ None → rest ≡ []
+pub puts-new : (ps : List NamedMap) (nodes octets : ℕ) (n : List ℕ) (rest : Names) (node : Map) → IsDirectory ps nodes octets → is_name n ≡ true → find name_cmp n ps ≡ None → rest ≡ []
     → is_some (node_at node []) ≡ true → PutsBelow ps n rest node node nodes octets (fin.len node) (octets_in node) 0 0
 puts-new ps nodes octets n rest node here named none last stands =
     let no_nodes : fin.len (found (find name_cmp n ps)) ≡ 0 = ap (λ t. fin.len (found t)) none ∙ len-empty in
@@ -584,11 +584,11 @@ puts-new ps nodes octets n rest node here named none last stands =
     }
 
 -- a part that is as it was
-pub record StaysBelow (ps : List Part) (n : List ℕ) (new : Map) (nodes octets : ℕ) : Type 0 where
+pub record StaysBelow (ps : List NamedMap) (n : List ℕ) (new : Map) (nodes octets : ℕ) : Type 0 where
   pub directory : IsDirectory (put name_cmp n new ps) nodes octets
   pub table : parts_table (put name_cmp n new ps) ≡ parts_table ps
 
-pub stays-below : (ps : List Part) (nodes octets : ℕ) (n : List ℕ) (old new : Map) → IsDirectory ps nodes octets → is_name n ≡ true → find name_cmp n ps ≡ Some old → new ≡ old → StaysBelow ps n new nodes octets
+pub stays-below : (ps : List NamedMap) (nodes octets : ℕ) (n : List ℕ) (old new : Map) → IsDirectory ps nodes octets → is_name n ≡ true → find name_cmp n ps ≡ Some old → new ≡ old → StaysBelow ps n new nodes octets
 stays-below ps nodes octets n old new here named there same =
     let stands = ap (λ t. is_some (node_at t [])) same ∙ stands-found n ps old here.standing there in
     let few : fin.len new + 0 ≡ fin.len (found (find name_cmp n ps)) + 0 = ap (λ t. fin.len t + 0) same ∙ ap (λ t. fin.len (found t) + 0) (sym there) in
@@ -601,16 +601,16 @@ stays-below ps nodes octets n old new here named there same =
       table = with-name ps here.sorted n new ∙ ap (with_part (parts_table ps) (n ∷ [])) (same ∙ sym (under-name ps here.sorted n ∙ ap found there)) ∙ part-back (parts_table ps) (n ∷ []);
     }
 
-pub directory-as : (ps new : List Part) (nodes octets new_nodes new_octets : ℕ) → IsDirectory ps nodes octets → new ≡ ps → new_nodes ≡ nodes → new_octets ≡ octets → IsDirectory new new_nodes new_octets
+pub directory-as : (ps new : List NamedMap) (nodes octets new_nodes new_octets : ℕ) → IsDirectory ps nodes octets → new ≡ ps → new_nodes ≡ nodes → new_octets ≡ octets → IsDirectory new new_nodes new_octets
 directory-as ps new nodes octets new_nodes new_octets here same few many =
     subst (λ l. IsDirectory l new_nodes new_octets) (sym same) (subst (λ k. IsDirectory ps k new_octets) (sym few) (subst (λ k. IsDirectory ps nodes k) (sym many) here))
 
-pub record TakesBelow (ps : List Part) (n : List ℕ) (rest : Names) (new taken : Map) (nodes octets : ℕ) : Type 0 where
+pub record TakesBelow (ps : List NamedMap) (n : List ℕ) (rest : Names) (new taken : Map) (nodes octets : ℕ) : Type 0 where
   pub done : IsPut ps n new nodes octets 0 0 (fin.len taken) (octets_in taken)
   pub table : parts_table (put name_cmp n new ps) ≡ with_part (parts_table ps) (n ∷ rest) fin.empty
   pub is : taken ≡ under (parts_table ps) (n ∷ rest)
 
-pub takes-below : (ps : List Part) (nodes octets : ℕ) (n : List ℕ) (rest : Names) (old new taken : Map) → IsDirectory ps nodes octets → is_name n ≡ true → find name_cmp n ps ≡ Some old → (rest ≡ [] → ⊥)
+pub takes-below : (ps : List NamedMap) (nodes octets : ℕ) (n : List ℕ) (rest : Names) (old new taken : Map) → IsDirectory ps nodes octets → is_name n ≡ true → find name_cmp n ps ≡ Some old → (rest ≡ [] → ⊥)
     → new ≡ with_part old rest fin.empty → taken ≡ under old rest → fin.len new + fin.len taken ≡ fin.len old → octets_in new + octets_in taken ≡ octets_in old → TakesBelow ps n rest new taken nodes octets
 takes-below ps nodes octets n rest old new taken here named there some is took few many =
     let standing = ap (λ t. is_some (node_at t [])) is ∙ stands-with old rest fin.empty (stands-found n ps old here.standing there) (λ none. absurd (some none)) in
@@ -623,7 +623,7 @@ takes-below ps nodes octets n rest old new taken here named there some is took f
     }
 
 -- nothing stands below a name that is not there, nor below a file
-pub none-below : (ps : List Part) → is_sorted name_cmp ps ≡ true → (n : List ℕ) (rest : Names) → find name_cmp n ps ≡ None → under (parts_table ps) (n ∷ rest) ≡ fin.empty
+pub none-below : (ps : List NamedMap) → is_sorted name_cmp ps ≡ true → (n : List ℕ) (rest : Names) → find name_cmp n ps ≡ None → under (parts_table ps) (n ∷ rest) ≡ fin.empty
 none-below ps sorted n rest none = sym (under-under (parts_table ps) (n ∷ []) rest) ∙ ap (λ t. under t rest) (under-name ps sorted n ∙ ap found none) ∙ under-empty rest
 
 pub file-under : (octets : List ℕ) (moment : ℕ) (names : Names) → (names ≡ [] → ⊥) → under (file_alone octets moment) names ≡ fin.empty
@@ -682,7 +682,7 @@ room-behind room n t short less =
     by : (one rest room : ℕ) → one < room → nat_le (1 + (one + rest)) room ≡ nat_le rest (room - one - 1)
     by one rest room less = grind (arith, nat_tests)
 
-pub all-parts-append : (f : Names → Bool) (ps qs : List Part) → all-parts f (ps ++ qs) ≡ (all-parts f ps && all-parts f qs)
+pub all-parts-append : (f : Names → Bool) (ps qs : List NamedMap) → all-parts f (ps ++ qs) ≡ (all-parts f ps && all-parts f qs)
 unfolding all-parts
 all-parts-append f [] qs = refl
 all-parts-append f (p ∷ ps) qs = ap (λ b. list_all (λ q. f (p.0 ∷ q)) (fin.keys p.1) && b) (all-parts-append f ps qs) ∙ and-assoc (list_all (λ q. f (p.0 ∷ q)) (fin.keys p.1)) (all-parts f ps) (all-parts f qs)
@@ -691,7 +691,7 @@ pub all-parts-none : (f : Names → Bool) → all-parts f [] ≡ true
 unfolding all-parts
 all-parts-none f = refl
 
-pub all-parts-one : (f : Names → Bool) (p : Part) → all-parts f (p ∷ []) ≡ list_all (λ q. f (p.0 ∷ q)) (fin.keys p.1)
+pub all-parts-one : (f : Names → Bool) (p : NamedMap) → all-parts f (p ∷ []) ≡ list_all (λ q. f (p.0 ∷ q)) (fin.keys p.1)
 unfolding all-parts
 all-parts-one f p = by (list_all (λ q. f (p.0 ∷ q)) (fin.keys p.1))
   where
@@ -703,7 +703,7 @@ pub top-within : (room : ℕ) → is_within_room room [] ≡ true
 top-within room = le-leb 0 room (omega arith)
 
 -- a part is no more than the whole
-pub part-le : (ps : List Part) (nodes octets : ℕ) (n : List ℕ) (old : Map) → IsDirectory ps nodes octets → find name_cmp n ps ≡ Some old → (fin.len old ≤ fin.len (parts_table ps)) × (octets_in old ≤ octets_in (parts_table ps))
+pub part-le : (ps : List NamedMap) (nodes octets : ℕ) (n : List ℕ) (old : Map) → IsDirectory ps nodes octets → find name_cmp n ps ≡ Some old → (fin.len old ≤ fin.len (parts_table ps)) × (octets_in old ≤ octets_in (parts_table ps))
 part-le ps nodes octets n old here there =
     let all_nodes = len-weigh ps here.sorted in
     let some_nodes = weigh-but fin.len len-empty n ps here.sorted in

@@ -8,7 +8,7 @@ use Rattle.std.specs.Ordering.{is_eq, is_lt}
 use Rattle.std.proofs.lemmas.Bool.{and_parts}
 use Rattle.ftp_path.specs.Path.{Names}
 use Rattle.ftp_tree.specs.Map.{Node, Map, children, entries_at, node_at, of_node, shown_of, under}
-use Rattle.ftp_tree_nodes.specs.Branch.{IsDirectory, Part, file_alone, found, name_cmp, parts_table}
+use Rattle.ftp_tree_nodes.specs.Branch.{IsDirectory, NamedMap, file_alone, found, name_cmp, parts_table}
 use Rattle.ftp_tree_nodes.specs.Store.{shown_part}
 use Rattle.ftp_tree_nodes.proofs.BranchLemmas.{at-name, file-names, name_total, names-top}
 use Rattle.ftp_tree.proofs.MapLemmas.{under-stands}
@@ -22,7 +22,7 @@ module _ (shown : Option Map → Option (ℕ × ℕ)) where
   row name stands = (name, shown stands)
 
   -- a part whose name comes before them hides none of some names
-  past-first : (e : Part) (es xs : List Part) → below_all name_cmp e.0 xs ≡ true
+  past-first : (e : NamedMap) (es xs : List NamedMap) → below_all name_cmp e.0 xs ≡ true
       → map (λ name. row name (find name_cmp name (e ∷ es))) (map (λ p. p.0) xs) ≡ map (λ name. row name (find name_cmp name es)) (map (λ p. p.0) xs)
   past-first e es [] below = refl
   past-first e es (x ∷ xs) below =
@@ -31,7 +31,7 @@ module _ (shown : Option Map → Option (ℕ × ℕ)) where
       λ i. row x.0 (first i) ∷ past-first e es xs both.1 i
 
   -- each part is what stands by its name
-  each-part : (ps : List Part) → is_sorted name_cmp ps ≡ true → map (λ name. row name (find name_cmp name ps)) (map (λ p. p.0) ps) ≡ map (λ p. row p.0 (Some p.1)) ps
+  each-part : (ps : List NamedMap) → is_sorted name_cmp ps ≡ true → map (λ name. row name (find name_cmp name ps)) (map (λ p. p.0) ps) ≡ map (λ p. row p.0 (Some p.1)) ps
   each-part [] sorted = refl
   each-part (e ∷ es) sorted =
       let both = and_parts (below_all name_cmp e.0 es) (is_sorted name_cmp es) sorted in
@@ -47,7 +47,7 @@ abbrev shown_with : List ℕ → Option Node → List ℕ × Option (ℕ × ℕ)
 shown_with name node = (name, of_node shown_of node)
 
 -- a directory shows each of its parts
-pub entries-top : (ps : List Part) (nodes octets : ℕ) → IsDirectory ps nodes octets → entries_at (parts_table ps) [] ≡ map shown_part ps
+pub entries-top : (ps : List NamedMap) (nodes octets : ℕ) → IsDirectory ps nodes octets → entries_at (parts_table ps) [] ≡ map shown_part ps
 unfolding entries_at
 entries-top ps nodes octets here =
     ap (map (shown_by (parts_table ps))) (names-top ps nodes octets here)

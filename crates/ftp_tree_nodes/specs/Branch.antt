@@ -20,29 +20,29 @@ abbrev pub name_cmp : List ℕ → List ℕ → Ordering
 name_cmp = slice_cmp nat_cmp
 
 -- a name in a directory, and the map of what stands there and below
-abbrev pub Part : Type 0
-Part = List ℕ × Map
+abbrev pub NamedMap : Type 0
+NamedMap = List ℕ × Map
 
 -- the paths of a part from the directory on
-abbrev pub behind : Part → Rows
+abbrev pub behind : NamedMap → Rows
 behind part = map (λ entry. (part.0 ∷ entry.0, entry.1)) (fin.entries part.1)
 
-abbrev pub part_rows : List Part → Rows
+abbrev pub part_rows : List NamedMap → Rows
 part_rows = flat_map behind
 
 -- the map of a directory
-abbrev pub parts_table : List Part → Map
+abbrev pub parts_table : List NamedMap → Map
 parts_table parts = table_of (part_rows parts)
 
 -- the map of a file
 abbrev pub file_alone : List ℕ → ℕ → Map
 file_alone octets moment = fin.insert fin.empty [] (File octets moment)
 
-abbrev pub part : {A C : Type 0} → Box (Child A C) A → Part
-part child = (child.value.name, child.value.node)
+abbrev pub part_of_child : {A C : Type 0} → Box (Child A C) A → NamedMap
+part_of_child child = (child.value.name, child.value.node)
 
-abbrev pub parts : {A C : Type 0} → List (Box (Child A C) A) → List Part
-parts = map part
+abbrev pub parts : {A C : Type 0} → List (Box (Child A C) A) → List NamedMap
+parts = map part_of_child
 
 -- the map of a node, by what octets a file holds
 abbrev pub branch_table : {A C : Type 0} → (C → List ℕ) → Branch A C → Map
@@ -50,7 +50,7 @@ branch_table octets (branch.File content moment) = file_alone (octets content) m
 branch_table octets (branch.Dir children count) = parts_table (parts children.items)
 
 -- the names rise and are names, and the two counts are those of the map
-pub record IsDirectory (parts : List Part) (nodes octets : ℕ) : Type 0 where
+pub record IsDirectory (parts : List NamedMap) (nodes octets : ℕ) : Type 0 where
   pub sorted : IsTrue (is_sorted name_cmp parts)
   pub rows : IsTrue (is_in_order (part_rows parts))
   pub named : IsTrue (list_all (λ part. is_name part.0) parts)
@@ -69,13 +69,13 @@ found part = unwrap_or part fin.empty
 -- ---- where a name stands
 
 -- the name stands at a place, and those before it come before
-abbrev pub StandsAt : List Part → List ℕ → ℕ → Type 0
-StandsAt [] name at = ⊥
-StandsAt (first ∷ others) name zero = first.0 ≡ name
-StandsAt (first ∷ others) name (suc at) = (name_cmp first.0 name ≡ Less) × StandsAt others name at
+abbrev pub NameStandsAt : List NamedMap → List ℕ → ℕ → Type 0
+NameStandsAt [] name at = ⊥
+NameStandsAt (first ∷ others) name zero = first.0 ≡ name
+NameStandsAt (first ∷ others) name (suc at) = (name_cmp first.0 name ≡ Less) × NameStandsAt others name at
 
 -- the name would go there: those before it come before, and the next one after it
-abbrev pub HasGap : List Part → List ℕ → ℕ → Type 0
+abbrev pub HasGap : List NamedMap → List ℕ → ℕ → Type 0
 HasGap [] name zero = Unit {0}
 HasGap [] name (suc at) = ⊥
 HasGap (first ∷ others) name zero = name_cmp first.0 name ≡ Greater

@@ -7,7 +7,7 @@ use Rattle.std.specs.declared.alloc.Allocator.{Ghosts}
 use Rattle.ftp_path.specs.Path.{path_cmp}
 use Rattle.ftp_tree.specs.Rows.{is_in_order, table_of}
 use Rattle.ftp_tree.specs.Map.{Dir}
-use Rattle.ftp_tree_nodes.specs.Branch.{IsBranch, Part, behind, part_rows, parts, parts_table, branch_table}
+use Rattle.ftp_tree_nodes.specs.Branch.{IsBranch, NamedMap, behind, part_rows, parts, parts_table, branch_table}
 use Rattle.ftp_tree_nodes.specs.declared.holder.Holder.{Ghosts as HolderGhosts}
 use Rattle.ftp_tree_nodes.specs.declared.node.Branch.{Branch}
 use Rattle.ftp_tree_nodes.specs.declared.node.Branch.TheVariants.{File, Dir as Directory}
@@ -19,7 +19,7 @@ use denote.Param.Weighed.{most}
 T-true : (b : Bool) → b ≡ true → T b
 T-true b e = subst T (sym e) tt
 
-len-parts : (ps : List Part) → is_in_order (part_rows ps) ≡ true → fin.len (parts_table ps) ≡ suc (length (part_rows ps))
+len-parts : (ps : List NamedMap) → is_in_order (part_rows ps) ≡ true → fin.len (parts_table ps) ≡ suc (length (part_rows ps))
 unfolding table_of
 len-parts ps sorted = fin.len-entries (parts_table ps) ∙ ap length (fin.entries-from_sorted path_cmp (([], Dir) ∷ part_rows ps) (T-true _ sorted))
 

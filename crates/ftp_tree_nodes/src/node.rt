@@ -7,7 +7,7 @@ ghost use Rattle.std.specs.List.{list_all, remove, slice_get};
 ghost use Rattle.std.specs.Option.{option_map};
 ghost use Rattle.ftp_path.specs.Kept.{names_of};
 ghost use Rattle.ftp_path.specs.Path.{is_name};
-ghost use Rattle.ftp_tree_nodes.specs.Branch.{HasGap, StandsAt, file_alone, found, name_cmp, parts};
+ghost use Rattle.ftp_tree_nodes.specs.Branch.{HasGap, NameStandsAt, file_alone, found, name_cmp, parts};
 ghost use Rattle.ftp_tree.specs.Text.{is_within_room};
 ghost use Rattle.ftp_tree.specs.Entries.{shown_file};
 ghost use Rattle.ftp_tree_nodes.specs.Store.{shown_part};
@@ -380,7 +380,7 @@ fn remove_child<A: Allocator + Copy, C: Holder>(
     at: usize,
 ) -> Node<A, C>
     requires within { at < length children.old.items }
-    ensures node { (name : List ℕ) → StandsAt (parts children.old.items) name at → Some result ≡ looked_up name_cmp name (parts children.old.items) }
+    ensures node { (name : List ℕ) → NameStandsAt (parts children.old.items) name at → Some result ≡ looked_up name_cmp name (parts children.old.items) }
     ensures left { children.new.items ≡ remove children.old.items at }
 {
     Box::into_inner(children.remove(at)).node
@@ -435,7 +435,7 @@ fn search<A: Allocator + Copy, C: Holder>(
     name: &[u8],
 ) -> Result<usize, usize>
     requires { IsTrue (is_sorted name_cmp (parts children.now)) }
-    ensures there { IfOk result (λ at. StandsAt (parts children.now) name.now at) }
+    ensures there { IfOk result (λ at. NameStandsAt (parts children.now) name.now at) }
     ensures gap { IfErr result (λ at. HasGap (parts children.now) name.now at) }
     ensures within { IfOk result (λ at. at < length children.now) }
     ensures bound { IfErr result (λ at. at ≤ length children.now) }

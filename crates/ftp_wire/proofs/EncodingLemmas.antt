@@ -21,7 +21,7 @@ use Rattle.ftp_settings.specs.declared.representation.Mode.{Mode}
 use Rattle.ftp_settings.specs.declared.representation.Mode.TheVariants.{Stream, Block}
 use Rattle.ftp_mode.specs.Block.{marked_text}
 use Rattle.ftp_mode.specs.Framing.{owed_octets, writing, still_to_write}
-use Rattle.ftp_mode.specs.Writing.{Writing, copying, free, held, filling, at_record, closed, manner, writer, write_step, write_out, blank, with_marks}
+use Rattle.ftp_mode.specs.Writing.{Writing, copying, free, held, filling, at_record, closed, manner, writer, write_step, write_out, blank_writing, with_marks}
 use Rattle.ftp_mode.specs.declared.framer.Framer.{Framer}
 use Rattle.ftp_mode.proofs.WrittenLemmas.{writes_wire, writes_marked}
 use Rattle.ftp_mode.proofs.WriterLemmas.{gives-closed}
@@ -57,7 +57,7 @@ shape k s m = record { kind = k; structure = s; mode = m }
 
 -- own markers, where the representation has them
 pub starts_marked : (k : Kind) (s : Structure) (m : Mode) (start : ℕ) (file : List ℕ) → has_markers (shape k s m) ≡ true → start + length file < 2 ^ 64
-    → gives writer (with_marks start (blank m s)) (signs_of (form_of (shape k s m)) file) ≡ marked_text start file
+    → gives writer (with_marks start (blank_writing m s)) (signs_of (form_of (shape k s m)) file) ≡ marked_text start file
 starts_marked Image File Block start file has fits = writes_marked start file fits
 starts_marked Image File Stream start file has fits = absurd (false≢true has)
 starts_marked Image Record Stream start file has fits = absurd (false≢true has)
@@ -66,18 +66,18 @@ starts_marked Ascii s m start file has fits = absurd (false≢true has)
 
 -- the one text with own markers, or the one without
 pub text_marked : (r : Representation) (f : Framer) (s : Sender) (start : ℕ) (file : List ℕ) → owed_octets f ≡ [] → has_sent_end s ≡ false → sender_form s ≡ form_of r
-    → has_markers r ≡ true → writing f ≡ with_marks start (blank r.mode r.structure) → start + length file < 2 ^ 64
+    → has_markers r ≡ true → writing f ≡ with_marks start (blank_writing r.mode r.structure) → start + length file < 2 ^ 64
     → still_to_write f (still_to_send s file) ≡ (if has_markers r then marked_text start file else wire r.mode (form_of r) file)
 text_marked r f s start file owes going same has state fits =
-    starts f s (with_marks start (blank r.mode r.structure)) (form_of r) file owes state going same
+    starts f s (with_marks start (blank_writing r.mode r.structure)) (form_of r) file owes state going same
     ∙ starts_marked r.kind r.structure r.mode start file has fits
     ∙ ap (λ b. if b then marked_text start file else wire r.mode (form_of r) file) (sym has)
 
 pub text_plain : (r : Representation) (f : Framer) (s : Sender) (start : ℕ) (file : List ℕ) → owed_octets f ≡ [] → has_sent_end s ≡ false → sender_form s ≡ form_of r
-    → has_markers r ≡ false → writing f ≡ blank r.mode r.structure
+    → has_markers r ≡ false → writing f ≡ blank_writing r.mode r.structure
     → still_to_write f (still_to_send s file) ≡ (if has_markers r then marked_text start file else wire r.mode (form_of r) file)
 text_plain r f s start file owes going same none state =
-    starts f s (blank r.mode r.structure) (form_of r) file owes state going same
+    starts f s (blank_writing r.mode r.structure) (form_of r) file owes state going same
     ∙ writes_wire r.mode (form_of r) file
     ∙ ap (λ b. if b then marked_text start file else wire r.mode (form_of r) file) (sym none)
 

@@ -6,7 +6,7 @@ use Rattle.ftp_pieces.specs.Machine.{after, gives}
 use Rattle.ftp_pieces.proofs.MachineLemmas.{after-append, gives-append}
 use Rattle.ftp_repr.specs.Signs.{Sign}
 use Rattle.ftp_repr.specs.Receiving.{receiving}
-use Rattle.ftp_repr.specs.Received.{Lends, lent_octets, comes_with, settled_by, receiver_form, taking}
+use Rattle.ftp_repr.specs.Received.{Lends, lent_octets, comes_with, settled_by, receiver_form, taking_at_stage}
 use Rattle.ftp_repr.specs.declared.item.Lent.{Lent}
 use Rattle.ftp_repr.specs.declared.receiver.Receiver.{Receiver}
 use Rattle.ftp_wire.specs.Decoder.{Decoder}
@@ -33,12 +33,12 @@ pub settled-add : (d : Decoder) (ss : List Sign) (n k : ℕ) → settled d (take
 settled-add d ss n k = ap (settled d) (take-add n k ss) ∙ settled-append d (take n ss) (take k (drop n ss))
 
 -- what was lent is put, and the receiver goes on
-pub settles_on : (d e : Decoder) (r q : Receiver) (ss : List Sign) (lent : Lent) → d.form ≡ receiver_form r → d.taking ≡ taking r → Lends r ss lent q
-    → e.form ≡ receiver_form q → e.reading ≡ d.reading → e.taking ≡ taking q → e.content ≡ d.content ++ lent_octets lent → e ≡ settled d (take lent.taken ss)
+pub settles_on : (d e : Decoder) (r q : Receiver) (ss : List Sign) (lent : Lent) → d.form ≡ receiver_form r → d.taking ≡ taking_at_stage r → Lends r ss lent q
+    → e.form ≡ receiver_form q → e.reading ≡ d.reading → e.taking ≡ taking_at_stage q → e.content ≡ d.content ++ lent_octets lent → e ≡ settled d (take lent.taken ss)
 settles_on d e r q ss lent form at lends now reading taken content =
     same e (settled d (take lent.taken ss)) (now ∙ lends.form ∙ sym form) reading
-    (taken ∙ lends.state ∙ ap (λ f. after (receiving f) (taking r) (take lent.taken ss)) (sym form) ∙ ap (λ t. after (receiving d.form) t (take lent.taken ss)) (sym at))
-    (content ∙ ap (λ l. d.content ++ l) (lends.settles ∙ ap (λ f. gives (receiving f) (taking r) (take lent.taken ss)) (sym form) ∙ ap (λ t. gives (receiving d.form) t (take lent.taken ss)) (sym at)))
+    (taken ∙ lends.state ∙ ap (λ f. after (receiving f) (taking_at_stage r) (take lent.taken ss)) (sym form) ∙ ap (λ t. after (receiving d.form) t (take lent.taken ss)) (sym at))
+    (content ∙ ap (λ l. d.content ++ l) (lends.settles ∙ ap (λ f. gives (receiving f) (taking_at_stage r) (take lent.taken ss)) (sym form) ∙ ap (λ t. gives (receiving d.form) t (take lent.taken ss)) (sym at)))
 
 all_taken : {A : Type 0} (xs : List A) (n : ℕ) → length xs ≤ n → take n xs ≡ xs
 all_taken [] zero few = refl
@@ -104,7 +104,7 @@ settled_more d ss ts = omega (arith, ap (λ x. length x.content) (settled-append
 
 -- an item stops in the middle of a row
 pub stops_at : (most room done : ℕ) (d e : Decoder) (r q : Receiver) (ss : List Sign) (lent : Lent) (stopped : Stopped)
-    → e ≡ settled d (take done ss) → done ≤ length ss → 0 < length (drop done ss) → e.form ≡ receiver_form r → e.taking ≡ taking r
+    → e ≡ settled d (take done ss) → done ≤ length ss → 0 < length (drop done ss) → e.form ≡ receiver_form r → e.taking ≡ taking_at_stage r
     → Lends r (drop done ss) lent q → length e.content + room ≡ most → HasNoRoom lent room stopped
     → Stops most d ss (record { at = done + stopped.at; heard = stopped.heard })
 stops_at most room done d e r q ss lent stopped is within some form at lends full none =

@@ -17,7 +17,7 @@ HasNoMarker (says sign ∷ more) = HasNoMarker more
 HasNoMarker (marker text ∷ more) = ⊥
 
 -- an octet of which nothing is to be told: no fault, no marker, and the file has at most so many octets
-pub record IsQuiet (most : ℕ) (d : Decoder) (octet : ℕ) : Type 0 where
+pub record IsQuietOctet (most : ℕ) (d : Decoder) (octet : ℕ) : Type 0 where
   pub fine : fault_of (read_on d octet) ≡ None
   pub unmarked : HasNoMarker (octet_says d octet)
   pub within : length (decoded_octet d octet).content ≤ most
@@ -25,7 +25,7 @@ pub record IsQuiet (most : ℕ) (d : Decoder) (octet : ℕ) : Type 0 where
 -- a row of them
 abbrev pub AreQuiet : ℕ → Decoder → List ℕ → Type 0
 AreQuiet most d [] = Unit {0}
-AreQuiet most d (octet ∷ octets) = IsQuiet most d octet × AreQuiet most (decoded_octet d octet) octets
+AreQuiet most d (octet ∷ octets) = IsQuietOctet most d octet × AreQuiet most (decoded_octet d octet) octets
 
 -- an octet says no marker; or one, and before anything else, when so many octets were settled
 abbrev pub Marks : Option ℕ → List ℕ → Decoder → List Said → Type 0
@@ -43,7 +43,7 @@ EndsBy most d octet NoMemory new = fault_of (read_on d octet) ≡ None
 abbrev pub Hears : ℕ → Decoder → List ℕ → Option ℕ → List ℕ → Decoded → Decoder → Type 0
 Hears most d [] mark text heard new = (mark ≡ None) × (heard ≡ More) × (new ≡ d)
 Hears most d (octet ∷ []) mark text heard new = Marks mark text d (octet_says d octet) × EndsBy most d octet heard new
-Hears most d (octet ∷ next ∷ octets) mark text heard new = IsQuiet most d octet × Hears most (decoded_octet d octet) (next ∷ octets) mark text heard new
+Hears most d (octet ∷ next ∷ octets) mark text heard new = IsQuietOctet most d octet × Hears most (decoded_octet d octet) (next ∷ octets) mark text heard new
 
 -- the last told nothing either
 abbrev pub TellsNothing : Option ℕ → Decoded → Type 0

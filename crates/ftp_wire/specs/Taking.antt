@@ -3,7 +3,7 @@ use Rattle.std.specs.Prelude.{◌≡◌, ℕ, ◌+◌, ◌<◌, ◌≤◌, List,
 use Rattle.ftp_pieces.specs.Machine.{after, gives}
 use Rattle.ftp_repr.specs.Signs.{Sign}
 use Rattle.ftp_repr.specs.Receiving.{receiving}
-use Rattle.ftp_repr.specs.Received.{receiver_form, taking, lent_octets, comes_with}
+use Rattle.ftp_repr.specs.Received.{receiver_form, taking_at_stage, lent_octets, comes_with}
 use Rattle.ftp_repr.specs.declared.item.Lent.{Lent}
 use Rattle.ftp_mode.specs.Said.{file_signs}
 use Rattle.ftp_mode.specs.Deframing.{reading, owed}
@@ -18,7 +18,7 @@ abbrev pub decoder_at : {S : Type 0} → (S → List ℕ) → Intake S → Decod
 decoder_at octets i = record {
   form = receiver_form i.receiver;
   reading = reading i.deframer;
-  taking = taking i.receiver;
+  taking = taking_at_stage i.receiver;
   content = octets i.sink;
 }
 
@@ -30,8 +30,8 @@ settled d ss = record d {
 }
 
 -- the room is less by what came
-abbrev pub Keeps : {S : Type 0} → (S → List ℕ) → Intake S → ℕ → Intake S → ℕ → Type 0
-Keeps octets old before new room = length (octets new.sink) + room ≡ length (octets old.sink) + before
+abbrev pub KeepsRoom : {S : Type 0} → (S → List ℕ) → Intake S → ℕ → Intake S → ℕ → Type 0
+KeepsRoom octets old before new room = length (octets new.sink) + room ≡ length (octets old.sink) + before
 
 -- why signs were not settled whole
 abbrev pub StopsBy : ℕ → Decoder → List Sign → Decoded → Type 0
@@ -49,7 +49,7 @@ pub record Stops (most : ℕ) (d : Decoder) (ss : List Sign) (stopped : Stopped)
 -- the ends that were owed are settled, or there was no room or no memory for them
 abbrev pub EndsShort : {S : Type 0} → (S → List ℕ) → Intake S → ℕ → Decoded → Intake S → ℕ → Type 0
 EndsShort octets old before More new room =
-    (decoder_at octets new ≡ settled (decoder_at octets old) (file_signs (owed old.deframer))) × (owed new.deframer ≡ []) × Keeps octets old before new room
+    (decoder_at octets new ≡ settled (decoder_at octets old) (file_signs (owed old.deframer))) × (owed new.deframer ≡ []) × KeepsRoom octets old before new room
 EndsShort octets old before (Faulty fault) new room = ⊥
 EndsShort octets old before Over new room = length (octets old.sink) + before < length (settled (decoder_at octets old) (file_signs (owed old.deframer))).content
 EndsShort octets old before NoMemory new room = Unit {0}

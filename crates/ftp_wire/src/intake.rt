@@ -32,7 +32,7 @@ struct Stopped {
 }
 
 impl<S: Sink> Intake<S> {
-    ghost use Rattle.ftp_wire.specs.Taking.{decoder_at, settled, Stops, EndsShort, Keeps, HasNoRoom};
+    ghost use Rattle.ftp_wire.specs.Taking.{decoder_at, settled, Stops, EndsShort, KeepsRoom, HasNoRoom};
 
     pub(crate) fn new(settings: Representation, sink: S) -> Intake<S>
         ensures decoder { decoder_at S.octets result ≡ record (no_octets settings) { content = S.octets sink } }
@@ -89,7 +89,7 @@ impl<S: Sink> Intake<S> {
         ensures within { result.count ≤ length piece.now }
         ensures some { 0 < result.count }
         ensures owes { TellsNothing result.mark result.heard → owed self.new.deframer ≡ [] }
-        ensures room { TellsNothing result.mark result.heard → Keeps S.octets self.old room.old self.new room.new }
+        ensures room { TellsNothing result.mark result.heard → KeepsRoom S.octets self.old room.old self.new room.new }
     {
         let step = match self.deframer.feed(piece) {
             Ok(step) => step,
@@ -137,7 +137,7 @@ impl<S: Sink> Intake<S> {
     fn settle(&mut self, item: Item<'_>, room: &mut u64) -> Result<(), Stopped>
         ensures deframer { self.new.deframer ≡ self.old.deframer }
         ensures ok { OnOk result (decoder_at S.octets self.new ≡ settled (decoder_at S.octets self.old) (signs item.entry)) }
-        ensures room { OnOk result (Keeps S.octets self.old room.old self.new room.new) }
+        ensures room { OnOk result (KeepsRoom S.octets self.old room.old self.new room.new) }
         ensures err { IfErr result (λ stopped.
             Stops (length (decoder_at S.octets self.old).content + room.old) (decoder_at S.octets self.old) (signs item.entry) stopped) }
     {

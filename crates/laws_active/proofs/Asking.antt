@@ -28,7 +28,7 @@ use Rattle.laws_world.specs.Agreement.{Order}
 use Rattle.laws_world.specs.Events.{ControlToClient, is_closed_by_near, pushed}
 use Rattle.laws_world.specs.Serving.{after_event, collected, far_served, near_listens, near_served, near_served_by}
 use Rattle.laws_world.specs.World.{Gone, Mark, Stands, World, port_at}
-use Rattle.laws_dialogues.specs.Dialogue.{is_aside}
+use Rattle.laws_dialogues.specs.Dialogue.{is_set_aside}
 use Rattle.laws_dialogues.specs.Fetches.{Ask, IsAsk, Rise, busy}
 use Rattle.laws_dialogues.specs.Stage.{Way, rest}
 use Rattle.laws_dialogues.specs.Login.{AtFree, AtOperation}
@@ -64,7 +64,7 @@ pub record Asks (w : World) : Type 0 where
   pub to_server : w.control_to_server ≡ []
   pub to_client : w.control_to_client ≡ []
   pub far_owed : w.far.owed ≡ []
-  pub aside : is_aside w.far.session.connection ≡ true
+  pub aside : is_set_aside w.far.session.connection ≡ true
   pub link : w.link ≡ Gone
   pub rising : w.data_to_server ≡ []
   pub falling : w.data_to_client ≡ []
@@ -111,7 +111,7 @@ module _ (read : Reading) (state : State) (ask : Ask) (good : IsAsk ask) (own : 
             to_server = ap (λ (u : World). u.control_to_server) is;
             to_client = ap (λ (u : World). u.control_to_client) is;
             far_owed = ap (λ (u : World). u.far.owed) is;
-            aside = ap (λ (t : Session). is_aside t.connection) (seen.session ∙ h.session) ∙ h.fine;
+            aside = ap (λ (t : Session). is_set_aside t.connection) (seen.session ∙ h.session) ∙ h.fine;
             link = ap (λ (u : World). u.link) s.is ∙ (beside s.base s.way s.cut).0 ∙ h.link;
             rising = ap (λ (u : World). u.data_to_server) s.is ∙ (beside s.base s.way s.cut).1 ∙ h.to_server;
             falling = ap (λ (u : World). u.data_to_client) s.is ∙ (beside s.base s.way s.cut).2 ∙ h.to_client;

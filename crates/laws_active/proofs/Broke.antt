@@ -11,20 +11,20 @@ use Rattle.laws_drivers.proofs.events.Holding.{both}
 use Rattle.laws_transfers.proofs.Broke as dialling
 use Rattle.laws_transfers.proofs.Broke.{IsBroke, IsShown, with_view}
 use Rattle.laws_transfers.proofs.EitherEnd.{Common, common, is_wishing}
-use Rattle.laws_active.specs.Refusals.{ClientTries}
+use Rattle.laws_active.specs.Refusals.{ClientTriesEitherWay}
 
 -- an action that the other does, too
 pub record DoneSo (action : Action client_side) (next : Between) (new shown : Stand client_side) : Type 0 where
   pub after : Stand client_side
   pub did : Done action shown after
-  pub is : ClientTries action shown.owner after.owner
+  pub is : ClientTriesEitherWay action shown.owner after.owner
   pub shows : IsShown next new after
 
 module _ (p q : Between) (old new : Stand client_side) (other : Near) (broke : IsBroke p old other) where
   both_are : Common old.owner.end.view other
   both_are = common old.owner.end.view other broke.apart
 
-  pub broke_does : (action : Action client_side) → ClientTries action old.owner new.owner → Done action old new → CanTurn (Client action) p q
+  pub broke_does : (action : Action client_side) → ClientTriesEitherWay action old.owner new.owner → Done action old new → CanTurn (Client action) p q
       → DoneSo action q new (with_view other old)
   broke_does (Other (Aside (Starting op))) is did can = absurd (both both_are.busy did.0.0.0)
   broke_does (Other (Listening port)) is did can = absurd (both (ap is_wishing did.0.2.0) both_are.wishes)

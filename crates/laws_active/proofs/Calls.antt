@@ -29,7 +29,7 @@ use Rattle.ftp_server_model.specs.declared.session.ServerLink.TheVariants as Dat
 use Rattle.laws_world.specs.Agreement.{Order, Single}
 use Rattle.laws_world.specs.Events.{is_closed_by_near}
 use Rattle.laws_world.specs.World.{Gone, Mark, Stands, World}
-use Rattle.laws_dialogues.specs.Dialogue.{is_aside}
+use Rattle.laws_dialogues.specs.Dialogue.{is_set_aside}
 use Rattle.ftp_path.specs.Path.{Names}
 use Rattle.ftp_wire.specs.Decoder.{Decoder}
 use Rattle.ftp_server_model.specs.declared.session.Keep.{Keep}
@@ -97,7 +97,7 @@ abbrev pub is_opening : ServerLink Transfer → Bool
 is_opening (Data.Opening transfer way) = true
 is_opening link = false
 
-aside_unopened : (link : ServerLink Transfer) → is_aside link ≡ true → is_opening link ≡ false
+aside_unopened : (link : ServerLink Transfer) → is_set_aside link ≡ true → is_opening link ≡ false
 aside_unopened Data.Free is = refl
 aside_unopened (Data.Active endpoint) is = refl
 aside_unopened Data.Passive is = refl

@@ -19,7 +19,7 @@ use Rattle.ftp_server_model.specs.Machine.{IsReading, Reading}
 use Rattle.laws_world.specs.Agreement.{Order, Single}
 use Rattle.laws_world.specs.World.{Gone, World, next_listen, port_at}
 use Rattle.laws_agreement.specs.Over.{OverRuns}
-use Rattle.laws_drivers.specs.control.Alone.{reported_by}
+use Rattle.laws_drivers.specs.control.Alone.{reports_of}
 use Rattle.laws_drivers.specs.events.Moments.{AreMoments, begun_at, begun_by, number_in}
 use Rattle.laws_drivers.specs.control.Between.{Between, Can, CanTurn, Client, Has, IsStanding, Near as TheClient, sent}
 use Rattle.laws_agreement.proofs.Chunks.{both_empty}
@@ -43,7 +43,7 @@ use Rattle.laws_transfers.proofs.ClientTold.{client_told_end}
 use Rattle.laws_transfers.proofs.Known.{AreCarried, Known, is_near_held}
 use Rattle.laws_transfers.proofs.Running.{world_known}
 use Rattle.laws_transfers.proofs.Simulating.{orders_after}
-use Rattle.laws_active.specs.Actions.{ClientTransfers}
+use Rattle.laws_active.specs.Actions.{ClientTransfersEitherWay}
 use Rattle.laws_active.specs.Lead.{Even, Joined, Lead, Told}
 use Rattle.laws_active.proofs.Bare.{StaysBare, left_bare, none_bare, none_unsent, none_untold, same_bare}
 use Rattle.laws_active.proofs.Beginning.{begins_tells}
@@ -99,7 +99,7 @@ module _ (read : Reading) (reads : IsReading read) (from : State) (moments : ℕ
   -- so it is again
   abbrev Went : Action client_side → Type 0
   Went action = GoesLed read (begun_by (moments (number_in actions)) action) (orders_after (moments (number_in actions)) action begun) q (told_by action told) server new
-      (reports ++ reported_by action) w
+      (reports ++ reports_of action) w
 
   known_of : (lead : Lead) (more : List ℕ) → At lead more → ClientRests (led_client lead old).owner → Known w
   known_of lead more t asks =
@@ -134,7 +134,7 @@ module _ (read : Reading) (reads : IsReading read) (from : State) (moments : ℕ
         (record { lead = Told tells.port; left = []; so = (tells.is_told, tells.port_is); goes = tells.goes })
 
     -- octets are heard
-    hears_even : (octets : List ℕ) → ClientTransfers (Heard octets) old.owner new.owner → q ≡ p → HearsNext octets old new → (wants : Bool)
+    hears_even : (octets : List ℕ) → ClientTransfersEitherWay (Heard octets) old.owner new.owner → q ≡ p → HearsNext octets old new → (wants : Bool)
         → wants_port u.connection ≡ wants → GoesLed read [] begun q told server new (reports ++ []) w
     hears_even octets is same did false portless =
         even [] begun (reports ++ [])
@@ -151,7 +151,7 @@ module _ (read : Reading) (reads : IsReading read) (from : State) (moments : ℕ
         wants) same
 
     -- an operation begins
-    begins_even : (op : Op (List ℕ)) → ClientTransfers (Other (Aside (Starting op))) old.owner new.owner → q ≡ p → Done (Other (Aside (Starting op))) old new
+    begins_even : (op : Op (List ℕ)) → ClientTransfersEitherWay (Other (Aside (Starting op))) old.owner new.owner → q ≡ p → Done (Other (Aside (Starting op))) old new
         → (wants : Bool) → wants_port u.connection ≡ wants → Went (Other (Aside (Starting op)))
     begins_even op is same did false portless =
         let at : ℕ = moments (number_in actions) in
@@ -173,7 +173,7 @@ module _ (read : Reading) (reads : IsReading read) (from : State) (moments : ℕ
         let is : w.near ≡ data_closed (taken v) = t.beside.near in
         ap is_near_held (awaits_of Even [] t (ap (λ (n : Near). is_ported n.connection) is ∙ has.0))
 
-    even_goes : (action : Action client_side) → BreaksNone action → ClientTransfers action old.owner new.owner → CanTurn (Client action) p q → Done action old new
+    even_goes : (action : Action client_side) → BreaksNone action → ClientTransfersEitherWay action old.owner new.owner → CanTurn (Client action) p q → Done action old new
         → Went action
     even_goes (Heard octets) unbroken is can did = hears_even octets is can did (wants_port u.connection) refl
     even_goes (Says octets) unbroken is can did =
@@ -192,7 +192,7 @@ module _ (read : Reading) (reads : IsReading read) (from : State) (moments : ℕ
         (same_rests (ap (λ o. o.end.view) did.owner))
         (touch_in {end = client_machine} (Read octets)) can
     even_goes (Other (Aside (Reporting said))) unbroken is can did =
-        even [] begun (reports ++ reported_by (Other (Aside (Reporting said))))
+        even [] begun (reports ++ reports_of (Other (Aside (Reporting said))))
         (subst (λ (l : List Said). Goes read [] begun q told server new (reports ++ l) w) (sym (reported_is said))
         (subst (λ (m : Between). Goes read [] begun m told server new (reports ++ option_to_list said) w) (sym can)
         (client_reports read begun server old new reports w is.1 known said last ahead p told t did)))
@@ -338,7 +338,7 @@ module _ (read : Reading) (reads : IsReading read) (from : State) (moments : ℕ
         stays_told is unheard (ap (λ (b : Between). b.control.to_client) between ∙ comes.1) (ap (λ (b : Between). b.control.to_server) between)
         (ap (λ (b : Between). b.data_ways) between) (ap (λ (b : Between). b.far) between) (ap (λ (b : Between). is_called b.near) between ∙ so.0.called) bare
 
-    told_goes : (action : Action client_side) → BreaksNone action → ClientTransfers action old.owner new.owner → IsNext action told → CanTurn (Client action) p q
+    told_goes : (action : Action client_side) → BreaksNone action → ClientTransfersEitherWay action old.owner new.owner → IsNext action told → CanTurn (Client action) p q
         → Done action old new
         → Went action
     told_goes (Heard octets) unbroken is next can did =
@@ -356,7 +356,7 @@ module _ (read : Reading) (reads : IsReading read) (from : State) (moments : ℕ
         (same _ (ap (λ o. o.channel) did.owner) refl refl refl refl)
     told_goes (Other (Aside (Reporting said))) unbroken is next can did =
         let none : said ≡ None = did.0.0.0 ∙ told_said read begun server old new reports w port more p q told so last ahead t gone known_told in
-        subst (λ s. GoesLed read [] begun q told server new (reports ++ reported_by (Other (Aside (Reporting s)))) w) (sym none)
+        subst (λ s. GoesLed read [] begun q told server new (reports ++ reports_of (Other (Aside (Reporting s)))) w) (sym none)
         (idles_told (ap data_closed (did.0.0.1.0 ∙ reports_is v)
         ∙ told_taken read begun server old new reports w port more p q told so last ahead t gone known_told)
         (ap (λ (s : Stand client_side). s.unheard) did.1 ∙ comes.0) can (same _ did.0.1 refl refl refl refl))
@@ -453,7 +453,7 @@ module _ (read : Reading) (reads : IsReading read) (from : State) (moments : ℕ
     unheld : {A : Type 0} → p.near ≡ Has → A
     unheld has = absurd (true≢false (sym (ap is_called so.0.called) ∙ ap is_called has))
 
-    joined_goes : (action : Action client_side) → BreaksNone action → ClientTransfers action old.owner new.owner → CanTurn (Client action) p q → Done action old new
+    joined_goes : (action : Action client_side) → BreaksNone action → ClientTransfersEitherWay action old.owner new.owner → CanTurn (Client action) p q → Done action old new
         → Went action
     joined_goes (Heard heard) unbroken is can did =
         subst (λ l. GoesLed read [] begun q told server new l w) (sym (append-nil reports))
@@ -469,7 +469,7 @@ module _ (read : Reading) (reads : IsReading read) (from : State) (moments : ℕ
         (ap (λ (b : Between). b.near) can.1)
     joined_goes (Other (Aside (Reporting said))) unbroken is can did =
         let none_said : said ≡ None = did.0.0.0 ∙ joined_said read begun server old new reports w octets more p q told so last ahead t in
-        subst (λ s. GoesLed read [] begun q told server new (reports ++ reported_by (Other (Aside (Reporting s)))) w) (sym none_said)
+        subst (λ s. GoesLed read [] begun q told server new (reports ++ reports_of (Other (Aside (Reporting s)))) w) (sym none_said)
         (idles_joined (ap data_closed (did.0.0.1.0 ∙ reports_is v ∙ joined_taken read begun server old new reports w octets more p q told so last ahead t))
         (ap (λ (s : Stand client_side). s.unheard) did.1) can)
     joined_goes (Other (Aside (Starting op))) unbroken is can did =
@@ -501,7 +501,7 @@ module _ (read : Reading) (reads : IsReading read) (from : State) (moments : ℕ
 
   -- ---- whichever lead
 
-  pub client_led : (action : Action client_side) → BreaksNone action → ClientTransfers action old.owner new.owner → IsNext action told → CanTurn (Client action) p q
+  pub client_led : (action : Action client_side) → BreaksNone action → ClientTransfersEitherWay action old.owner new.owner → IsNext action told → CanTurn (Client action) p q
       → Done action old new
       → (lead : Lead) (more : List ℕ) → LedSo lead more p told server old → At lead more → ClientRests (led_client lead old).owner → Went action
   client_led action unbroken is next can did Even more so t asks = even_goes t asks so.0 action unbroken is can did

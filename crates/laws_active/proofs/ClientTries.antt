@@ -19,7 +19,7 @@ use Rattle.laws_world.specs.Agreement.{Order, Single}
 use Rattle.laws_world.specs.World.{Gone, Refused as WasRefused, World, marked_last}
 use Rattle.laws_agreement.specs.Over.{OverRuns}
 use Rattle.laws_agreement.proofs.Chunks.{both_empty}
-use Rattle.laws_drivers.specs.control.Alone.{reported_by}
+use Rattle.laws_drivers.specs.control.Alone.{reports_of}
 use Rattle.laws_drivers.specs.events.Moments.{AreMoments, begun_at, begun_by, number_in}
 use Rattle.laws_drivers.specs.control.Between.{Between, CanTurn, Client}
 use Rattle.laws_drivers.proofs.control.Taken.{reports_is}
@@ -33,7 +33,7 @@ use Rattle.laws_transfers.proofs.Known.{AreCarried, Known}
 use Rattle.laws_transfers.proofs.Running.{world_known}
 use Rattle.laws_transfers.proofs.Simulating.{orders_after}
 use Rattle.laws_active.specs.Lead.{Even, Joined, Lead, Told}
-use Rattle.laws_active.specs.Refusals.{ClientTries, Gain, Heard, Led, is_heard, marked_by}
+use Rattle.laws_active.specs.Refusals.{ClientTriesEitherWay, Gain, Heard, Led, is_heard, marked_by_turn}
 use Rattle.laws_active.proofs.Bare.{StaysBare, left_bare}
 use Rattle.laws_active.proofs.ClientLed.{IsNext, client_led, drop_none, sent_none, take_none, told_by}
 use Rattle.laws_active.proofs.Gaining.{GainSo, GainsTo, gained_between, gained_client, gained_told}
@@ -75,11 +75,11 @@ module _ (read : Reading) (reads : IsReading read) (from : State) (moments : ℕ
   -- so it is again, with these marks
   abbrev Went : Action client_side → Type 0
   Went action = GainsTo read (begun_by (moments (number_in actions)) action) (orders_after (moments (number_in actions)) action begun) q (told_by action told) server new
-      (reports ++ reported_by action) (marked_by (Client action) w.marks) failed w
+      (reports ++ reports_of action) (marked_by_turn (Client action) w.marks) failed w
 
   -- ---- its dial fails
 
-  module _ (endpoint : Endpoint) (is : ClientTries (Other (Refused (NotConnected endpoint ∷ []))) old.owner new.owner) (can : q ≡ p)
+  module _ (endpoint : Endpoint) (is : ClientTriesEitherWay (Other (Refused (NotConnected endpoint ∷ []))) old.owner new.owner) (can : q ≡ p)
       (did : Done (Other (Refused (NotConnected endpoint ∷ []))) old new) where
     refused_even : At (Led Even) [] → ClientRests old.owner → is_called p.near ≡ false → Went (Other (Refused (NotConnected endpoint ∷ [])))
     refused_even t asks called =
@@ -141,7 +141,7 @@ module _ (read : Reading) (reads : IsReading read) (from : State) (moments : ℕ
     never : {A : Type 0} → (want : Wants) → near.wants v ≡ want → is_still want ≡ false → A
     never = hearing_never read begun server old new reports w octets more p q told so last ahead t gone known_heard failed was
 
-    hears_octets : (heard : List ℕ) → ClientTries (HearsOctets heard) old.owner new.owner → q ≡ p → HearsNext heard old new → Went (HearsOctets heard)
+    hears_octets : (heard : List ℕ) → ClientTriesEitherWay (HearsOctets heard) old.owner new.owner → q ≡ p → HearsNext heard old new → Went (HearsOctets heard)
     hears_octets heard is can did =
         by (splits heard octets rest more
         (hearing_queue read begun server old new reports w octets more p q told so last ahead t gone known_heard failed was heard is.1 did can))
@@ -162,7 +162,7 @@ module _ (read : Reading) (reads : IsReading read) (from : State) (moments : ℕ
             (tt, o.room) tt can o.hears Even [] (so.0.called, o.rests) o.together o.rests in
             record { gain = Led g.lead; left = g.left; so = g.so; heard = λ e. absurd (true≢false (sym e)); goes = g.goes }
 
-    hearing_goes : (action : Action client_side) → BreaksNone action → ClientTries action old.owner new.owner → CanTurn (Client action) p q → Done action old new
+    hearing_goes : (action : Action client_side) → BreaksNone action → ClientTriesEitherWay action old.owner new.owner → CanTurn (Client action) p q → Done action old new
         → Went action
     hearing_goes (HearsOctets heard) unbroken is can did = hears_octets heard is can did
     hearing_goes (Says said) unbroken is can did =
@@ -177,7 +177,7 @@ module _ (read : Reading) (reads : IsReading read) (from : State) (moments : ℕ
     hearing_goes (Other (Aside (Reporting said))) unbroken is can did =
         let none : said ≡ None =
         did.0.0.0 ∙ hearing_said read begun server old new reports w octets more p q told so last ahead t gone known_heard failed was in
-        subst (λ s. GainsTo read [] begun q told server new (reports ++ reported_by (Other (Aside (Reporting s)))) w.marks failed w) (sym none)
+        subst (λ s. GainsTo read [] begun q told server new (reports ++ reports_of (Other (Aside (Reporting s)))) w.marks failed w) (sym none)
         (idles (ap data_closed (did.0.0.1.0 ∙ reports_is v
         ∙ hearing_taken read begun server old new reports w octets more p q told so last ahead t gone known_heard failed was))
         (ap (λ (s : Stand client_side). s.unheard) did.1) can (same _ did.0.1 refl refl refl refl))
@@ -242,7 +242,7 @@ module _ (read : Reading) (reads : IsReading read) (from : State) (moments : ℕ
   as_led more orders count said g = record { gain = Led g.lead; left = g.left; so = g.so; heard = λ e. absurd (true≢false (sym e)); goes = g.goes }
 
   -- a dial is not failed of one that wants a port, or is at one
-  refused_led : (endpoint : Endpoint) → ClientTries (Other (Refused (NotConnected endpoint ∷ []))) old.owner new.owner → q ≡ p
+  refused_led : (endpoint : Endpoint) → ClientTriesEitherWay (Other (Refused (NotConnected endpoint ∷ []))) old.owner new.owner → q ≡ p
       → Done (Other (Refused (NotConnected endpoint ∷ []))) old new → (lead : Lead) (more : List ℕ) → LedSo lead more p told server old → At (Led lead) more
       → ClientRests (led_client lead old).owner → Went (Other (Refused (NotConnected endpoint ∷ [])))
   refused_led endpoint is can did Even more so t asks = refused_even endpoint is can did t asks so.0
@@ -251,7 +251,7 @@ module _ (read : Reading) (reads : IsReading read) (from : State) (moments : ℕ
   refused_led endpoint is can did (Joined octets) more so t asks =
       absurd (joined_never read begun server old new reports w octets more p q told so last ahead t (Want.Connect endpoint) did.0.2.0 refl)
 
-  pub client_tries : (action : Action client_side) → BreaksNone action → ClientTries action old.owner new.owner → IsNext action told → CanTurn (Client action) p q
+  pub client_tries : (action : Action client_side) → BreaksNone action → ClientTriesEitherWay action old.owner new.owner → IsNext action told → CanTurn (Client action) p q
       → Done action old new → (gain : Gain) (more : List ℕ) → GainSo gain more p told server old → At gain more → ClientRests (gained_client gain old).owner
       → (is_heard gain ≡ true → failed ≡ true) → Went action
   client_tries (Other (Refused (NotConnected endpoint ∷ []))) unbroken is next can did (Led lead) more so t asks heard =
@@ -264,13 +264,13 @@ module _ (read : Reading) (reads : IsReading read) (from : State) (moments : ℕ
       (client_led read reads from moments timed actions puts server old new reports w serves runs run last ahead p q told (Other (Aside (Starting op)))
       unbroken is next can did lead more so t asks)
   client_tries (Other (Aside (Reporting said))) unbroken is next can did (Led lead) more so t asks heard =
-      as_led [] begun told (reports ++ reported_by (Other (Aside (Reporting said))))
+      as_led [] begun told (reports ++ reports_of (Other (Aside (Reporting said))))
       (client_led read reads from moments timed actions puts server old new reports w serves runs run last ahead p q told (Other (Aside (Reporting said)))
       unbroken is next can did lead more so t asks)
   client_tries (Other (Aside own)) unbroken is next can did (Led lead) more so t asks heard = absurd is.0
   client_tries action unbroken is next can did (Led lead) more so t asks heard =
       as_led (begun_by (moments (number_in actions)) action) (orders_after (moments (number_in actions)) action begun) (told_by action told)
-      (reports ++ reported_by action)
+      (reports ++ reports_of action)
       (client_led read reads from moments timed actions puts server old new reports w serves runs run last ahead p q told action unbroken is next can did lead more
       so t asks)
   client_tries action unbroken is next can did (Heard octets) more so t asks heard = hearing_goes octets more so t (heard refl) action unbroken is can did

@@ -20,21 +20,21 @@ use Rattle.laws_drivers.proofs.events.Concluding.{are_the_direct_run}
 use Rattle.laws_drivers.proofs.events.Parting.{cut_report}
 use Rattle.laws_transfers.proofs.Ahead.{keeps}
 use Rattle.laws_transfers.proofs.Broke.{IsShown}
-use Rattle.laws_active.specs.Claims.{EitherAgree, EitherAreTheDirectRun, EitherPartingAgree, no_faults}
+use Rattle.laws_active.specs.Claims.{EitherAgree, EitherAreTheDirectRun, EitherPartingAgree, no_faults_either_way}
 use Rattle.laws_active.proofs.Parting.{gained_cut}
 use Rattle.laws_active.proofs.Reaching.{reaches, tries_are_of_worlds}
 use Rattle.laws_active.proofs.Simulating.{view_is}
-use Rattle.laws_active.specs.Actions.{listened_in}
-use Rattle.laws_active.specs.Refusals.{TriesAgree, TriesPartingAgree, gained_by, marks_in}
+use Rattle.laws_active.specs.Actions.{listened_in_turns}
+use Rattle.laws_active.specs.Refusals.{TriesAgreeEitherWay, TriesPartingAgreeEitherWay, gained_by, marks_in_turns}
 use Rattle.laws_active.proofs.Trying.{did_try, none_marked}
 
 -- the world agrees, and so do they
-pub tries_agree : TriesAgree
+pub tries_agree : TriesAgreeEitherWay
 tries_agree b fair moments timed turns between server client did =
     let o = tries_are_of_worlds reading_exists.0 reading_exists.1 b fair moments timed turns between server client did in
     let s = o.both in
     let v : Far = server.owner.end.server.view in
-    world_agrees agrees-always reading_exists b fair (begun_at moments (client_actions turns)) (marks_in turns) v.session.table o.world
+    world_agrees agrees-always reading_exists b fair (begun_at moments (client_actions turns)) (marks_in_turns turns) v.session.table o.world
     (record { events = o.events; timed = o.timed; leads = o.leads }) (ap (λ (f : Far). f.session.table) s.far ∙ (keeps s.ahead v s.fits).table) s.marked
     (reports_in (client_actions turns) ++ option_to_list (report_of client.owner.end.view)) s.reported s.cutoff
 
@@ -48,7 +48,7 @@ shown_cut between client shown (inr broke) =
     ∙ sym (ap (λ n. report_of (control_end n)) broke.2.apart.one_is)
 
 -- one more event ends the control connection for both
-pub tries_parting_agree : TriesPartingAgree
+pub tries_parting_agree : TriesPartingAgreeEitherWay
 tries_parting_agree b fair moments timed turns between server client did =
     let at = reaches reading_exists.0 reading_exists.1 moments timed b fair turns between did.happened did.ordered did.server_start server did.client_start client
     did.begins did.untold did.unwritten did.server_unwritten did.client_untold did.server_led did.client_led did.serves did.asks did.ports did.told in
@@ -59,9 +59,9 @@ tries_parting_agree b fair moments timed turns between server client did =
     let begun : List Order = begun_at moments (client_actions turns) in
     let reports : List Said = reports_in (client_actions turns) in
     let table : Table = f.session.table in
-    subst (λ r. Agrees (state_of b) begun (marks_in turns) (Some (length (marks_in turns))) (reports ++ option_to_list r) table)
-    (gained_cut o.gain o.more at.seen (listened_in turns) server at.shown o.so ∙ shown_cut between client at.shown at.shows)
-    (world_parting_agrees agrees-always reading_exists b fair begun (marks_in turns) table o.world o.leads
+    subst (λ r. Agrees (state_of b) begun (marks_in_turns turns) (Some (length (marks_in_turns turns))) (reports ++ option_to_list r) table)
+    (gained_cut o.gain o.more at.seen (listened_in_turns turns) server at.shown o.so ∙ shown_cut between client at.shown at.shows)
+    (world_parting_agrees agrees-always reading_exists b fair begun (marks_in_turns turns) table o.world o.leads
     (ap (λ (x : Far). x.session.table) s.far ∙ (keeps o.ahead f s.fits).table) o.marked reports u s.control
     (s.reported ∙ ap (λ n. reports ++ option_to_list (report_of n)) (view_is o.gain at.shown))
     (ap (λ n. report_of (control_end n)) (s.near ∙ ap (λ n. data_closed (taken n)) (view_is o.gain at.shown)) ∙ cut_report false (taken u)))
@@ -69,14 +69,14 @@ tries_parting_agree b fair moments timed turns between server client did =
 -- so it is where no dial fails, without marks
 pub either_agree : EitherAgree
 either_agree b fair moments timed turns between server client did = (
-  marks_in turns,
+  marks_in_turns turns,
   none_marked turns did.server_start server did.server_led did.serves did.client_start client did.client_led did.asks,
   tries_agree b fair moments timed turns between server client (did_try b moments turns between server client did),
 )
 
 pub either_parting_agree : EitherPartingAgree
 either_parting_agree b fair moments timed turns between server client did = (
-  marks_in turns,
+  marks_in_turns turns,
   none_marked turns did.server_start server did.server_led did.serves did.client_start client did.client_led did.asks,
   tries_parting_agree b fair moments timed turns between server client (did_try b moments turns between server client did),
 )
@@ -84,4 +84,4 @@ either_parting_agree b fair moments timed turns between server client did = (
 -- agreement without marks is the direct run, where all is reported
 pub either_are_the_direct_run : EitherAreTheDirectRun
 either_are_the_direct_run =
-    are_the_direct_run no_faults (λ turns start now led client_start client client_led marks unmarked. unmarked) either_agree
+    are_the_direct_run no_faults_either_way (λ turns start now led client_start client client_led marks unmarked. unmarked) either_agree

@@ -9,22 +9,22 @@ use Rattle.laws_drivers.specs.control.Alone.{ClientIsCalm}
 use Rattle.laws_drivers.proofs.events.Answers.{answers_go, midst_by}
 use Rattle.laws_drivers.proofs.events.Concluding.{AnswersGo, over_are_the_direct_run}
 use Rattle.laws_transfers.specs.Actions.{IsCarried}
-use Rattle.laws_active.specs.Actions.{ClientTransfers}
-use Rattle.laws_active.specs.Claims.{no_faults}
+use Rattle.laws_active.specs.Actions.{ClientTransfersEitherWay}
+use Rattle.laws_active.specs.Claims.{no_faults_either_way}
 use Rattle.laws_active.specs.Over.{EitherOverAreTheDirectRun}
 use Rattle.laws_active.proofs.Concluding.{either_are_the_direct_run}
 
 -- such an operation may be begun
 pub may_begin : (op : Op (List ℕ)) (old new : Held Client) → IsCarried op → old.end.view.closing ≡ false → ClientIsCalm old new
-    → ClientTransfers (Other (Begun op)) old new
+    → ClientTransfersEitherWay (Other (Begun op)) old new
 may_begin op old new is unclosed calm = ((is, unclosed), calm)
 
 -- the actions of a client's drives
-pub drives_go : AnswersGo no_faults
+pub drives_go : AnswersGo no_faults_either_way
 drives_go asked start now answered none =
-    let went = answers_go IsCarried ClientTransfers may_begin asked start now answered none in (went.0, went.1, tt)
+    let went = answers_go IsCarried ClientTransfersEitherWay may_begin asked start now answered none in (went.0, went.1, tt)
 
 -- what both did before the end is the direct run
 pub either_over_are_the_direct_run : EitherOverAreTheDirectRun
 either_over_are_the_direct_run =
-    over_are_the_direct_run no_faults (midst_by IsCarried ClientTransfers may_begin) drives_go either_are_the_direct_run
+    over_are_the_direct_run no_faults_either_way (midst_by IsCarried ClientTransfersEitherWay may_begin) drives_go either_are_the_direct_run

@@ -20,7 +20,7 @@ use Rattle.laws_agreement.proofs.Chunks.{both_empty}
 use Rattle.laws_drivers.proofs.world.Served.{far_wants}
 use Rattle.laws_drivers.proofs.events.FarForms.{no_close, none_later}
 use Rattle.laws_drivers.proofs.events.Stands.{ServerServes}
-use Rattle.laws_active.specs.Actions.{ServerTransfers}
+use Rattle.laws_active.specs.Actions.{ServerTransfersEitherWay}
 use Rattle.laws_active.proofs.Leading.{not_ended}
 
 -- it takes octets, and none came that it was not told, nor is on its way
@@ -71,7 +71,7 @@ module _ (read : Reading) (reads : IsReading read) (old new : Stand server_side)
   view_same : u ≡ v → u.session.connection ≡ v.session.connection
   view_same is = ap (λ (f : Far). f.session.connection) is
 
-  pub lifts_on : (action : Action server_side) → ServerTransfers action old.owner new.owner → Can TheServer (touch_in action) between next → Done action old new
+  pub lifts_on : (action : Action server_side) → ServerTransfersEitherWay action old.owner new.owner → Can TheServer (touch_in action) between next → Done action old new
       → Lifted next new
   lifts_on (Heard octets) is can did =
       let none : old.unheard ≡ [] = (both_empty old.unheard between.control.to_server quiet).0 in

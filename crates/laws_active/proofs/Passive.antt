@@ -12,14 +12,14 @@ use Rattle.laws_drivers.specs.events.Actions as passive_ports
 use Rattle.laws_transfers.specs.Actions as passive
 use Rattle.laws_transfers.specs.Claims as passive_claims
 use Rattle.laws_drivers.proofs.events.Within.{did_within}
-use Rattle.laws_active.specs.Claims.{PassiveIsEither, no_faults}
-use Rattle.laws_active.specs.Actions.{ArePorts, IsAsking, IsServing, listened_in}
+use Rattle.laws_active.specs.Claims.{PassiveIsEither, no_faults_either_way}
+use Rattle.laws_active.specs.Actions.{ArePortsOfTurns, IsAskingOrListening, IsServingOrDialling, listened_in_turns}
 
 -- ---- ports
 
 -- those of an order are those of the server
 abbrev AreSame : List Turn → Type 0
-AreSame turns = (listened_in turns ≡ passive_ports.listened_in (server_actions turns)) × ArePorts turns
+AreSame turns = (listened_in_turns turns ≡ passive_ports.listened_in (server_actions turns)) × ArePortsOfTurns turns
 
 server_same : (action : Action server_side) (before : List Turn) → (passive_ports.ArePorts (server_actions before) → AreSame before)
     → passive_ports.ArePorts (action ∷ server_actions before) → AreSame (ByServer action ∷ before)
@@ -43,19 +43,19 @@ ports_too (ByClient action ∷ before) start now led along ports =
 -- ---- actions
 
 -- a server that listens alone does no other
-serving_too : (action : Action server_side) (at : Held Timed) → passive.IsServing action at → IsServing action at
+serving_too : (action : Action server_side) (at : Held Timed) → passive.IsServing action at → IsServingOrDialling action at
 serving_too (Other (Opened host (Connected endpoint left written ∷ []) at_first so_far rest)) at is = tt
 serving_too action at is = is
 
 -- nor does a client that dials alone
-asking_too : (action : Action client_side) (at : Held Client) → passive.IsAsking action at → IsAsking action at
+asking_too : (action : Action client_side) (at : Held Client) → passive.IsAsking action at → IsAskingOrListening action at
 asking_too (Other (Aside (Starting op))) at is = (is.0.0, is.1)
 asking_too (Other (Listening port)) at is = tt
 asking_too (Other (Opened host (Came from left written ∷ []) at_first so_far rest)) at is = absurd is
 asking_too action at is = is
 
 pub passive_is_either : PassiveIsEither
-passive_is_either = did_within passive_claims.no_faults no_faults (record {
+passive_is_either = did_within passive_claims.no_faults no_faults_either_way (record {
   serves = serving_too;
   asks = asking_too;
   ports = λ turns start now led along ports. (ports_too turns start now led along ports).1;

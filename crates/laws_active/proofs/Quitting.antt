@@ -24,8 +24,8 @@ use Rattle.laws_transfers.specs.Actions.{IsCarried}
 use Rattle.laws_transfers.proofs.Quitting.{rests_now}
 use Rattle.laws_transfers.proofs.Reaching.{shown_itself}
 use Rattle.laws_transfers.proofs.Resting.{idles}
-use Rattle.laws_active.specs.Claims.{no_faults}
-use Rattle.laws_active.specs.Actions.{ClientTransfers, listened_in}
+use Rattle.laws_active.specs.Claims.{no_faults_either_way}
+use Rattle.laws_active.specs.Actions.{ClientTransfersEitherWay, listened_in_turns}
 use Rattle.laws_active.specs.Lead.{Even, Joined, Told}
 use Rattle.laws_active.specs.Quitting.{EitherThatQuitAreTheDirectRun}
 use Rattle.laws_active.specs.Refusals.{Gain, Heard, Led}
@@ -69,7 +69,7 @@ free_even (Heard octets) more between told server c so free =
 -- ---- both
 
 -- where each operation has its report and the client is logged in, the server hears QUIT next
-quits_next : QuitsNext no_faults
+quits_next : QuitsNext no_faults_either_way
 quits_next read reads b fair moments timed turns between server client did free entered told =
     let n : Near = client.owner.end.view in
     let v : Far = server.owner.end.server.view in
@@ -84,7 +84,7 @@ quits_next read reads b fair moments timed turns between server client did free 
     let begun : List Order = begun_at moments (client_actions turns) in
     let runs = all_runs read reads b fair o.leads.events begun w o.leads.timed o.leads.leads in
     let none = ap (λ r. reports_in (client_actions turns) ++ option_to_list r) (free_none n free) ∙ append-nil (reports_in (client_actions turns)) in
-    let even : o.gain ≡ Led Even = free_even o.gain o.more at.seen (listened_in turns) server at.shown o.so free_there in
+    let even : o.gain ≡ Led Even = free_even o.gain o.more at.seen (listened_in_turns turns) server at.shown o.so free_there in
     let same : (gained_client o.gain at.shown).owner.end.view ≡ n =
     ap (λ l. (gained_client l at.shown).owner.end.view) even ∙ ap (λ (c : Stand client_side). c.owner.end.view) itself in
     let here : (gained_between o.gain o.more at.seen).control.to_server ≡ between.control.to_server =
@@ -99,4 +99,4 @@ quits_next read reads b fair moments timed turns between server client did free 
 
 pub either_that_quit_are_the_direct_run : EitherThatQuitAreTheDirectRun
 either_that_quit_are_the_direct_run =
-    quit_are_the_direct_run no_faults (midst_by IsCarried ClientTransfers may_begin) drives_go either_are_the_direct_run quits_next
+    quit_are_the_direct_run no_faults_either_way (midst_by IsCarried ClientTransfersEitherWay may_begin) drives_go either_are_the_direct_run quits_next

@@ -14,7 +14,7 @@ use Rattle.ftp_server_driver.specs.alone.Side.{Timed, server_side}
 use Rattle.ftp_server_model.specs.Machine.{IsReading, Reading}
 use Rattle.laws_world.specs.Agreement.{Order}
 use Rattle.laws_world.specs.Claims.{AreUnmarked, Beginning, IsFair, state_of, world_of}
-use Rattle.laws_drivers.specs.control.Alone.{reported_by, reports_in}
+use Rattle.laws_drivers.specs.control.Alone.{reports_of, reports_in}
 use Rattle.laws_drivers.specs.control.Between.{Between, CanTurn, Client, Far as TheServer, Happened, Has_lost, IsStanding, Server, Turn, client_actions, nothing_yet, server_actions, with_hold}
 use Rattle.laws_drivers.specs.control.Claims.{Begins}
 use Rattle.laws_drivers.specs.control.Touches.{touch_in}
@@ -37,9 +37,9 @@ use Rattle.laws_transfers.proofs.Known.{AreCarried}
 use Rattle.laws_transfers.proofs.Lost.{IsSeen, far_done, is_lost, near_done, resets_losing, seen_itself, with_lost}
 use Rattle.laws_transfers.proofs.Reaching.{IsResetFor, reset_falls, reset_for, resets_before, serving_near, shown_near, shown_said, shown_still}
 use Rattle.laws_active.specs.Claims.{EitherAreOfWorlds}
-use Rattle.laws_active.specs.Actions.{ArePorts, listened_in}
+use Rattle.laws_active.specs.Actions.{ArePortsOfTurns, listened_in_turns}
 use Rattle.laws_active.specs.Lead.{Even, Joined, Told}
-use Rattle.laws_active.specs.Refusals.{AsksAlong, ClientTries, Gain, Heard, Led, ServerTries, ServesAlong, TriesAreOfWorlds, gained_by, has_failed}
+use Rattle.laws_active.specs.Refusals.{ClientTriesAlong, ClientTriesEitherWay, Gain, Heard, Led, ServerTries, ServerTriesAlong, TriesAreOfWorldsEitherWay, gained_by, has_failed}
 use Rattle.laws_active.proofs.Broke.{broke_does}
 use Rattle.laws_active.proofs.ClientLed as by_client
 use Rattle.laws_active.proofs.JoinedActions.{joined_never}
@@ -131,7 +131,7 @@ module _ (read : Reading) (reads : IsReading read) (moments : ℕ → ℕ) (time
 
   server_sees : (action : Action server_side) (old new : Stand server_side) (actions : List (Action client_side)) (before : List Turn) (p q : Between)
       (client : Stand client_side) (reports : List Said) → AreCarried (begun_at moments actions) → ServerTries action old.owner new.owner
-      → by_server.IsNext action (listened_in before) → CanTurn (Server action) p q → (did : Done action old new)
+      → by_server.IsNext action (listened_in_turns before) → CanTurn (Server action) p q → (did : Done action old new)
       → IsToldAt action old new did (last_of moments (number_in actions)) → Seen (begun_at moments actions) p before old client reports
       → Seen (begun_at moments actions) q (Server action ∷ before) new client reports
   server_sees (Other (Left (Reset left written))) old new actions before p q client reports puts is next can did told at =
@@ -161,7 +161,7 @@ module _ (read : Reading) (reads : IsReading read) (moments : ℕ → ℕ) (time
         seen = there.after;
         is_seen = there.is_seen;
         shown = at.shown;
-        shows = dialled_shows went.gain went.more p q there.after (listened_in before) new client at.shown went.so
+        shows = dialled_shows went.gain went.more p q there.after (listened_in_turns before) new client at.shown went.so
             (ap (λ (m : Between). is_called m.near) there.can.2) at.shows;
         reached = went;
       }
@@ -192,13 +192,13 @@ module _ (read : Reading) (reads : IsReading read) (moments : ℕ → ℕ) (time
 
   -- but that it is told of a break
   client_sees_on : (action : Action client_side) → BreaksNone action → (old new : Stand client_side) (actions : List (Action client_side)) (before : List Turn)
-      (p q : Between) (server : Stand server_side) (reports : List Said) → AreCarried (begun_at moments actions) → ClientTries action old.owner new.owner
-      → by_client.IsNext action (listened_in before) → CanTurn (Client action) p q → Done action old new
+      (p q : Between) (server : Stand server_side) (reports : List Said) → AreCarried (begun_at moments actions) → ClientTriesEitherWay action old.owner new.owner
+      → by_client.IsNext action (listened_in_turns before) → CanTurn (Client action) p q → Done action old new
       → Seen (begun_at moments actions) p before server old reports
-      → Seen (begun_at moments (action ∷ actions)) q (Client action ∷ before) server new (reports ++ reported_by action)
+      → Seen (begun_at moments (action ∷ actions)) q (Client action ∷ before) server new (reports ++ reports_of action)
   client_sees_on action unbroken old new actions before p q server reports puts is next can did at = by at.shows
     where
-      by : IsShown p old at.shown → Seen (begun_at moments (action ∷ actions)) q (Client action ∷ before) server new (reports ++ reported_by action)
+      by : IsShown p old at.shown → Seen (begun_at moments (action ∷ actions)) q (Client action ∷ before) server new (reports ++ reports_of action)
       by (inl same) =
           let there = near_done p q at.seen at.is_seen (touch_in action) can in
           record {
@@ -224,13 +224,13 @@ module _ (read : Reading) (reads : IsReading read) (moments : ℕ → ℕ) (time
 
   -- it is told of a break: in a world it is told of the end
   module _ (old new : Stand client_side) (actions : List (Action client_side)) (before : List Turn) (s : Between) (server : Stand server_side)
-      (reports : List Said) (puts : AreCarried (begun_at moments actions)) (is : ClientTries (Other Break) old.owner new.owner) (did : Done (Other Break) old new)
+      (reports : List Said) (puts : AreCarried (begun_at moments actions)) (is : ClientTriesEitherWay (Other Break) old.owner new.owner) (did : Done (Other Break) old new)
       (lost : s.far ≡ Has_lost) (o : At (begun_at moments actions) s before server old reports) where
     abbrev begun : List Order
     begun = begun_at moments actions
 
     abbrev told : ℕ
-    told = listened_in before
+    told = listened_in_turns before
 
     abbrev v : Near
     v = old.owner.end.view
@@ -305,10 +305,10 @@ module _ (read : Reading) (reads : IsReading read) (moments : ℕ → ℕ) (time
         )
 
   client_sees : (action : Action client_side) (old new : Stand client_side) (actions : List (Action client_side)) (before : List Turn)
-      (p q : Between) (server : Stand server_side) (reports : List Said) → AreCarried (begun_at moments actions) → ClientTries action old.owner new.owner
-      → by_client.IsNext action (listened_in before) → CanTurn (Client action) p q → IsResetFor action p → Done action old new
+      (p q : Between) (server : Stand server_side) (reports : List Said) → AreCarried (begun_at moments actions) → ClientTriesEitherWay action old.owner new.owner
+      → by_client.IsNext action (listened_in_turns before) → CanTurn (Client action) p q → IsResetFor action p → Done action old new
       → Seen (begun_at moments actions) p before server old reports
-      → Seen (begun_at moments (action ∷ actions)) q (Client action ∷ before) server new (reports ++ reported_by action)
+      → Seen (begun_at moments (action ∷ actions)) q (Client action ∷ before) server new (reports ++ reports_of action)
   client_sees (Other Break) old new actions before p q server reports puts is next can reset did at = by at.shows
     where
       by : IsShown p old at.shown → Seen (begun_at moments (Other Break ∷ actions)) q (Client (Other Break) ∷ before) server new (reports ++ [])
@@ -334,8 +334,8 @@ module _ (read : Reading) (reads : IsReading read) (moments : ℕ → ℕ) (time
       → server_start.owner.channel.untold ≡ [] → client_start.owner.channel.unwritten ≡ []
       → server_start.owner.channel.unwritten ≡ [] → client_start.owner.channel.untold ≡ []
       → (server_led : HaveLed (server_actions turns) server_start server) (client_led : HaveLed (client_actions turns) client_start client)
-      → ServesAlong (server_actions turns) server_start server server_led → AsksAlong (client_actions turns) client_start client client_led
-      → ArePorts turns → AreToldAt moments turns server_start server server_led
+      → ServerTriesAlong (server_actions turns) server_start server server_led → ClientTriesAlong (client_actions turns) client_start client client_led
+      → ArePortsOfTurns turns → AreToldAt moments turns server_start server server_led
       → Seen (begun_at moments (client_actions turns)) between turns server client (reports_in (client_actions turns))
   reaches [] between happened resets server_start server client_start client begins untold unwritten far_unwritten near_untold server_led client_led serves asks
       ports told =
@@ -365,7 +365,7 @@ module _ (read : Reading) (reads : IsReading read) (moments : ℕ → ℕ) (time
       unwritten far_unwritten near_untold server_led client_led.1 serves asks.0 port.0 told)
 
 -- events of a world lead to what both drives hold
-pub tries_are_of_worlds : TriesAreOfWorlds
+pub tries_are_of_worlds : TriesAreOfWorldsEitherWay
 tries_are_of_worlds read reads b fair moments timed turns between server client did =
     let at = reaches read reads moments timed b fair turns between did.happened did.ordered did.server_start server did.client_start client did.begins
     did.untold did.unwritten did.server_unwritten did.client_untold did.server_led did.client_led did.serves did.asks did.ports did.told in
@@ -381,11 +381,11 @@ tries_are_of_worlds read reads b fair moments timed turns between server client 
         ahead = o.ahead;
         gain = o.gain;
         fits = s.fits;
-        near = gained_near o.gain o.more between at.seen (listened_in turns) server client at.shown o.so at.is_seen at.shows o.world.near
+        near = gained_near o.gain o.more between at.seen (listened_in_turns turns) server client at.shown o.so at.is_seen at.shows o.world.near
             (s.near ∙ ap (λ n. near.data_closed (taken n)) (view_is o.gain at.shown));
         far = s.far;
         reported = s.reported
-            ∙ ap (λ r. reports_in (client_actions turns) ++ r) (gained_said o.gain o.more at.seen (listened_in turns) server at.shown o.so
+            ∙ ap (λ r. reports_in (client_actions turns) ++ r) (gained_said o.gain o.more at.seen (listened_in_turns turns) server at.shown o.so
             ∙ ap (λ r. option_to_list r) (shown_said between client at.shown at.shows));
         control = s.control;
         marked = o.marked;

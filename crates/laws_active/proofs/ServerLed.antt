@@ -47,7 +47,7 @@ use Rattle.laws_transfers.proofs.Known.{AreCarried, Known}
 use Rattle.laws_transfers.proofs.Lost.{with_lost}
 use Rattle.laws_transfers.proofs.Running.{world_known}
 use Rattle.laws_transfers.proofs.Simulating.{ResetsNone}
-use Rattle.laws_active.specs.Actions.{ServerTransfers}
+use Rattle.laws_active.specs.Actions.{ServerTransfersEitherWay}
 use Rattle.laws_active.specs.Lead.{Even, Joined, Lead, Told, led_by}
 use Rattle.laws_active.proofs.Accepting.{is_transfer}
 use Rattle.laws_active.proofs.Dialling.{dials_on, dials_serves}
@@ -246,7 +246,7 @@ module _ (read : Reading) (reads : IsReading read) (from : State) (moments : ℕ
         same_told (Other (Listening port)) e = absurd (true≢false e)
         same_told action e = refl
 
-    goes_joined : ServerTransfers action old.owner new.owner → (octets more : List ℕ) (so : LedSo (Joined octets) more p told old client)
+    goes_joined : ServerTransfersEitherWay action old.owner new.owner → (octets more : List ℕ) (so : LedSo (Joined octets) more p told old client)
         → At (Joined octets) more
         → ClientRests (led_client (Joined octets) client).owner → Went action
     goes_joined active octets more so t asks =
@@ -291,7 +291,7 @@ module _ (read : Reading) (reads : IsReading read) (from : State) (moments : ℕ
             (led_between (Joined octets) more p) told (led_client (Joined octets) client) w t (so.1 e).takes))
 
   -- whichever lead
-  goes_quiet : (action : Action server_side) → ResetsNone action → passive.ServerTransfers action old.owner new.owner → ServerTransfers action old.owner new.owner
+  goes_quiet : (action : Action server_side) → ResetsNone action → passive.ServerTransfers action old.owner new.owner → ServerTransfersEitherWay action old.owner new.owner
       → IsNext action told
       → CanTurn (Server action) p q → (did : Done action old new) → IsToldAt action old new did (last_of moments (number_in actions)) → is_saying action ≡ false
       → is_port action ≡ false → (lead : Lead) (more : List ℕ) → LedSo lead more p told old client → At lead more → ClientRests (led_client lead client).owner
@@ -304,7 +304,7 @@ module _ (read : Reading) (reads : IsReading read) (from : State) (moments : ℕ
   goes_quiet action kept is active next can did at silent other (Joined octets) more so t asks =
       goes_joined action kept is next can did at active octets more so t asks
 
-  goes_says : (octets : List ℕ) → passive.ServerTransfers (Says octets) old.owner new.owner → ServerTransfers (Says octets) old.owner new.owner
+  goes_says : (octets : List ℕ) → passive.ServerTransfers (Says octets) old.owner new.owner → ServerTransfersEitherWay (Says octets) old.owner new.owner
       → CanTurn (Server (Says octets)) p q → (did : Done (Says octets) old new) → (lead : Lead) (more : List ℕ) → LedSo lead more p told old client
       → At lead more
       → ClientRests (led_client lead client).owner → Went (Says octets)
@@ -316,7 +316,7 @@ module _ (read : Reading) (reads : IsReading read) (from : State) (moments : ℕ
   goes_says octets is active can did (Joined front) more so t asks = goes_joined (Says octets) tt is tt can did tt active front more so t asks
 
   goes_listens : (port : ℕ) → passive.ServerTransfers (Other (Listening port)) old.owner new.owner
-      → ServerTransfers (Other (Listening port)) old.owner new.owner
+      → ServerTransfersEitherWay (Other (Listening port)) old.owner new.owner
       → port ≡ port_at told → CanTurn (Server (Other (Listening port))) p q → (did : Done (Other (Listening port)) old new) → (lead : Lead) (more : List ℕ)
       → LedSo lead more p told old client → At lead more → ClientRests (led_client lead client).owner → Went (Other (Listening port))
   goes_listens port is active next can did Even more so t asks =
@@ -369,7 +369,7 @@ module _ (read : Reading) (reads : IsReading read) (from : State) (moments : ℕ
 
   -- ---- all actions
 
-  pub server_led : (action : Action server_side) → ResetsNone action → ServerTransfers action old.owner new.owner → IsNext action told → CanTurn (Server action) p q
+  pub server_led : (action : Action server_side) → ResetsNone action → ServerTransfersEitherWay action old.owner new.owner → IsNext action told → CanTurn (Server action) p q
       → (did : Done action old new) → IsToldAt action old new did (last_of moments (number_in actions)) → (lead : Lead) (more : List ℕ)
       → LedSo lead more p told old client → At lead more → ClientRests (led_client lead client).owner → Went action
   server_led (Says octets) kept is next can did at lead more so t asks = goes_says octets is is can did lead more so t asks

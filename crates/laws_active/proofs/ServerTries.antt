@@ -35,7 +35,7 @@ use Rattle.laws_transfers.proofs.Lost.{with_lost}
 use Rattle.laws_transfers.proofs.Reaching.{serving_near}
 use Rattle.laws_transfers.proofs.Simulating.{ResetsNone}
 use Rattle.laws_active.specs.Lead.{Even, Joined, Lead, Told, led_by}
-use Rattle.laws_active.specs.Refusals.{Gain, Heard, Led, ServerTries, has_failed, is_heard, marked_by}
+use Rattle.laws_active.specs.Refusals.{Gain, Heard, Led, ServerTries, has_failed, is_heard, marked_by_turn}
 use Rattle.laws_active.proofs.Accepting.{is_transfer, joined_link, joins}
 use Rattle.laws_active.proofs.Gaining.{GainSo, GainsTo, gained_between, gained_client, gained_told, heard_between, heard_client, hearing_follows, idle_never, idles_on}
 use Rattle.laws_active.proofs.Joining.{joins_form}
@@ -204,7 +204,7 @@ module _ (read : Reading) (reads : IsReading read) (from : State) (moments : ℕ
   pub server_tries : (action : Action server_side) → ResetsNone action → ServerTries action old.owner new.owner → IsNext action told → CanTurn (Server action) p q
       → (did : Done action old new) → IsToldAt action old new did (last_of moments (number_in actions)) → (gain : Gain) (more : List ℕ)
       → GainSo gain more p told old client → At gain more → ClientRests (gained_client gain client).owner
-      → (is_heard gain ≡ true → has_failed before ≡ true) → Gained q (told_by action told) (marked_by (Server action) w.marks) (has_failed (Server action ∷ before))
+      → (is_heard gain ≡ true → has_failed before ≡ true) → Gained q (told_by action told) (marked_by_turn (Server action) w.marks) (has_failed (Server action ∷ before))
   server_tries (Other (Refused (NotConnected endpoint ∷ []))) kept is next can did at (Led lead) more so t asks heard =
       subst (λ b. Gained b told (marked_last WasRefused w.marks) true) (sym can) (denied endpoint is.1 did lead more so t asks)
   server_tries (Other (Refused (NotConnected endpoint ∷ []))) kept is next can did at (Heard octets) more so t asks heard =

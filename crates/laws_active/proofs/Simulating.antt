@@ -22,7 +22,7 @@ use Rattle.laws_world.specs.Agreement.{Order}
 use Rattle.laws_world.specs.Claims.{Beginning, IsFair, state_of, world_of}
 use Rattle.laws_world.specs.World.{Mark, World}
 use Rattle.laws_agreement.specs.Over.{OverRuns}
-use Rattle.laws_drivers.specs.control.Alone.{ServerIsCalm, reported_by}
+use Rattle.laws_drivers.specs.control.Alone.{ServerIsCalm, reports_of}
 use Rattle.laws_drivers.specs.events.Moments.{AreMoments, IsToldAt, begun_at, begun_by, last_of, number_in}
 use Rattle.laws_drivers.specs.control.Between.{Between, CanTurn, Client, Far as TheServer, Has_lost, IsStanding, Server, Turn, nothing_yet, with_hold}
 use Rattle.laws_drivers.specs.control.Touches.{touch_in}
@@ -44,9 +44,9 @@ use Rattle.laws_transfers.proofs.Called.{BreaksNone}
 use Rattle.laws_transfers.proofs.Lost.{with_lost}
 use Rattle.laws_transfers.proofs.Running.{world_known}
 use Rattle.laws_transfers.proofs.Simulating.{ResetsNone, doing_same, orders_after, orders_are}
-use Rattle.laws_active.specs.Actions.{ArePorts, listened_in}
+use Rattle.laws_active.specs.Actions.{ArePortsOfTurns, listened_in_turns}
 use Rattle.laws_active.specs.Lead.{Even, Joined, Told}
-use Rattle.laws_active.specs.Refusals.{AsksAlong, ClientTries, Gain, Heard, Led, ServerTries, gained_by, has_failed, is_heard, marked_by, marks_in}
+use Rattle.laws_active.specs.Refusals.{ClientTriesAlong, ClientTriesEitherWay, Gain, Heard, Led, ServerTries, gained_by, has_failed, is_heard, marked_by_turn, marks_in_turns}
 use Rattle.laws_active.proofs.Accepting.{joins}
 use Rattle.laws_active.proofs.Joining.{joins_form}
 use Rattle.laws_active.proofs.ClientLed as by_client
@@ -66,13 +66,13 @@ use Rattle.laws_active.proofs.Unsent.{StaysFresh, called_unaborted, far_fresh}
 -- ---- what was begun
 
 -- an action begins such an operation, or nothing
-by_carried : (moment : ℕ) (action : Action client_side) (old new : client_side.End) → ClientTries action old new → AreCarried (begun_by moment action)
+by_carried : (moment : ℕ) (action : Action client_side) (old new : client_side.End) → ClientTriesEitherWay action old new → AreCarried (begun_by moment action)
 by_carried moment (Other (Aside (Starting op))) old new is = (is.0.0, tt)
 by_carried moment action old new is = tt
 
 -- so all actions do
 pub in_carried : (moments : ℕ → ℕ) (actions : List (Action client_side)) (start now : Stand client_side) (led : HaveLed actions start now)
-    → AsksAlong actions start now led → AreCarried (begun_at moments actions)
+    → ClientTriesAlong actions start now led → AreCarried (begun_at moments actions)
 in_carried moments [] start now led asks = tt
 in_carried moments (action ∷ before) start now led asks =
     both_carried (begun_at moments before) (begun_by (moments (number_in before)) action) (in_carried moments before start led.0 led.1 asks.0)
@@ -81,21 +81,21 @@ in_carried moments (action ∷ before) start now led asks =
 -- ---- ports
 
 -- those of the actions before one are those of a world too, and it is told the next one
-pub server_ports : (action : Action server_side) (before : List Turn) → ArePorts (Server action ∷ before)
-    → ArePorts before × by_server.IsNext action (listened_in before)
+pub server_ports : (action : Action server_side) (before : List Turn) → ArePortsOfTurns (Server action ∷ before)
+    → ArePortsOfTurns before × by_server.IsNext action (listened_in_turns before)
 server_ports (Other (Listening port)) before ports = ports
 server_ports action before ports = (ports, tt)
 
-pub client_ports : (action : Action client_side) (before : List Turn) → ArePorts (Client action ∷ before)
-    → ArePorts before × by_client.IsNext action (listened_in before)
+pub client_ports : (action : Action client_side) (before : List Turn) → ArePortsOfTurns (Client action ∷ before)
+    → ArePortsOfTurns before × by_client.IsNext action (listened_in_turns before)
 client_ports (Other (Listening port)) before ports = ports
 client_ports action before ports = (ports, tt)
 
-pub server_listened : (action : Action server_side) (before : List Turn) → by_server.told_by action (listened_in before) ≡ listened_in (Server action ∷ before)
+pub server_listened : (action : Action server_side) (before : List Turn) → by_server.told_by action (listened_in_turns before) ≡ listened_in_turns (Server action ∷ before)
 server_listened (Other (Listening port)) before = refl
 server_listened action before = refl
 
-pub client_listened : (action : Action client_side) (before : List Turn) → by_client.told_by action (listened_in before) ≡ listened_in (Client action ∷ before)
+pub client_listened : (action : Action client_side) (before : List Turn) → by_client.told_by action (listened_in_turns before) ≡ listened_in_turns (Client action ∷ before)
 client_listened (Other (Listening port)) before = refl
 client_listened action before = refl
 
@@ -158,19 +158,19 @@ module _ (read : Reading) (reads : IsReading read) (moments : ℕ → ℕ) (time
     pub ahead : Ahead
     pub gain : Gain
     pub more : List ℕ
-    pub so : GainSo gain more between (listened_in turns) server client
-    pub together : Together read begun last ahead (gained_between gain more between) (gained_told gain (listened_in turns)) server (gained_client gain client)
+    pub so : GainSo gain more between (listened_in_turns turns) server client
+    pub together : Together read begun last ahead (gained_between gain more between) (gained_told gain (listened_in_turns turns)) server (gained_client gain client)
         reports world
     pub serves : ServerServes server.owner
     pub keeping : IsCarrying client.owner.end.view
     pub fresh : StaysFresh between client
-    pub marked : world.marks ≡ marks_in turns
+    pub marked : world.marks ≡ marks_in_turns turns
     pub heard : is_heard gain ≡ true → has_failed turns ≡ true
 
   -- how a client that is ahead stands
   pub asks : (begun : List Order) (between : Between) (turns : List Turn) (server : Stand server_side) (client : Stand client_side) (reports : List Said)
       → (o : Reached begun between turns server client reports) → ClientRests (gained_client o.gain client).owner
-  asks begun between turns server client reports o = gained_fetches o.gain o.more between (listened_in turns) server client o.so
+  asks begun between turns server client reports o = gained_fetches o.gain o.more between (listened_in_turns turns) server client o.so
 
   pub runs : (begun : List Order) (between : Between) (turns : List Turn) (server : Stand server_side) (client : Stand client_side) (reports : List Said)
       → (o : Reached begun between turns server client reports) → OverRuns read (state_of b) begun o.world
@@ -266,8 +266,8 @@ module _ (read : Reading) (reads : IsReading read) (moments : ℕ → ℕ) (time
     pub dials_keep : (endpoint : Endpoint) → near.wants v ≡ Want.Connect endpoint → IsKeeping Fresh v
     dials_keep endpoint wants = by o.gain o.more o.so o.together
       where
-        by : (gain : Gain) (more : List ℕ) → GainSo gain more p (listened_in turns) server client
-            → Together read begun o.last o.ahead (gained_between gain more p) (gained_told gain (listened_in turns)) server (gained_client gain client) reports
+        by : (gain : Gain) (more : List ℕ) → GainSo gain more p (listened_in_turns turns) server client
+            → Together read begun o.last o.ahead (gained_between gain more p) (gained_told gain (listened_in_turns turns)) server (gained_client gain client) reports
             o.world → IsKeeping Fresh v
         by (Led Even) more so t =
             let near_is : o.world.near ≡ taken v = t.beside.near ∙ unclosed (taken v) (no_close v (Want.Connect endpoint) wants refl) in
@@ -275,7 +275,7 @@ module _ (read : Reading) (reads : IsReading read) (moments : ℕ → ℕ) (time
             ∙ (known.dials endpoint (ap near.wants near_is ∙ taken_wants v ∙ wants)).doing)
         by (Led (Told port)) more so t = step_keeps (ap (λ (n : Near). is_doing n.job) so.0.view)
         by (Led (Joined octets)) more so t =
-            absurd (joined_never read begun server client client reports o.world octets more p p (listened_in turns) so o.last o.ahead t (Want.Connect endpoint)
+            absurd (joined_never read begun server client client reports o.world octets more p p (listened_in_turns turns) so o.last o.ahead t (Want.Connect endpoint)
             wants refl)
         by (Heard octets) more so t = listening_never so.0.op so.0.flow so.0.port v (so.0.opens.fronts [] so.0.others so.0.octet (sym so.0.some)).0
             (Want.Connect endpoint) wants refl
@@ -286,8 +286,8 @@ module _ (read : Reading) (reads : IsReading read) (moments : ℕ → ℕ) (time
   far_reached : (actions : List (Action client_side)) (p q : Between) (told : ℕ) (before turns : List Turn) (old new : Stand server_side)
       (client : Stand client_side) (reports : List Said) (marks : List (List Mark)) (failed : Bool)
       → (o : Reached (begun_at moments actions) p before old client reports)
-      → GainsTo read [] (begun_at moments actions) q told new client reports marks failed o.world × ServerServes new.owner → told ≡ listened_in turns
-      → marks ≡ marks_in turns → failed ≡ has_failed turns → StaysFresh q client → Reached (begun_at moments actions) q turns new client reports
+      → GainsTo read [] (begun_at moments actions) q told new client reports marks failed o.world × ServerServes new.owner → told ≡ listened_in_turns turns
+      → marks ≡ marks_in_turns turns → failed ≡ has_failed turns → StaysFresh q client → Reached (begun_at moments actions) q turns new client reports
   far_reached actions p q told before turns old new client reports marks failed o went told_is marks_are failed_is fresh =
       let begun : List Order = begun_at moments actions in
       let g = subst (λ n. GainsTo read [] begun q n new client reports marks failed o.world) told_is went.0 in
@@ -311,17 +311,17 @@ module _ (read : Reading) (reads : IsReading read) (moments : ℕ → ℕ) (time
   -- of the server, but a reset
   pub server_reaches : (action : Action server_side) → ResetsNone action → (old new : Stand server_side) (actions : List (Action client_side)) (before : List Turn)
       (p q : Between) (client : Stand client_side) (reports : List Said) → AreCarried (begun_at moments actions) → ServerTries action old.owner new.owner
-      → by_server.IsNext action (listened_in before) → CanTurn (Server action) p q → (did : Done action old new)
+      → by_server.IsNext action (listened_in_turns before) → CanTurn (Server action) p q → (did : Done action old new)
       → IsToldAt action old new did (last_of moments (number_in actions)) → Reached (begun_at moments actions) p before old client reports
       → Reached (begun_at moments actions) q (Server action ∷ before) new client reports
   server_reaches action kept old new actions before p q client reports puts is next can did at o =
       let begun : List Order = begun_at moments actions in
-      let told : ℕ = listened_in before in
+      let told : ℕ = listened_in_turns before in
       let went = server_tries read reads (state_of b) moments actions puts old new client reports o.world o.serves
       (runs begun p before old client reports o) o.last o.ahead p q told before (called_unaborted p client o.fresh) action kept is next can did at o.gain o.more
       o.so o.together (asks begun p before old client reports o) o.heard in
-      far_reached actions p q (by_server.told_by action told) before (Server action ∷ before) old new client reports (marked_by (Server action) o.world.marks)
-      (has_failed (Server action ∷ before)) o went (server_listened action before) (ap (marked_by (Server action)) o.marked) refl
+      far_reached actions p q (by_server.told_by action told) before (Server action ∷ before) old new client reports (marked_by_turn (Server action) o.world.marks)
+      (has_failed (Server action ∷ before)) o went (server_listened action before) (ap (marked_by_turn (Server action)) o.marked) refl
       (far_fresh p q client o.fresh (touch_in action) can)
 
   -- a reset: what was not written is on its way still there
@@ -332,7 +332,7 @@ module _ (read : Reading) (reads : IsReading read) (moments : ℕ → ℕ) (time
       (Server (Other (Left (Reset left written))) ∷ before) new client reports
   reset_reaches left written old new actions before p client reports puts calm stands did o =
       let begun : List Order = begun_at moments actions in
-      let told : ℕ = listened_in before in
+      let told : ℕ = listened_in_turns before in
       let went = resets_tried read reads (state_of b) moments actions puts old new client reports o.world o.serves
       (runs begun p before old client reports o) o.last o.ahead p p told before (called_unaborted p client o.fresh) left written calm did stands o.gain o.more
       o.so o.together (asks begun p before old client reports o) o.heard in
@@ -342,16 +342,16 @@ module _ (read : Reading) (reads : IsReading read) (moments : ℕ → ℕ) (time
 
   -- of the client, but that it is told of a break
   pub client_reaches : (action : Action client_side) → BreaksNone action → (old new : Stand client_side) (actions : List (Action client_side)) (before : List Turn)
-      (p q : Between) (server : Stand server_side) (reports : List Said) → AreCarried (begun_at moments actions) → ClientTries action old.owner new.owner
-      → by_client.IsNext action (listened_in before) → CanTurn (Client action) p q → Done action old new
+      (p q : Between) (server : Stand server_side) (reports : List Said) → AreCarried (begun_at moments actions) → ClientTriesEitherWay action old.owner new.owner
+      → by_client.IsNext action (listened_in_turns before) → CanTurn (Client action) p q → Done action old new
       → Reached (begun_at moments actions) p before server old reports
-      → Reached (begun_at moments actions ++ begun_by (moments (number_in actions)) action) q (Client action ∷ before) server new (reports ++ reported_by action)
+      → Reached (begun_at moments actions ++ begun_by (moments (number_in actions)) action) q (Client action ∷ before) server new (reports ++ reports_of action)
   client_reaches action unbroken old new actions before p q server reports puts is next can did o =
       let begun : List Order = begun_at moments actions in
-      let told : ℕ = listened_in before in
+      let told : ℕ = listened_in_turns before in
       let more : List Order = begun_by (moments (number_in actions)) action in
-      let g = subst (λ n. GainsTo read more (orders_after (moments (number_in actions)) action begun) q n server new (reports ++ reported_by action)
-      (marked_by (Client action) o.world.marks) (has_failed before) o.world) (client_listened action before)
+      let g = subst (λ n. GainsTo read more (orders_after (moments (number_in actions)) action begun) q n server new (reports ++ reports_of action)
+      (marked_by_turn (Client action) o.world.marks) (has_failed before) o.world) (client_listened action before)
       (client_tries read reads (state_of b) moments timed actions puts server old new reports o.world o.serves (runs begun p before server old reports o)
       o.keeping.run o.last o.ahead p q told (has_failed before) action unbroken is next can did o.gain o.more o.so o.together
       (asks begun p before server old reports o) o.heard) in
@@ -364,11 +364,11 @@ module _ (read : Reading) (reads : IsReading read) (moments : ℕ → ℕ) (time
         more = g.left;
         so = g.so;
         together = subst (λ l. Together read l g.goes.moment g.goes.ahead (gained_between g.gain g.left q)
-            (gained_told g.gain (listened_in (Client action ∷ before))) server (gained_client g.gain new) (reports ++ reported_by action) g.goes.world)
+            (gained_told g.gain (listened_in_turns (Client action ∷ before))) server (gained_client g.gain new) (reports ++ reports_of action) g.goes.world)
             (orders_are (moments (number_in actions)) action begun) g.goes.together;
         serves = o.serves;
         keeping = tries_carrying action unbroken old new is did o.keeping;
         fresh = tries_fresh action unbroken p q old new is o.keeping o.fresh (dials_keep actions puts p before server old reports o) did can;
-        marked = g.goes.marked ∙ ap (marked_by (Client action)) o.marked;
+        marked = g.goes.marked ∙ ap (marked_by_turn (Client action)) o.marked;
         heard = g.heard;
       }

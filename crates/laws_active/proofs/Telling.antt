@@ -38,7 +38,7 @@ use Rattle.laws_drivers.proofs.events.FarForms.{told_speaks}
 use Rattle.laws_drivers.proofs.events.Holding.{both, is_called, unclosed}
 use Rattle.laws_drivers.proofs.events.NearForms.{busy_same}
 use Rattle.laws_drivers.proofs.events.Stands.{ClientFetches as ClientRests, ServerServes, wants_port}
-use Rattle.laws_transfers.specs.Ahead.{Ahead, Fits, Level, Listened, Listens, Opens, Parted, far_ahead, is_parted}
+use Rattle.laws_transfers.specs.Ahead.{Ahead, Fits, Level, Listened, Listens, Opens, Parted, far_ahead, is_parted_ahead}
 use Rattle.laws_transfers.specs.Actions.{IsCarried}
 use Rattle.laws_transfers.proofs.Ahead.{Holds}
 use Rattle.laws_transfers.proofs.Beside.{Comes, Goes, IsBeside, Takes, Together, Writes, is_taking, rested}
@@ -95,7 +95,7 @@ module _ (read : Reading) (orders : List Order) (moment : ℕ) (ahead : Ahead) (
     pub serves : Writes between.far server.owner.channel
     pub takes : Takes new.owner.channel
     pub gives : Writes between.near new.owner.channel
-    pub twin : is_parted ahead ≡ true → HasTwin read orders (settled (near_listens now))
+    pub twin : is_parted_ahead ahead ≡ true → HasTwin read orders (settled (near_listens now))
 
   -- no port of the server's is told there alone, since it would have said so
   unasked : IsAsking → (port : ℕ) → Listens port ≡ ahead → ⊥

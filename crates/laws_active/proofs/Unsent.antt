@@ -29,7 +29,7 @@ use Rattle.laws_drivers.proofs.events.Fresh as dialling
 use Rattle.laws_drivers.proofs.events.Holding.{both, is_called}
 use Rattle.laws_drivers.proofs.events.Plain.{IsSome, Whatever}
 use Rattle.laws_transfers.proofs.Called.{BreaksNone}
-use Rattle.laws_active.specs.Actions.{ClientTransfers}
+use Rattle.laws_active.specs.Actions.{ClientTransfersEitherWay}
 use Rattle.laws_active.proofs.Accepting.{few_unsettled}
 use Rattle.laws_active.proofs.Calls.{carried_some}
 use Rattle.laws_active.proofs.Keeping.{IsCarrying, IsKeeping, IsKeepingJob, IsKept, ended_kept, gives_kept, hears_kept, opened_kept, port_told_kept, received_kept, starts_kept, taken_kept, whatever_kept}
@@ -85,7 +85,7 @@ module _ (Kept : Op (List ℕ) → Transfer → Type 0) (keeps : IsKept Kept)
   -- where octets that it takes do, and but a break that it is told of
   pub action_kept : ((octets : List ℕ) (count : ℕ) → ClientIsCalm old.owner new.owner → Done (Other (Received octets count)) old new
       → IsKeeping Kept old.owner.end.view → IsKeeping Kept new.owner.end.view)
-      → (action : Action client_side) → BreaksNone action → ClientTransfers action old.owner new.owner → Done action old new
+      → (action : Action client_side) → BreaksNone action → ClientTransfersEitherWay action old.owner new.owner → Done action old new
       → IsKeeping Kept old.owner.end.view → IsKeeping Kept new.owner.end.view
   action_kept takes (Heard octets) unbroken is did p =
       is_now _ (did.hears.0.0.0 is.1).0 (hears_kept Kept keeps (take (length octets) old.unheard) old.owner.end.view p)
@@ -117,7 +117,7 @@ module _ (Kept : Op (List ℕ) → Transfer → Type 0) (keeps : IsKept Kept)
   action_kept takes action unbroken is did p = absurd is.0
 
 -- of each that is begun one octet at least is asked for, where a number of them is
-pub action_carrying : (action : Action client_side) → BreaksNone action → (old new : Stand client_side) → ClientTransfers action old.owner new.owner → Done action old new
+pub action_carrying : (action : Action client_side) → BreaksNone action → (old new : Stand client_side) → ClientTransfersEitherWay action old.owner new.owner → Done action old new
     → IsCarrying old.owner.end.view → IsCarrying new.owner.end.view
 action_carrying action unbroken old new is did p =
     action_kept Whatever whatever_kept (λ count op transfer kept. tt) old new
@@ -179,7 +179,7 @@ module _ (p q : Between) (old new : Stand client_side) (fresh : StaysFresh p old
   u = new.owner.end.view
 
   -- it is fresh still
-  keeps_on : (action : Action client_side) → BreaksNone action → ClientTransfers action old.owner new.owner → Done action old new → IsFresh p old → IsKeeping Fresh u
+  keeps_on : (action : Action client_side) → BreaksNone action → ClientTransfersEitherWay action old.owner new.owner → Done action old new → IsFresh p old → IsKeeping Fresh u
   keeps_on action unbroken is did f =
       action_kept Fresh fresh_kept fresh_went old new
       (λ octets count calm took before.
@@ -196,7 +196,7 @@ module _ (p q : Between) (old new : Stand client_side) (fresh : StaysFresh p old
   all_on : (IsFresh p old → IsKeeping Fresh u) → q ≡ p → (old.owner.channel.untold ≡ [] → new.owner.channel.untold ≡ []) → StaysFresh q new
   all_on keeping same untold = takes_on keeping (ap (λ (m : Between). m.far) same) (ap (λ (m : Between). m.data_ways.to_client) same) untold
 
-  pub near_fresh : (action : Action client_side) → BreaksNone action → ClientTransfers action old.owner new.owner
+  pub near_fresh : (action : Action client_side) → BreaksNone action → ClientTransfersEitherWay action old.owner new.owner
       → ((endpoint : Endpoint) → near.wants v ≡ Want.Connect endpoint → IsKeeping Fresh v) → Done action old new → CanTurn (Client action) p q
       → StaysFresh q new
   near_fresh (Heard octets) unbroken is dials did can =

@@ -20,28 +20,28 @@ use Rattle.laws_world.specs.World.{Stands, World}
 use Rattle.ftp_server_driver.specs.alone.Side.{server_side}
 use Rattle.ftp_server_model.specs.Calls.{clock_step}
 use Rattle.ftp_server_model.specs.Machine.{IsReading, Reading}
-use Rattle.laws_active.specs.Actions.{ArePorts, ClientTransfers, IsAsking, IsServing}
+use Rattle.laws_active.specs.Actions.{ArePortsOfTurns, ClientTransfersEitherWay, IsAskingOrListening, IsServingOrDialling}
 use Rattle.laws_active.specs.Lead.{Lead, led_by}
 
 -- files are put, fetched and peeked into, and listings, over data connections that either dials, and nothing of one fails
-abbrev pub no_faults : Faults
-no_faults = record {
-  Serves = IsServing;
-  Asks = IsAsking;
-  ArePorts = ArePorts;
+abbrev pub no_faults_either_way : Faults
+no_faults_either_way = record {
+  Serves = IsServingOrDialling;
+  Asks = IsAskingOrListening;
+  ArePorts = ArePortsOfTurns;
   AreOrdered = λ moments turns between happened start now led. AreResets turns between happened;
   AreShort = λ actions start now led. ⊤;
-  IsAnswer = IsAnswerBy IsCarried ClientTransfers;
+  IsAnswer = IsAnswerBy IsCarried ClientTransfersEitherWay;
   AreMarks = λ turns start now led client_start client client_led marks. AreUnmarked marks;
 }
 
 -- one server's drive and drives of one client did these actions in this order, and the ports of both are those of a world
 abbrev pub DidEither : Beginning → (moments : ℕ → ℕ) → List Turn → Between → (server : Stand server_side) (client : Stand client_side) → Type 0
-DidEither b moments turns between server client = Did no_faults b moments turns between server client
+DidEither b moments turns between server client = Did no_faults_either_way b moments turns between server client
 
 -- A world holds what both ends hold: a close, a report, a port and an opening that are due are done there, at either end; the moment that the server was told
 -- last is any. The control connection stands, and no link was refused or broke.
-pub record HoldsBoth (server : Stand server_side) (client : Stand client_side) (told : List Said) (w : World) : Type 0 where
+pub record HoldsBothEitherWay (server : Stand server_side) (client : Stand client_side) (told : List Said) (w : World) : Type 0 where
   pub moment : ℕ
   pub ahead : Ahead
   pub lead : Lead
@@ -60,7 +60,7 @@ pub record EitherIsOfWorld (read : Reading) (b : Beginning) (moments : ℕ → �
   pub timed : AreTimed events
   pub world : World
   pub leads : Leads read (world_of b) events (begun_at moments (client_actions turns)) world
-  pub both : HoldsBoth server client (reports_in (client_actions turns)) world
+  pub both : HoldsBothEitherWay server client (reports_in (client_actions turns)) world
 
 -- so it is of any such actions
 abbrev pub EitherAreOfWorlds : Type 0
@@ -71,15 +71,15 @@ EitherAreOfWorlds =
 
 -- so reports and map agree with what was begun, a report that was not taken yet among them
 abbrev pub EitherAgree : Type 0
-EitherAgree = Agree no_faults
+EitherAgree = Agree no_faults_either_way
 
 -- so they do where both ends are told then, whatever was on its way, that the control connection ended: an operation that has no report is lost
 abbrev pub EitherPartingAgree : Type 0
-EitherPartingAgree = PartingAgree no_faults
+EitherPartingAgree = PartingAgree no_faults_either_way
 
 -- where each operation has its report, reports and map are those of the operations run directly
 abbrev pub EitherAreTheDirectRun : Type 0
-EitherAreTheDirectRun = AreTheDirectRun no_faults
+EitherAreTheDirectRun = AreTheDirectRun no_faults_either_way
 
 -- actions of which the client alone dialled are such actions
 abbrev pub PassiveIsEither : Type 0

@@ -3,7 +3,7 @@
 ghost use Rattle.laws_active.specs.Claims.{EitherAgree, EitherAreOfWorlds, EitherAreTheDirectRun, EitherPartingAgree, PassiveIsEither};
 ghost use Rattle.laws_active.specs.Over.{EitherOverAreTheDirectRun};
 ghost use Rattle.laws_active.specs.Quitting.{EitherThatQuitAreTheDirectRun};
-ghost use Rattle.laws_active.specs.Refusals.{TriesAgree, TriesAreOfWorlds, TriesPartingAgree};
+ghost use Rattle.laws_active.specs.Refusals.{TriesAgreeEitherWay, TriesAreOfWorldsEitherWay, TriesPartingAgreeEitherWay};
 
 /// One server's drive and drives of one client that put and fetched files and listings, and peeked, over passive and active data connections leave what a list
 /// of the world's events leads to from the beginning.
@@ -41,12 +41,12 @@ pub fn passive_is_either()
 
 /// So it is where dials of either fail: the world has a mark of each operation for which one failed, and no other.
 pub fn either_of_which_dials_fail_are_of_worlds()
-    ensures { TriesAreOfWorlds }
+    ensures { TriesAreOfWorldsEitherWay }
 {}
 
 /// At every moment reports and map agree with the operations that were begun, with these marks: an operation is not opened only where a dial for it failed, by
 /// the client or by the server. So they do where the control connection ends then.
 pub fn either_of_which_dials_fail_agree()
-    ensures standing { TriesAgree }
-    ensures parting { TriesPartingAgree }
+    ensures standing { TriesAgreeEitherWay }
+    ensures parting { TriesPartingAgreeEitherWay }
 {}

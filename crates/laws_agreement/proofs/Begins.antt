@@ -22,7 +22,7 @@ use Rattle.laws_world.specs.Events.{operation_begins}
 use Rattle.laws_world.specs.Serving.{after_event}
 use Rattle.laws_world.specs.World.{World, Mark}
 use Rattle.laws_dialogues.specs.Dialogue.{HasNoTransfer, Passes, Stands, Ends, resting}
-use Rattle.laws_dialogues.specs.Login.{Place, Greets, AsksUser, WantsPass, AsksPass, Answers, standing_of, way_of, IsAccessOf, Logging, AtFree, IsOnWay}
+use Rattle.laws_dialogues.specs.Login.{LoginPlace, Greets, AsksUser, WantsPass, AsksPass, Answers, standing_in_login, way_at_login, IsAccessOf, Logging, AtFree, IsOnWay}
 use Rattle.laws_dialogues.specs.Operations.{LeadsBy}
 use Rattle.laws_dialogues.specs.Stage.{calm, still, Way, Asking, Answering, rest, AreWritten, line_octets, IsAlone, behind}
 use Rattle.laws_dialogues.proofs.Theorems.{each-leads}
@@ -39,7 +39,7 @@ abbrev pub at_moment : ℕ → Far → Far
 at_moment moment f = record f { context = record f.context { moment = moment } }
 
 -- at another moment of the server the login is at the same place
-access_at : (place : Place) (state : State) (moment : ℕ) (n : Near) (f : Far) → IsAccessOf place state n f → IsAccessOf place state n (at_moment moment f)
+access_at : (place : LoginPlace) (state : State) (moment : ℕ) (n : Near) (f : Far) → IsAccessOf place state n f → IsAccessOf place state n (at_moment moment f)
 access_at Greets state moment n f is = is
 access_at AsksUser state moment n f is = is
 access_at WantsPass state moment n f is = is
@@ -51,7 +51,7 @@ abbrev pub with_job : Job → Near → Near
 with_job job n = record n { job = job; run = None }
 
 -- whatever the client has to do behind it, the login is at the same place
-access_job : (place : Place) (state : State) (job : Job) (n : Near) (f : Far) → IsAccessOf place state n f → IsAccessOf place state (with_job job n) f
+access_job : (place : LoginPlace) (state : State) (job : Job) (n : Near) (f : Far) → IsAccessOf place state n f → IsAccessOf place state (with_job job n) f
 access_job Greets state job n f is = is
 access_job AsksUser state job n f is = is
 access_job WantsPass state job n f is = is
@@ -59,7 +59,7 @@ access_job AsksPass state job n f is = is
 access_job (Answers admitted to_pass) state job n f is = is
 
 -- what is on its way at a place of the login is the same whatever the client has to do behind it
-same_way : (place : Place) (job : Job) (n : Near) → way_of place n ≡ way_of place (with_job job n)
+same_way : (place : LoginPlace) (job : Job) (n : Near) → way_at_login place n ≡ way_at_login place (with_job job n)
 same_way Greets job n = refl
 same_way AsksUser job n = refl
 same_way WantsPass job n = refl
@@ -102,7 +102,7 @@ stands_at_moment state moment n f s = record {
 -- ---- what the client makes of it
 
 -- a client that is in the login lets the operation wait
-started_waits : (place : Place) (op : Op (List ℕ)) (v : Near) → started_by (standing_of place) op v ≡ record v { job = Waiting op }
+started_waits : (place : LoginPlace) (op : Op (List ℕ)) (v : Near) → started_by (standing_in_login place) op v ≡ record v { job = Waiting op }
 started_waits Greets op v = refl
 started_waits AsksUser op v = refl
 started_waits WantsPass op v = refl
@@ -111,7 +111,7 @@ started_waits (Answers admitted true) op v = refl
 started_waits (Answers admitted false) op v = refl
 
 -- an operation that can be sent, begun in the login, waits, and the client has no run
-starts_waits : (place : Place) (op : Op (List ℕ)) (v : Near) → can_be_sent op ≡ true → v.standing ≡ standing_of place → near.starts op v ≡ with_job (Waiting op) v
+starts_waits : (place : LoginPlace) (op : Op (List ℕ)) (v : Near) → can_be_sent op ≡ true → v.standing ≡ standing_in_login place → near.starts op v ≡ with_job (Waiting op) v
 unfolding near.starts
 starts_waits place op v can is =
     ap (λ (b : Bool). if b then started_by v.standing op (record v { run = None }) else unsendable_by v.standing v) can
@@ -186,7 +186,7 @@ module _ (read : Reading) (reads : IsReading read) (from : State) (begun : List 
   begins_login now Along Goal w can s logging =
       let marks : List (List Mark) = w.marks ++ [] ∷ [] in
       let begin : World → World = λ u. record u { far = far.clocked moment u.far; near = with_job (Waiting op) u.near; marks = marks } in
-      let standing : w.near.standing ≡ standing_of logging.place = (seen (AtFree now) w s).standing ∙ logging.logs.standing in
+      let standing : w.near.standing ≡ standing_in_login logging.place = (seen (AtFree now) w s).standing ∙ logging.logs.standing in
       record {
         base = record s.base { near = with_job (Waiting op) s.base.near; far = at_moment moment s.base.far; marks = marks };
         way = s.way;

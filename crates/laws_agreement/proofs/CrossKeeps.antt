@@ -24,7 +24,7 @@ use Rattle.laws_world.specs.World.{World, Mark}
 use Rattle.laws_dialogues.specs.Fetches.{Ask}
 use Rattle.laws_dialogues.specs.Peeks.{abort_line}
 use Rattle.laws_dialogues.specs.Stage.{calm, still, AreWritten, rest, row_octets}
-use Rattle.laws_agreement.specs.Crossing.{AreCut, AreHeard, Cuts, FlowsAbort, crossing_at}
+use Rattle.laws_agreement.specs.Crossing.{AreCut, AreHeardBetween, Cuts, FlowsAbort, crossing_at}
 use Rattle.laws_agreement.specs.Cut.{Cut, Flows, FlowsRow, coming, world_at}
 use Rattle.laws_agreement.specs.PeekStages.{AtHalt, IsHaltCross}
 use Rattle.laws_agreement.proofs.Chunks.{IsAll, both_empty, hears_some}
@@ -37,16 +37,16 @@ use Rattle.laws_agreement.proofs.Still.{no_octets}
 pub record HeardAs (held : List ℕ) : Type 0 where
   pub ear : Ear
   pub gathered : Gathered
-  pub heard : AreHeard held ear gathered
+  pub heard : AreHeardBetween held ear gathered
 
 -- where nothing is held, the client is between two replies
-pub none_heard : AreHeard [] quiet Between
+pub none_heard : AreHeardBetween [] quiet Between
 none_heard n rest lines = λ i. record n { ear = rest i; gathered = lines i }
 
 -- so it is of each front of a row
 pub rows_heard : (rows : List Reply) (held incoming : List ℕ) → AreWritten rows → FlowsRow rows held incoming → HeardAs held
 rows_heard [] held incoming fine flow =
-    record { ear = quiet; gathered = Between; heard = subst (λ l. AreHeard l quiet Between) (sym flow.0) none_heard }
+    record { ear = quiet; gathered = Between; heard = subst (λ l. AreHeardBetween l quiet Between) (sym flow.0) none_heard }
 rows_heard (reply ∷ more) held incoming fine flow =
     let front = replies.fronts_are_alike reply.code reply.lines held flow.more flow.octet fine.0 flow.whole in
     record { ear = front.ear; gathered = front.gathered; heard = λ n rest lines. front.is n (record { ear = rest; gathered = lines }) }
@@ -224,7 +224,7 @@ pub record RowGoes (reply : Reply) (more : List Reply) (b : World) (up : Cut) (x
   pub flows : FlowsRow more [] (heard ++ (ys ++ owed))
 
 module _ (asked : Bool) (b : World) (up : Cut) (above : FlowsAbort asked up) (held xs ys owed : List ℕ) (ear : Ear) (gathered : Gathered)
-    (heard : AreHeard held ear gathered) where
+    (heard : AreHeardBetween held ear gathered) where
   abbrev there : World
   there = heard_at b up ear gathered xs ys owed
 

@@ -13,7 +13,7 @@ use Rattle.ftp_operation.specs.Operation.{can_be_sent, is_number, is_path_text}
 use Rattle.ftp_operation.specs.declared.op.How.{How}
 use Rattle.ftp_operation.specs.declared.op.Op.{Op}
 use Rattle.ftp_path.specs.Path.{IsPathText, Names}
-use Rattle.ftp_repr.specs.Skipping.{IsPlace}
+use Rattle.ftp_repr.specs.Skipping.{IsPlaceOfOffset}
 use Rattle.ftp_settings.specs.Representation.{form_of, has_markers}
 use Rattle.ftp_settings.specs.declared.representation.Kind.{Kind}
 use Rattle.ftp_settings.specs.declared.representation.Kind.TheVariants as Kinds
@@ -173,7 +173,7 @@ module _ (state : State) (offset : Option ℕ) (text : List ℕ) (how : How) whe
   marked_place : (at found : ℕ) → has_markers how.representation ≡ true → place_at state (named state text) how at ≡ Some found → found ≡ at
   marked_place at found marked is =
       let kind : how.representation.kind ≡ Kinds.Image = ap (λ r. r.kind) (marked_is how.representation marked) in
-      let lies : IsPlace how.representation.kind (file_of state text) at found = led how.representation.kind (file_of state text) at found is in
+      let lies : IsPlaceOfOffset how.representation.kind (file_of state text) at found = led how.representation.kind (file_of state text) at found is in
       let counted : size_in how.representation.kind (take found (file_of state text)) ≡ at = sym (size_piece how.representation.kind (take found (file_of state text))) ∙ lies.goes in
       let long : length (take found (file_of state text)) ≡ at = ap (λ k. size_in k (take found (file_of state text))) (sym kind) ∙ counted in
       let short : length (take found (file_of state text)) ≡ min found (length (file_of state text)) = length-take found (file_of state text) in

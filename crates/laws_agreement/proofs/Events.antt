@@ -11,12 +11,12 @@ use Rattle.ftp_server_model.specs.Machine.{Reading, IsReading}
 use Rattle.ftp_server_model.specs.View.{Transfer}
 use Rattle.ftp_server_model.specs.declared.session.ServerLink.{ServerLink}
 use Rattle.ftp_server_model.specs.declared.session.ServerLink.TheVariants as FarData
-use Rattle.laws_world.specs.Agreement.{Order, begun_by}
+use Rattle.laws_world.specs.Agreement.{Order, begun_by_event}
 use Rattle.ftp_ends.specs.Octets.{has_octets}
 use Rattle.laws_world.specs.Events.{ControlToServer, ControlToClient, DataToServer, DataToClient, Event, Deliver, Open, Refuse, End, Break, EndControl, Next, Upload, Happens, can_happen, ends_control, is_asked_for, is_gone, is_left_by_near, is_left_by_far, is_parted}
 use Rattle.laws_world.specs.Serving.{after_event}
 use Rattle.laws_world.specs.World.{World}
-use Rattle.laws_dialogues.specs.Dialogue.{is_aside, Ends}
+use Rattle.laws_dialogues.specs.Dialogue.{is_set_aside, Ends}
 use Rattle.laws_dialogues.specs.Login.{AtOperation}
 use Rattle.laws_dialogues.specs.Stage.{rest}
 use Rattle.laws_agreement.specs.Follows.{IsUnder, IsLost, IsUnlinked, Phase, Follows}
@@ -34,7 +34,7 @@ pub record HasNoData (w : World) : Type 0 where
   pub asks : is_asked_for w ≡ false
 
 -- a data connection on which no transfer is under way has nothing to give
-pub given_none : (connection : ServerLink Transfer) → is_aside connection ≡ true → far.given_by connection ≡ []
+pub given_none : (connection : ServerLink Transfer) → is_set_aside connection ≡ true → far.given_by connection ≡ []
 given_none FarData.Free aside = refl
 given_none FarData.Passive aside = refl
 given_none (FarData.Active endpoint) aside = refl
@@ -155,7 +155,7 @@ module _ (read : Reading) (reads : IsReading read) (from : State) where
       by_phase u unlinked untold can (inr l) = absurd (never _ (ap (λ c. not (is_parted c)) l.control) can)
 
   -- a world that follows the operations begun still does behind each event that begins nothing
-  pub happens : (begun : List Order) (event : Event) (w new : World) → IsNoBeginning event → Holds begun w → Happens read event w true new → Holds (begun ++ begun_by event true) new
+  pub happens : (begun : List Order) (event : Event) (w new : World) → IsNoBeginning event → Holds begun w → Happens read event w true new → Holds (begun ++ begun_by_event event true) new
   happens begun (Deliver ControlToServer count) w new plain h e = same begun new (delivers_server read reads from begun _ count _ new (lent begun w h) e.1)
   happens begun (Deliver ControlToClient count) w new plain h e = same begun new (delivers_client read reads from begun _ count _ new (lent begun w h) e.1)
   happens begun (Deliver DataToServer count) w new plain h e =

@@ -24,7 +24,7 @@ use Rattle.ftp_server_model.specs.declared.session.Pending.{Pending}
 use Rattle.ftp_server_model.specs.declared.session.Pending.TheVariants as Pendings
 use Rattle.ftp_server_model.proofs.RepliesWritten.{replies_are_written}
 use Rattle.laws_world.specs.World.{World, Mark}
-use Rattle.laws_dialogues.specs.Dialogue.{is_aside}
+use Rattle.laws_dialogues.specs.Dialogue.{is_set_aside}
 use Rattle.laws_dialogues.specs.Fetches.{Ask, Direction, Down, Up, HasAnswer, IsAsk, IsOf, busy, carried, giving_of, rest_reply, offset_pending}
 use Rattle.laws_dialogues.specs.Stage.{Way, Asking, Answering, FarTurn}
 use Rattle.laws_dialogues.proofs.Exchanges.{with_session}
@@ -356,7 +356,7 @@ module _ (read : Reading) (reads : IsReading read) (state : State) (ask : Ask) (
   port_turn port connection pending b h = by_known state.known refl
     where
       idle : is_connection_busy b.far.session.connection ≡ false
-      idle = aside_idle b.far.session.connection (ap (λ s. is_aside s.connection) h.session ∙ h.fine.0)
+      idle = aside_idle b.far.session.connection (ap (λ s. is_set_aside s.connection) h.session ∙ h.fine.0)
 
       by_known : (known : Bool) → state.known ≡ known → (t : FarTurn read b.far (port_line b.near port)) × At (Answering t.replies) (record b { far = t.far })
       by_known true known = (

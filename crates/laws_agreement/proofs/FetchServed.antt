@@ -11,7 +11,7 @@ use Rattle.ftp_direct.specs.Direct.{State}
 use Rattle.ftp_direct.specs.declared.refusal.Refusal.{Refusal}
 use Rattle.ftp_client_model.specs.Calls as near
 use Rattle.ftp_client_model.specs.Calls.{report_of, report_of_job}
-use Rattle.ftp_client_model.specs.Plan.{asks_extended, how_of, is_extended, port_command}
+use Rattle.ftp_client_model.specs.Plan.{may_ask_extended, how_of, is_extended, port_command}
 use Rattle.ftp_client_model.specs.View.{View as Near, Job}
 use Rattle.ftp_client_model.specs.declared.client.ClientLink.{ClientLink as NearConnection}
 use Rattle.ftp_server_model.specs.Replies.{fixed_reply}
@@ -31,8 +31,8 @@ use Rattle.ftp_server_model.specs.declared.session.Pending.TheVariants as Pendin
 use Rattle.ftp_server_model.proofs.RepliesWritten.{replies_are_written}
 use Rattle.laws_world.specs.Serving.{near_served, far_served, collected, collected_by, after_event}
 use Rattle.laws_world.specs.World.{World, Gone, Opened, ClosedByFar, Mark, next_listen, port_at}
-use Rattle.laws_dialogues.specs.Dialogue.{Passes, is_aside}
-use Rattle.laws_dialogues.specs.Fetches.{Ask, HasPlan, busy, carrying, linked, port_reply, Opens, asked_of}
+use Rattle.laws_dialogues.specs.Dialogue.{Passes, is_set_aside}
+use Rattle.laws_dialogues.specs.Fetches.{Ask, HasPlan, busy, carrying, linked, port_reply, Opens, passive_verb_of}
 use Rattle.laws_dialogues.specs.Login.{IsOnWay}
 use Rattle.laws_dialogues.specs.Stage.{calm, still, Way, Asking, Answering, rest}
 use Rattle.laws_agreement.specs.Cut.{Cut, Flows as FlowsOf, Fits, world_at, PlacedAt}
@@ -161,7 +161,7 @@ module _ (read : Reading) (state : State) (ask : Ask) (plan : HasPlan ask) (own 
   abbrev asked_world : Bool → Bool → World → World
   asked_world extended closing b = record (world_at b rest no_octets) {
     near = calm (Stages.near_at state ask (PortAsked closing) b.near);
-    far = still (far_linked (linked (FarData.Asked (asked_of extended)) closing Pendings.Nothing b.far.session) b.far);
+    far = still (far_linked (linked (FarData.Asked (passive_verb_of extended)) closing Pendings.Nothing b.far.session) b.far);
     link = Gone;
   }
 
@@ -211,7 +211,7 @@ module _ (read : Reading) (state : State) (ask : Ask) (plan : HasPlan ask) (own 
       is ∙ (λ i. record (world_at b rest no_octets) { near = calm (h.near i); far = still (far_linked (h.session i) b.far); link = h.link i }) in
       let f : Far = far_linked (linked FarData.Passive false Pendings.Nothing b.far.session) b.far in
       let to : World = record b { near = Stages.near_at state ask (PortTold port) b.near; far = f; link = Gone; listens = next_listen b.listens } in
-      let v4 : extended ≡ false → IsV4 b.near.peer = λ plain. is_v4 b.near.peer (neither (asks_extended (how_of op)) (is_v6 b.near.peer) plain) in
+      let v4 : extended ≡ false → IsV4 b.near.peer = λ plain. is_v4 b.near.peer (neither (may_ask_extended (how_of op)) (is_v6 b.near.peer) plain) in
       let written = port_reply_written b.far.session extended b.near.peer port v4 (subst IsTypedHost (sym h.steady.peer) h.steady.typed) small in
       let owes : Host → World = λ host. record (told_world extended b) { far = record (still f) { owed = reply_octets (port_reply extended host port) } } in
       let new_is : after_event w ≡ world_at to (Answering (port_reply extended b.near.peer port ∷ [])) (record { held = []; moving = []; owed = reply_octets (port_reply extended b.near.peer port) }) =
@@ -270,7 +270,7 @@ module _ (read : Reading) (state : State) (ask : Ask) (plan : HasPlan ask) (own 
   }
 
   -- a client that wants a port is told the next one and owes the line with it
-  wanted_served : (connection : FarConnection Transfer) → is_aside connection ≡ true → (pending : Pending Names) (b : World)
+  wanted_served : (connection : FarConnection Transfer) → is_set_aside connection ≡ true → (pending : Pending Names) (b : World)
       → after_event (wanted_world connection pending b) ≡ said_world connection pending b
   unfolding near.wants near.listening
   wanted_served FarData.Free aside pending b = refl

@@ -20,8 +20,8 @@ use Rattle.laws_world.specs.Outcome.{Outcome}
 use Rattle.laws_world.specs.Events.{DataToServer, link_breaks, told}
 use Rattle.laws_world.specs.Serving.{after_event}
 use Rattle.laws_world.specs.World.{World, Link, Gone, ClosedByNear, Mark, Broken, marked_last}
-use Rattle.laws_dialogues.specs.Dialogue.{Stands, is_aside, resting}
-use Rattle.laws_dialogues.specs.Fetches.{Ask, HasPlan, leaving, linked, kept, IsSteady}
+use Rattle.laws_dialogues.specs.Dialogue.{Stands, is_set_aside, resting}
+use Rattle.laws_dialogues.specs.Fetches.{Ask, HasPlan, leaving, linked, kept, IsSteadySession}
 use Rattle.laws_dialogues.specs.Stage.{calm, still, rest}
 use Rattle.laws_agreement.specs.Cut.{world_at}
 use Rattle.laws_agreement.specs.Follows.{Told, IsLinked, Follows}
@@ -87,7 +87,7 @@ told_fared from done marks reports now ask plan moment own said t fares few =
 -- ---- both ends behind it
 
 -- ends that are steady stand, where the server is at no transfer and is not closing
-pub steady_stands : (now : State) (n : Near) (f : Far) → IsSteady now (kept n f) → is_aside f.session.connection ≡ true → (connection : FarConnection Transfer) (pending : Pending Names)
+pub steady_stands : (now : State) (n : Near) (f : Far) → IsSteadySession now (kept n f) → is_set_aside f.session.connection ≡ true → (connection : FarConnection Transfer) (pending : Pending Names)
     → f.session ≡ linked connection false pending f.session → Stands now n f
 steady_stands now n f steady aside connection pending session = record {
   meets = record { peer = steady.peer; here = steady.here; typed = steady.typed; own = steady.own; family = steady.family; all_ways = steady.all_ways };
@@ -118,7 +118,7 @@ taken_base said connection pending link b = record b {
 }
 
 -- where the server is at no transfer when the answer is told, the report is taken, and there is no link
-pub aside_served : (said : Said) (closes : Bool) (connection : FarConnection Transfer) → is_aside connection ≡ true → (pending : Pending Names) (b : World)
+pub aside_served : (said : Said) (closes : Bool) (connection : FarConnection Transfer) → is_set_aside connection ≡ true → (pending : Pending Names) (b : World)
     → after_event (told_at said (Aside closes connection pending) b) ≡ world_at (taken_base said connection pending Gone b) rest no_octets
 unfolding near.wants
 aside_served said true FarData.Free aside pending b = refl
@@ -178,7 +178,7 @@ module _ (read : Reading) (from : State) (begun : List Order) (w : World) (f : I
       (subst (λ marks. Told from (f.done ++ Single f.ask.op f.moment ∷ []) marks None (w.reports ++ said ∷ []) f.now) (sym f.marks_are) t)
 
   -- the session is free again
-  freed : (leaves : Leaving) (connection : FarConnection Transfer) (pending : Pending Names) → Stood leaves → Fared f.now f.ask f.own said → length f.own ≤ 1 → is_aside connection ≡ true
+  freed : (leaves : Leaving) (connection : FarConnection Transfer) (pending : Pending Names) → Stood leaves → Fared f.now f.ask f.own said → length f.own ≤ 1 → is_set_aside connection ≡ true
       → Follows read from begun (world_at (taken_base said connection pending Gone b) rest no_octets)
   freed leaves connection pending h fares few aside =
       let is = is_rest leaves h in

@@ -24,8 +24,8 @@ use Rattle.ftp_server_model.specs.declared.session.ServerLink.{ServerLink as Far
 use Rattle.ftp_server_model.specs.declared.session.ServerLink.TheVariants as FarData
 use Rattle.ftp_server_model.specs.declared.session.Pending.TheVariants as Pendings
 use Rattle.laws_world.specs.World.{World, Gone, Mark, Broken, Refused as RefusedLink}
-use Rattle.laws_dialogues.specs.Dialogue.{IsSound, Passes, is_aside}
-use Rattle.laws_dialogues.specs.Fetches.{Ask, IsAsk, IsPlacedAt, IsTimely, busy, carrying, leaving, linked, opened_command, opened_job, port_reply, rest_reply, offset_pending, kept, IsSteady, Opens}
+use Rattle.laws_dialogues.specs.Dialogue.{IsSound, Passes, is_set_aside}
+use Rattle.laws_dialogues.specs.Fetches.{Ask, IsAsk, IsPlacedAt, IsTimely, busy, carrying, leaving, linked, opened_command, opened_job, port_reply, rest_reply, offset_pending, kept, IsSteadySession, Opens}
 use Rattle.laws_dialogues.specs.Login.{IsOnWay}
 use Rattle.laws_dialogues.specs.Stage.{calm, Way, Asking, Answering, FarTurn, NearTurn, Turns, behind}
 use Rattle.laws_dialogues.proofs.Fetching.{port_denied, port_taken, steady_at, port_is_told, rest_granted, rest_denied}
@@ -161,7 +161,7 @@ module _ (read : Reading) (reads : IsReading read) (state : State) (ask : Ask) (
   HearsOrCrosses b reply more = Hears b reply more ⊎ Crosses Cross b reply more
 
   -- the client's peer in a steady session is a typed host
-  typed_peer : (b : World) → IsSteady state (kept b.near b.far) → IsTypedHost b.near.peer
+  typed_peer : (b : World) → IsSteadySession state (kept b.near b.far) → IsTypedHost b.near.peer
   typed_peer b steady = subst IsTypedHost (sym steady.peer) steady.typed
 
   -- the reply that tells the port is heard, and the client dials that port
@@ -386,8 +386,8 @@ module _ (read : Reading) (reads : IsReading read) (state : State) (ask : Ask) (
 
   -- a reply with which the client is done, whose port is to be closed, while the server stands so
   leaves_port : (stage : Stage) (connection : FarConnection Transfer) (way : Way) (b : World) (reply : Reply) (said : Said) → Stands stage way b
-      → IsSteady state (kept b.near b.far) → b.data_to_server ≡ [] → answered reply.code reply.lines (calm (Stages.near_at state ask stage b.near)) ≡ record (calm (leaving said true b.near)) { owed = [] }
-      → b.far.session ≡ linked connection false Pendings.Nothing b.far.session → b.link ≡ Gone → b.data_to_client ≡ [] → length own ≤ 1 → Fared state ask own said → is_aside connection ≡ true
+      → IsSteadySession state (kept b.near b.far) → b.data_to_server ≡ [] → answered reply.code reply.lines (calm (Stages.near_at state ask stage b.near)) ≡ record (calm (leaving said true b.near)) { owed = [] }
+      → b.far.session ≡ linked connection false Pendings.Nothing b.far.session → b.link ≡ Gone → b.data_to_client ≡ [] → length own ≤ 1 → Fared state ask own said → is_set_aside connection ≡ true
       → Hears b reply []
   leaves_port stage connection way b reply said h steady to_server is session link to_client marked fares aside = (
     record {

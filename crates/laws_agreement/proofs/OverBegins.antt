@@ -19,7 +19,7 @@ use Rattle.ftp_client_model.specs.declared.client.Standing.TheVariants as Standi
 use Rattle.ftp_server_model.specs.Calls as far
 use Rattle.ftp_server_model.specs.Machine.{Reading, IsReading}
 use Rattle.laws_world.specs.Agreement.{Order, Single, Tries, Item, state_after, ItemHolds}
-use Rattle.laws_world.specs.Events.{begun_at, operation_begins, upload_begins}
+use Rattle.laws_world.specs.Events.{begins_at_moment, operation_begins, upload_begins}
 use Rattle.laws_world.specs.Outcome.{Nothing}
 use Rattle.laws_world.specs.Serving.{after_event}
 use Rattle.laws_world.specs.World.{World, Mark}
@@ -142,5 +142,5 @@ module _ (read : Reading) (reads : IsReading read) (from : State) (begun : List 
   -- and so the world follows
   pub over_lost : (w : World) → IsUnlinked w → IsLost from begun w → Follows read from (begun ++ Tries upload moment ∷ []) (after_event (upload_begins upload moment w))
   over_lost w unlinked l =
-      subst (λ n. Follows read from (begun ++ Tries upload moment ∷ []) (after_event (begun_at moment n w))) (sym (starts_failed upload w.near l.near.standing))
+      subst (λ n. Follows read from (begun ++ Tries upload moment ∷ []) (after_event (begins_at_moment moment n w))) (sym (starts_failed upload w.near l.near.standing))
       (lost_so read from begun (first_try upload) moment (Tries upload moment) w unlinked l (told_gone w.marks l.cutoff w.reports l.now l.early l.told))

@@ -14,7 +14,7 @@ use Rattle.laws_world.specs.Events.{ControlToServer, ControlToClient, pulled, pu
 use Rattle.laws_world.specs.Serving.{after_event}
 use Rattle.laws_world.specs.World.{World, Mark}
 use Rattle.laws_agreement.specs.Follows.{IsUnder, Phase, Follows}
-use Rattle.laws_agreement.specs.Over.{Going, orders_of, marks_of, IsTrying, OverRuns}
+use Rattle.laws_agreement.specs.Over.{Going, orders_alone, marks_of, IsTrying, OverRuns}
 use Rattle.ftp_client_model.specs.Plan.{how_of}
 use Rattle.laws_agreement.proofs.OverTries.{kind_of}
 use Rattle.laws_agreement.specs.Runs.{IsFetching, IsFetchingOn, Runs}
@@ -90,12 +90,12 @@ module _ (read : Reading) (reads : IsReading read) (from : State) (begun : List 
 
   -- both at the same, or the client with the run has turned
   pub settles : (a b : World) (g : Going begun a) (reports : List Said) (cutoff : Option ℕ) → cutoff ≡ None → length reports ≡ length g.done
-      → Parted g.run g.op a.marks (marks_of g) reports (reports ++ tried_said g.past) cutoff cutoff a b → Mid (orders_of g) b
+      → Parted g.run g.op a.marks (marks_of g) reports (reports ++ tried_said g.past) cutoff cutoff a b → Mid (orders_alone g) b
       → (is_size g.op ≡ true → b.far.context.moment ≡ g.moment) → OverRuns read from begun (after_event a)
   settles a b g reports cutoff stands all p mid timed = by_beside p.real_near p.alone_near p.real_is p.alone_is p.beside
     where
-      runs : Runs read from (orders_of g) (after_event b)
-      runs = mid_after (orders_of g) b mid
+      runs : Runs read from (orders_alone g) (after_event b)
+      runs = mid_after (orders_alone g) b mid
 
       by_next : (said : Said) → Turned g.run g.op said a.marks (marks_of g) reports (reports ++ tried_said g.past) cutoff cutoff a b → b.near.job ≡ Answered said
           → (next : Option (Op (List ℕ))) → next_in g.run g.op said ≡ next → OverRuns read from begun (after_event a)
@@ -126,7 +126,7 @@ module _ (read : Reading) (reads : IsReading read) (from : State) (begun : List 
 
     -- each of its operations begun by itself
     abbrev orders : List Order
-    orders = orders_of t.going
+    orders = orders_alone t.going
 
     -- the world by itself, and the world itself
     abbrev alone : World

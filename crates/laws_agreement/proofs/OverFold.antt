@@ -9,7 +9,7 @@ use Rattle.laws_world.specs.Agreement as Agreement
 use Rattle.laws_world.specs.Agreement.{Order, Single, Tries, Agrees}
 use Rattle.laws_world.specs.World.{Mark}
 use Rattle.laws_agreement.specs.Follows.{Told}
-use Rattle.laws_agreement.specs.Tried.{Tried, tried_orders, tried_marks, tried_said, all_marks, IsChain, IsLast}
+use Rattle.laws_agreement.specs.Tried.{Tried, tried_orders, tried_marks, tried_said, all_marks, IsChain, IsLastOfRun}
 use Rattle.laws_agreement.proofs.OverItems.{Matches, fold}
 use Rattle.laws_agreement.proofs.Phases.{both_longer, length-more}
 
@@ -44,7 +44,7 @@ module _ (upload : OverBreaks) (moment : ℕ) (last : Run) (final : Op (List ℕ
 
   -- all is told
   pub told_folded : (from : State) (done : List Order) (marks : List (List Mark)) (reports : List Said) (said : Said) (cutoff other : Option ℕ) (now : State) → length reports ≡ length done → length marks ≡ length done
-      → IsLast last final (Some said) → Fits cutoff other (length done)
+      → IsLastOfRun last final (Some said) → Fits cutoff other (length done)
       → Told from (done ++ (tried_orders moment past ++ Single final moment ∷ [])) (marks ++ (tried_marks past ++ own ∷ [])) cutoff (reports ++ (tried_said past ++ said ∷ [])) now
       → Told from (done ++ Tries upload moment ∷ []) (marks ++ all_marks past own ∷ []) other (reports ++ said ∷ []) now
   told_folded from done marks reports said cutoff other now all each ends fits t =

@@ -11,7 +11,7 @@ use Rattle.ftp_client_model.specs.Tries.{is_size}
 use Rattle.laws_world.specs.Agreement.{Order, Single}
 use Rattle.laws_world.specs.World.{World, Mark}
 use Rattle.laws_dialogues.specs.Fetches.{Ask, IsStore}
-use Rattle.laws_agreement.specs.Over.{Going, orders_of}
+use Rattle.laws_agreement.specs.Over.{Going, orders_alone}
 use Rattle.laws_agreement.specs.PeekStages.{AtHalt}
 use Rattle.laws_agreement.specs.Runs.{IsAsked}
 use Rattle.laws_agreement.specs.Tried.{tried_orders}
@@ -82,7 +82,7 @@ store_halted now ask own moment w store h =
     let e : true ≡ false = sym some ∙ ap gives_octets direct ∙ none in cc
 
 -- nor is any operation of an upload over breaks
-pub no_halt : (Stood : State → Ask → List Mark → World → Type 0) (from : State) {begun : List Order} {a : World} (g : Going begun a) (w new : World) (f : IsAsked Stood from (orders_of g) w)
+pub no_halt : (Stood : State → Ask → List Mark → World → Type 0) (from : State) {begun : List Order} {a : World} (g : Going begun a) (w new : World) (f : IsAsked Stood from (orders_alone g) w)
     → AtHalt f.now f.ask f.own new → ⊥
 no_halt Stood from {begun} {a} g w new f halts = by_kind (kind_of g.upload g.op g.one)
   where

@@ -15,7 +15,7 @@ use Rattle.laws_world.specs.Events.{Does, can_begin, Queue, ControlToServer, Con
 use Rattle.laws_world.specs.Serving.{after_event}
 use Rattle.laws_world.specs.World.{World}
 use Rattle.laws_agreement.specs.Follows.{Follows}
-use Rattle.laws_agreement.specs.Over.{orders_of, marks_of, IsTrying, OverRuns}
+use Rattle.laws_agreement.specs.Over.{orders_alone, marks_of, IsTrying, OverRuns}
 use Rattle.laws_agreement.specs.Tried.{tried_said, IsUnderWay}
 use Rattle.laws_agreement.proofs.Events.{IsNoBeginning, both_false, never, no_data}
 use Rattle.laws_agreement.proofs.FetchParting.{fetch_parts}
@@ -36,7 +36,7 @@ use Rattle.laws_agreement.proofs.OverLinks.{delivers_up, delivers_down, opens, r
 module _ (read : Reading) (reads : IsReading read) (from : State) (begun : List Order) (w : World) (t : IsTrying read from begun w) where
   -- each of its operations begun by itself
   abbrev orders : List Order
-  orders = orders_of t.going
+  orders = orders_alone t.going
 
   -- the world by itself, and the world itself
   abbrev alone : World

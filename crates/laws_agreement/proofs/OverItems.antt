@@ -8,7 +8,7 @@ use Rattle.ftp_client_model.specs.Tries.{OverBreaks, Run, first_try, next_in, ru
 use Rattle.laws_world.specs.Agreement.{Order, Single, Tries, Attempt, Item, attempt_did, run_from, item_did, before_last, state_after, state_before, GoesOn, IsOver, Allows, RunHolds, ItemHolds, ItemsHold}
 use Rattle.laws_world.specs.Outcome.{Outcome, Whole, Cut, Unopened, Lost, Nothing, All, Front}
 use Rattle.laws_world.specs.World.{Mark}
-use Rattle.laws_agreement.specs.Tried.{Tried, tried_orders, tried_marks, tried_said, all_marks, IsChain, told_of, IsLast}
+use Rattle.laws_agreement.specs.Tried.{Tried, tried_orders, tried_marks, tried_said, all_marks, IsChain, told_of, IsLastOfRun}
 
 -- ---- another count of what was begun
 
@@ -83,7 +83,7 @@ module _ (moment : ℕ) (last : Run) (final : Op (List ℕ)) (own : List Mark) (
     goes : GoesOn moment run first.op (attempt_did moment state first) more
     holds : RunHolds moment state other j (first ∷ more)
     marked : flat_map (λ (attempt : Attempt). attempt.marks) (first ∷ more) ≡ all_marks past own
-    told : (answer : Said) → said ≡ Some answer → IsLast last final said → IsOver moment run first.op (attempt_did moment state first) more × ((run_from moment (attempt_did moment state first) more).0 ≡ answer)
+    told : (answer : Said) → said ≡ Some answer → IsLastOfRun last final said → IsOver moment run first.op (attempt_did moment state first) more × ((run_from moment (attempt_did moment state first) more).0 ≡ answer)
     after : (run_from moment (attempt_did moment state first) more).1 ≡ state_after state items
     before : before_last moment state first more ≡ state_before state items
     some : items ≡ [] → ⊥
@@ -103,7 +103,7 @@ module _ (moment : ℕ) (last : Run) (final : Op (List ℕ)) (own : List Mark) (
         marked = holds.marked;
         told = λ answer some none. (
           (let told_is : (attempt_did moment state item.first).0 ≡ answer = ap (λ x. (item_did state x).0) (sym is) ∙ told answer some in
-              let over : next_in last final answer ≡ None = subst (λ s. IsLast last final s) some none in
+              let over : next_in last final answer ≡ None = subst (λ s. IsLastOfRun last final s) some none in
               (λ k. next_in (chain.0 k) ((hold.is_of.1 ∙ refl) k) (told_is k)) ∙ over),
           ap (λ x. (item_did state x).0) (sym is) ∙ told answer some,
         );
@@ -184,7 +184,7 @@ pub record Folded (state : State) (i : ℕ) (before : List Order) (order : Order
   pub folded_some : folded ≡ [] → ⊥
 
 module _ (upload : OverBreaks) (moment : ℕ) (last : Run) (final : Op (List ℕ)) (own : List Mark) (past : List Tried) (said : Option Said) (cutoff other : Option ℕ)
-    (chain : IsChain (run_of upload) (first_try upload) past last final) (ends : IsLast last final said) where
+    (chain : IsChain (run_of upload) (first_try upload) past last final) (ends : IsLastOfRun last final said) where
   -- the items of operations that were begun one after the other, the last of them those of a run
   pub fold : (reports : List Said) (state : State) (i : ℕ) (before : List Order) (marks : List (List Mark)) (items : List Item)
       → length reports ≡ length before → length marks ≡ length before
@@ -193,7 +193,7 @@ module _ (upload : OverBreaks) (moment : ℕ) (last : Run) (final : Op (List ℕ
       → Folded state i before (Tries upload moment) marks (all_marks past own) other (reports ++ told_of said) items
   fold [] state i [] [] items all each early late hold = by_said said items (λ k few. subst (λ n. Matches cutoff other n i) (let e : i + 0 + k ≡ i + k = omega arith in e) (subst (λ n. Matches cutoff other (i + 0 + k) n) (let e : i + 0 ≡ i = omega arith in e) (late k few))) ends refl hold
     where
-      by_said : (s : Option Said) (items : List Item) → ((k : ℕ) → k ≤ length past → Matches cutoff other (i + k) i) → IsLast last final s → said ≡ s
+      by_said : (s : Option Said) (items : List Item) → ((k : ℕ) → k ≤ length past → Matches cutoff other (i + k) i) → IsLastOfRun last final s → said ≡ s
           → ItemsHold state i (tried_orders moment past ++ Single final moment ∷ []) (tried_marks past ++ own ∷ []) cutoff (tried_said past ++ told_of said) items
           → Folded state i [] (Tries upload moment) [] (all_marks past own) other (told_of s) items
       by_said None items m none is hold =

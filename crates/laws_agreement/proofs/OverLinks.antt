@@ -11,7 +11,7 @@ use Rattle.laws_world.specs.Agreement.{Order}
 use Rattle.laws_world.specs.Events.{DataToServer, DataToClient, pulled, pushed, filled, DeliversBy, link_opens, link_refused, refused_by, told, link_breaks, broken_by, is_asked_for, is_gone, is_closed_by_far, is_closed_by_near}
 use Rattle.laws_world.specs.Serving.{after_event}
 use Rattle.laws_world.specs.World.{World, Link, Gone, Opened, ClosedByNear, ClosedByFar, Mark, Refused, Broken, marked_last, with_mark, gone}
-use Rattle.laws_agreement.specs.Over.{Going, orders_of, marks_of, IsTrying, OverRuns}
+use Rattle.laws_agreement.specs.Over.{Going, orders_alone, marks_of, IsTrying, OverRuns}
 use Rattle.laws_dialogues.specs.Fetches.{Rise}
 use Rattle.laws_agreement.specs.Cut.{PlacedAt}
 use Rattle.laws_agreement.specs.Rising.{Lift, Offered, Rising, Risen, Settled, Declined, Unjoined, lifts}
@@ -34,7 +34,7 @@ use Rattle.laws_agreement.proofs.OverEvents.{goes_on, same, stands, under_same, 
 module _ (read : Reading) (reads : IsReading read) (from : State) (begun : List Order) (w : World) (t : IsTrying read from begun w) where
   -- each of its operations begun by itself
   abbrev orders : List Order
-  orders = orders_of t.going
+  orders = orders_alone t.going
 
   -- the world by itself, and the world itself
   abbrev alone : World

@@ -7,14 +7,14 @@ use Rattle.ftp_direct.specs.Direct.{State}
 use Rattle.ftp_tree.specs.Sound.{last_second}
 use Rattle.ftp_client_model.specs.Tries.{OverBreaks, first_try}
 use Rattle.ftp_server_model.specs.Machine.{Reading, IsReading}
-use Rattle.laws_world.specs.Agreement.{Order, Single, Tries, Agrees, WorldAgrees, Leads, begun_by}
+use Rattle.laws_world.specs.Agreement.{Order, Single, Tries, Agrees, WorldAgrees, Leads, begun_by_event}
 use Rattle.laws_world.specs.Claims.{AreTimed, IsAnswered, IsTimed}
 use Rattle.laws_world.specs.Events.{Event, Deliver, Open, Refuse, End, Break, EndControl, Next, Upload, Happens, IsQuiet, can_begin, upload_begins}
 use Rattle.laws_world.specs.Serving.{after_event}
 use Rattle.laws_world.specs.Still.{IsStill}
 use Rattle.laws_world.specs.World.{World}
 use Rattle.laws_agreement.specs.Follows.{Phase, Follows}
-use Rattle.laws_agreement.specs.Over.{marks_of, orders_of, OverRuns}
+use Rattle.laws_agreement.specs.Over.{marks_of, orders_alone, OverRuns}
 use Rattle.laws_agreement.specs.Runs.{Runs}
 use Rattle.laws_agreement.specs.Tried.{all_marks, tried_said}
 use Rattle.laws_agreement.proofs.Agreeing.{runs_agree}
@@ -78,7 +78,7 @@ module _ (read : Reading) (reads : IsReading read) (from : State) where
   same begun w h = subst (λ l. Holds l w) (sym (append-nil begun)) h
 
   -- an event that happens keeps what was begun running, with what it begins
-  runs_happen : (begun : List Order) (event : Event) (w new : World) → IsTimed event → Holds begun w → Happens read event w true new → Holds (begun ++ begun_by event true) new
+  runs_happen : (begun : List Order) (event : Event) (w new : World) → IsTimed event → Holds begun w → Happens read event w true new → Holds (begun ++ begun_by_event event true) new
   runs_happen begun (Deliver queue count) w new timed h e = same begun new (nothing_begins begun (Deliver queue count) w new tt h e)
   runs_happen begun Open w new timed h e = same begun new (nothing_begins begun Open w new tt h e)
   runs_happen begun Refuse w new timed h e = same begun new (nothing_begins begun Refuse w new tt h e)
@@ -89,7 +89,7 @@ module _ (read : Reading) (reads : IsReading read) (from : State) where
   runs_happen begun (Upload upload moment) w new timed h e = upload_happens begun upload moment w new timed h e
 
   -- an event that is not possible begins nothing
-  none_begun : (event : Event) → begun_by event false ≡ []
+  none_begun : (event : Event) → begun_by_event event false ≡ []
   none_begun (Deliver queue count) = refl
   none_begun Open = refl
   none_begun Refuse = refl
@@ -100,10 +100,10 @@ module _ (read : Reading) (reads : IsReading read) (from : State) where
   none_begun (Upload upload moment) = refl
 
   -- an event, possible or not, keeps what was begun running, with what it begins
-  step : (begun : List Order) (event : Event) (possible : Bool) (w new : World) → IsTimed event → Holds begun w → Happens read event w possible new → Holds (begun ++ begun_by event possible) new
+  step : (begun : List Order) (event : Event) (possible : Bool) (w new : World) → IsTimed event → Holds begun w → Happens read event w possible new → Holds (begun ++ begun_by_event event possible) new
   step begun event true w new timed h e = runs_happen begun event w new timed h e
   step begun event false w new timed h e =
-      subst (Holds (begun ++ begun_by event false)) (sym e.1) (subst (λ l. Holds (begun ++ l) w) (sym (none_begun event)) (same begun w h))
+      subst (Holds (begun ++ begun_by_event event false)) (sym e.1) (subst (λ l. Holds (begun ++ l) w) (sym (none_begun event)) (same begun w h))
 
   -- every list
   pub over_lead : (before : List Order) (events : List Event) (begun : List Order) (w new : World) → AreTimed events → Holds before w → Leads read w events begun new
@@ -112,8 +112,8 @@ module _ (read : Reading) (reads : IsReading read) (from : State) where
       subst (Holds (before ++ begun)) (sym leads.1) (subst (λ l. Holds (before ++ l) w) (sym leads.0) (same before w h))
   over_lead before (event ∷ events) begun w new timed h leads =
       let here = step before event leads.0 w leads.1 timed.0 h leads.3 in
-      let behind = over_lead (before ++ begun_by event leads.0) events leads.2 leads.1 new timed.1 here leads.5 in
-      subst (λ l. Holds l new) (append_assoc before (begun_by event leads.0) leads.2 ∙ ap (λ l. before ++ l) (sym leads.4)) behind
+      let behind = over_lead (before ++ begun_by_event event leads.0) events leads.2 leads.1 new timed.1 here leads.5 in
+      subst (λ l. Holds l new) (append_assoc before (begun_by_event event leads.0) leads.2 ∙ ap (λ l. before ++ l) (sym leads.4)) behind
 
   -- ---- what holds then
 
@@ -122,12 +122,12 @@ module _ (read : Reading) (reads : IsReading read) (from : State) where
   over_agree begun w (inl h) = runs_agree read reads from begun w h
   over_agree begun w (inr (inl t)) =
       let g = t.going in
-      let a = runs_agree read reads from (orders_of g) _ t.alone in
+      let a = runs_agree read reads from (orders_alone g) _ t.alone in
       subst (λ b. Agrees from b w.marks w.cutoff w.reports w.far.session.table) (sym g.begun_is)
       (subst (λ m. Agrees from (g.done ++ Tries g.upload g.moment ∷ []) m w.cutoff w.reports w.far.session.table) (sym g.marks_are)
       (subst (λ c. Agrees from (g.done ++ Tries g.upload g.moment ∷ []) (g.marks ++ all_marks g.past g.own ∷ []) c w.reports w.far.session.table) (sym (trying_stands read reads from begun w t))
       (agrees_folded g.upload g.moment g.run g.op g.own g.past g.chain from g.done g.marks w.reports w.far.session.table t.all g.each
-      (subst (λ c. Agrees from (orders_of g) (marks_of g) c (w.reports ++ tried_said g.past) w.far.session.table) (trying_stands read reads from begun w t) a))))
+      (subst (λ c. Agrees from (orders_alone g) (marks_of g) c (w.reports ++ tried_said g.past) w.far.session.table) (trying_stands read reads from begun w t) a))))
   over_agree begun w (inr (inr t)) = tail_agrees read reads from begun w t
 
   -- where nothing moves, all that was begun is answered

@@ -23,7 +23,7 @@ use Rattle.laws_world.specs.Serving.{after_event}
 use Rattle.laws_world.specs.World.{World, Mark}
 use Rattle.laws_dialogues.specs.Fetches.{Ask, Direction, Down, Up, IsStore, IsTimely, carrying}
 use Rattle.laws_agreement.specs.Follows.{Phase, Follows}
-use Rattle.laws_agreement.specs.Over.{Going, orders_of, marks_of, IsTrying, IsTailing, OverRuns}
+use Rattle.laws_agreement.specs.Over.{Going, orders_alone, marks_of, IsTrying, IsTailing, OverRuns}
 use Rattle.laws_agreement.specs.Runs.{IsFetching, IsFetchingOn, IsTrailing, Runs}
 use Rattle.laws_agreement.specs.Stages.{Fared}
 use Rattle.laws_agreement.specs.Tried.{Tried, tried_orders, tried_marks, tried_said, all_marks, IsChain, IsTryOf}
@@ -102,7 +102,7 @@ pub record Turned (run : Run) (op : Op (List ℕ)) (said : Said) (marks own_mark
   pub kept : Kept own_marks own_reports own_cutoff base
 
 -- an order of the last operation
-pub last_order : {begun : List Order} {w : World} → (g : Going begun w) → orders_of g ≡ (g.done ++ tried_orders g.moment g.past) ++ Single g.op g.moment ∷ []
+pub last_order : {begun : List Order} {w : World} → (g : Going begun w) → orders_alone g ≡ (g.done ++ tried_orders g.moment g.past) ++ Single g.op g.moment ∷ []
 last_order g = sym (append_assoc g.done (tried_orders g.moment g.past) (Single g.op g.moment ∷ []))
 
 -- what is so of a world by itself where an operation has just been answered
@@ -186,7 +186,7 @@ whole_said now ask said f moment = by f.outcome (f.allowed 0) (f.did_so moment)
 module _ (read : Reading) (reads : IsReading read) (from : State) (begun : List Order) where
   -- the operation is under way still
   pub settle_under : (a b : World) (g : Going begun a) (reports : List Said) (cutoff : Option ℕ) → length reports ≡ length g.done
-      → Working g.run g.op a.marks (marks_of g) reports (reports ++ tried_said g.past) cutoff cutoff a b → Runs read from (orders_of g) (after_event b)
+      → Working g.run g.op a.marks (marks_of g) reports (reports ++ tried_said g.past) cutoff cutoff a b → Runs read from (orders_alone g) (after_event b)
       → (is_size g.op ≡ true → b.far.context.moment ≡ g.moment) → IsTrying read from begun (after_event a)
   settle_under a b g reports cutoff all working runs timed =
       let m = working_after g.run g.op a.marks (marks_of g) reports (reports ++ tried_said g.past) cutoff cutoff a b working in
@@ -216,7 +216,7 @@ module _ (read : Reading) (reads : IsReading read) (from : State) (begun : List 
         near_is = refl;
         works = m.fine;
         all = all;
-        alone = subst (Runs read from (orders_of g)) alone_is runs;
+        alone = subst (Runs read from (orders_alone g)) alone_is runs;
         timed = λ size. ap (λ u. u.far.context.moment) (sym m.alone_is) ∙ ap (λ f. f.moment) (after_context b) ∙ timed size;
       })
 
@@ -231,7 +231,7 @@ module _ (read : Reading) (reads : IsReading read) (from : State) (begun : List 
   -- it is answered, and nothing follows
   pub settle_end : (a b : World) (g : Going begun a) (reports : List Said) (cutoff own_cutoff : Option ℕ) (said : Said) (all : length reports ≡ length g.done)
       → Turned g.run g.op said a.marks (marks_of g) reports (reports ++ tried_said g.past) cutoff own_cutoff a b → (none : next_in g.run g.op said ≡ None)
-      → Ends read from begun a g reports said all none own_cutoff cutoff → Runs read from (orders_of g) (after_event b) → OverRuns read from begun (after_event a)
+      → Ends read from begun a g reports said all none own_cutoff cutoff → Runs read from (orders_alone g) (after_event b) → OverRuns read from begun (after_event a)
   settle_end a b g reports cutoff own_cutoff said all t none ends runs = by_runs runs
     where
       n : Near
@@ -256,11 +256,11 @@ module _ (read : Reading) (reads : IsReading read) (from : State) (begun : List 
       each : v.reports ≡ reports ++ (tried_said g.past ++ said ∷ [])
       each = c.reports_are ∙ append_assoc reports (tried_said g.past) (said ∷ [])
 
-      by_runs : Runs read from (orders_of g) v → OverRuns read from begun (after_event a)
+      by_runs : Runs read from (orders_alone g) v → OverRuns read from begun (after_event a)
       by_runs (inl h) =
           inl (inl (subst (Follows read from begun) (sym (c.real_is ∙ ap (λ m. with_told m (reports ++ said ∷ []) cutoff v) g.marks_are))
           (follows_folded read from begun a g reports said all none v cutoff c.idle c.marks_are each (subst (λ o. Ends read from begun a g reports said all none o cutoff) (sym c.cutoff_is) ends) h)))
-      by_runs (inr (inl on)) = idle_busy v c.idle (on_busy (orders_of g) v on)
+      by_runs (inr (inl on)) = idle_busy v c.idle (on_busy (orders_alone g) v on)
       by_runs (inr (inr (inr on))) = let f = on.halting in idle_busy v c.idle (halt_busy f.now f.ask f.own v f.stands)
       by_runs (inr (inr (inl trails))) = by_ends ends
         where
@@ -294,7 +294,7 @@ module _ (read : Reading) (reads : IsReading read) (from : State) (begun : List 
                 all = all;
                 reports_are = refl;
                 last = none;
-                alone = subst (IsTrailing from (orders_of g)) back trails;
+                alone = subst (IsTrailing from (orders_alone g)) back trails;
               })))
 
   -- ---- the next operation
@@ -316,9 +316,9 @@ module _ (read : Reading) (reads : IsReading read) (from : State) (begun : List 
   -- it goes on with the next
   pub settle_next : (a b : World) (g : Going begun a) (reports : List Said) (cutoff : Option ℕ) (said : Said) (next : Op (List ℕ)) → length reports ≡ length g.done
       → Turned g.run g.op said a.marks (marks_of g) reports (reports ++ tried_said g.past) cutoff cutoff a b → next_in g.run g.op said ≡ Some next
-      → Answers b said g.upload g.run g.op next g.moment → Runs read from (orders_of g) (after_event b) → IsTrying read from begun (after_event a)
+      → Answers b said g.upload g.run g.op next g.moment → Runs read from (orders_alone g) (after_event b) → IsTrying read from begun (after_event a)
   settle_next a b g reports cutoff said next all t follows answers runs =
-      settle_under a z gone_on reports cutoff all working (subst (λ orders. Runs read from orders (after_event z)) (sym orders_are) (subst (Runs read from (orders_of g ++ Single next g.moment ∷ [])) (sym begins.goes) begun_now))
+      settle_under a z gone_on reports cutoff all working (subst (λ orders. Runs read from orders (after_event z)) (sym orders_are) (subst (Runs read from (orders_alone g ++ Single next g.moment ∷ [])) (sym begins.goes) begun_now))
       (λ size. answers.moment_is)
     where
       n : Near
@@ -336,9 +336,9 @@ module _ (read : Reading) (reads : IsReading read) (from : State) (begun : List 
       begins : BeginsNext b said next g.moment
       begins = begins_next b said answers.at next g.moment answers.shut can answers.moment_is
 
-      begun_now : Runs read from (orders_of g ++ Single next g.moment ∷ []) (after_event (operation_begins next g.moment (after_event b)))
+      begun_now : Runs read from (orders_alone g ++ Single next g.moment ∷ []) (after_event (operation_begins next g.moment (after_event b)))
       begun_now =
-          begun_next (orders_of g) (after_event b) next g.moment (ap (λ u. u.near.job) begins.free_is) (ap (λ u. is_sound u.near.standing) begins.free_is) (ap (λ u. is_gone u.link) begins.free_is) g.dated runs
+          begun_next (orders_alone g) (after_event b) next g.moment (ap (λ u. u.near.job) begins.free_is) (ap (λ u. is_sound u.near.standing) begins.free_is) (ap (λ u. is_gone u.link) begins.free_is) g.dated runs
 
       z : World
       z = record b { near = Dialogue.begins next b.near; marks = b.marks ++ [] ∷ []; reports = b.reports ++ said ∷ [] }
@@ -366,7 +366,7 @@ module _ (read : Reading) (reads : IsReading read) (from : State) (begun : List 
         dated = g.dated;
       }
 
-      orders_are : orders_of gone_on ≡ orders_of g ++ Single next g.moment ∷ []
+      orders_are : orders_alone gone_on ≡ orders_alone g ++ Single next g.moment ∷ []
       orders_are =
           ap (λ l. g.done ++ (l ++ Single next g.moment ∷ [])) (orders_more g.moment g.past one)
           ∙ sym (append_assoc g.done (tried_orders g.moment g.past ++ Single g.op g.moment ∷ []) (Single next g.moment ∷ []))
@@ -397,7 +397,7 @@ module _ (read : Reading) (reads : IsReading read) (from : State) (begun : List 
   -- ---- what is so where it goes on
 
   -- of an upload by itself
-  pub answers_fetch : (a b : World) (g : Going begun a) (said : Said) (next : Op (List ℕ)) (f : IsFetching read from (orders_of g) b) → b.near.job ≡ Answered said → next_in g.run g.op said ≡ Some next
+  pub answers_fetch : (a b : World) (g : Going begun a) (said : Said) (next : Op (List ℕ)) (f : IsFetching read from (orders_alone g) b) → b.near.job ≡ Answered said → next_in g.run g.op said ≡ Some next
       → Answers b said g.upload g.run g.op next g.moment
   answers_fetch a b g said next f told follows = by_kind (kind_of g.upload g.op g.one)
     where
@@ -406,7 +406,7 @@ module _ (read : Reading) (reads : IsReading read) (from : State) (begun : List 
 
       by_kind : (IsStore g.op × (is_size g.op ≡ false)) ⊎ (g.op ≡ Ops.Size g.upload.path g.upload.how) → Answers b said g.upload g.run g.op next g.moment
       by_kind (inl store) =
-          let ft = fetch_told read from (orders_of g) b f said told in
+          let ft = fetch_told read from (orders_alone g) b f said told in
           record {
             at = ft.at;
             shut = by_bool (is_open ft.at.leaves) (λ opened.
@@ -419,12 +419,12 @@ module _ (read : Reading) (reads : IsReading read) (from : State) (begun : List 
       by_kind (inr size) = absurd (let e : None ≡ Some f.ask.how = ap how_of (sym size ∙ same.0) ∙ f.is_ask.plan.how_is in cc)
 
   -- of SIZE by itself
-  pub answers_under : (a b : World) (g : Going begun a) (said : Said) (next : Op (List ℕ)) → HasFollowed read from (orders_of g) b → b.near.job ≡ Answered said → next_in g.run g.op said ≡ Some next
+  pub answers_under : (a b : World) (g : Going begun a) (said : Said) (next : Op (List ℕ)) → HasFollowed read from (orders_alone g) b → b.near.job ≡ Answered said → next_in g.run g.op said ≡ Some next
       → (is_size g.op ≡ true → b.far.context.moment ≡ g.moment) → Answers b said g.upload g.run g.op next g.moment
   answers_under a b g said next h told follows timed = by_phase h.phase
     where
-      by_phase : Phase read from (orders_of g) b → Answers b said g.upload g.run g.op next g.moment
-      by_phase (inl (l, inl f)) = absurd (some_told b.near.job said told (free_untold from (orders_of g) b f))
+      by_phase : Phase read from (orders_alone g) b → Answers b said g.upload g.run g.op next g.moment
+      by_phase (inl (l, inl f)) = absurd (some_told b.near.job said told (free_untold from (orders_alone g) b f))
       by_phase (inl (l, inr u)) = by_kind (kind_of g.upload g.op g.one)
         where
           same : (g.op ≡ u.op) × (g.moment ≡ u.moment)
@@ -433,7 +433,7 @@ module _ (read : Reading) (reads : IsReading read) (from : State) (begun : List 
           by_kind : (IsStore g.op × (is_size g.op ≡ false)) ⊎ (g.op ≡ Ops.Size g.upload.path g.upload.how) → Answers b said g.upload g.run g.op next g.moment
           by_kind (inl store) = absurd (store_how g.op store.0 (ap how_of same.0 ∙ u.alone))
           by_kind (inr size) =
-              let ut = under_told read from (orders_of g) b u said h.unlinked told in
+              let ut = under_told read from (orders_alone g) b u said h.unlinked told in
               let direct : said ≡ (answer u.now (Ops.Size g.upload.path g.upload.how) u.moment).0 = ut.direct ∙ ap (λ o. (answer u.now o u.moment).0) (sym same.0 ∙ size) in
               record {
                 at = ut.at;

@@ -16,7 +16,7 @@ use Rattle.laws_world.specs.Serving.{after_event}
 use Rattle.laws_world.specs.Still.{IsStill}
 use Rattle.laws_world.specs.World.{World, Link, Gone, ClosedByNear, Mark, Broken, gone, marked_last, with_mark}
 use Rattle.laws_agreement.specs.Follows.{Follows}
-use Rattle.laws_agreement.specs.Over.{Going, orders_of, marks_of, IsTailing}
+use Rattle.laws_agreement.specs.Over.{Going, orders_alone, marks_of, IsTailing}
 use Rattle.laws_agreement.specs.Runs.{IsTrailing}
 use Rattle.laws_agreement.specs.Tried.{Tried, tried_orders, tried_marks, tried_said, all_marks}
 use Rattle.laws_agreement.proofs.Events.{IsNoBeginning, never}
@@ -53,7 +53,7 @@ fails_idle Standings.Entered v idle = ap (failed_job LostSaid) idle
 module _ (read : Reading) (reads : IsReading read) (from : State) (begun : List Order) (w : World) (t : IsTailing read from begun w) where
   -- each of its operations begun by itself
   abbrev orders : List Order
-  orders = orders_of t.going
+  orders = orders_alone t.going
 
   -- the reports of each by itself
   abbrev each : List Said

@@ -18,7 +18,7 @@ use Rattle.laws_world.specs.Agreement.{Order}
 use Rattle.laws_world.specs.Events.{operation_begins}
 use Rattle.laws_world.specs.Serving.{after_event}
 use Rattle.laws_world.specs.World.{World, Gone}
-use Rattle.laws_dialogues.specs.Dialogue.{Ends, FarWaits, is_aside}
+use Rattle.laws_dialogues.specs.Dialogue.{Ends, FarWaits, is_set_aside}
 use Rattle.laws_dialogues.specs.Fetches.{IsTimely, Rise, linked}
 use Rattle.laws_dialogues.specs.Login.{AtOperation}
 use Rattle.laws_dialogues.specs.Stage.{Way, Asking, Answering, calm, still, rest}
@@ -38,7 +38,7 @@ use Rattle.laws_agreement.proofs.UploadTold as uploads
 
 -- the server is at no transfer, where the link is aside
 abbrev pub AsideFine : Leaving → Type 0
-AsideFine (Aside closes connection pending) = is_aside connection ≡ true
+AsideFine (Aside closes connection pending) = is_set_aside connection ≡ true
 AsideFine leaves = Unit {0}
 
 -- the link is open at both

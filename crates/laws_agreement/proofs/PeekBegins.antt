@@ -6,7 +6,7 @@ use Rattle.ftp_direct.specs.Direct.{State}
 use Rattle.ftp_server_model.specs.declared.session.Pending.TheVariants as Pendings
 use Rattle.laws_world.specs.World.{World, Mark}
 use Rattle.laws_dialogues.specs.Dialogue.{IsSound}
-use Rattle.laws_dialogues.specs.Fetches.{Ask, IsAsk, IsSteady, IsTimely, is_filled, kept, linked}
+use Rattle.laws_dialogues.specs.Fetches.{Ask, IsAsk, IsSteadySession, IsTimely, is_filled, kept, linked}
 use Rattle.laws_agreement.specs.Crossing.{AreCut, Cuts, crossing_at}
 use Rattle.laws_agreement.specs.PeekStages.{AtHalt, Halt, Halts, MarksFit, QueueFits, halt_asked, halt_far, halt_near, halt_rows, halt_tie}
 use Rattle.laws_agreement.specs.Stages.{IsTaken, is_parting, link_of}
@@ -15,7 +15,7 @@ use Rattle.laws_agreement.proofs.Fates.{said_fares}
 -- both ends where ABOR was sent, behind octets that are a front of the text and enough
 pub halts_at : (state : State) (ask : Ask) (good : IsAsk ask) (sound : IsSound state) (own : List Mark) (halt : Halt) (came queue : List ℕ) (b : World)
     → b.near ≡ halt_near state ask halt came b.near
-    → b.far.session ≡ linked (halt_far ask.listed halt) (is_parting (halt_tie halt)) Pendings.Nothing b.far.session → IsSteady state (kept b.near b.far)
+    → b.far.session ≡ linked (halt_far ask.listed halt) (is_parting (halt_tie halt)) Pendings.Nothing b.far.session → IsSteadySession state (kept b.near b.far)
     → IsTimely ask.sends b.far.context.moment → state.known ≡ true
     → b.link ≡ link_of (halt_tie halt) → b.data_to_server ≡ [] → b.data_to_client ≡ queue → QueueFits halt queue → MarksFit halt own → IsTaken state ask
     → IsFront came (ask.wire state) → is_filled ask.op ask.settings came ≡ true → Halts state ask own halt (ask.said state) came queue b

@@ -18,7 +18,7 @@ use Rattle.laws_dialogues.specs.Fetches.{Ask, leaving}
 use Rattle.laws_dialogues.specs.Peeks.{abort_line}
 use Rattle.laws_dialogues.specs.Stage.{calm, still, AreWritten, rest}
 use Rattle.laws_dialogues.proofs.PeekTurns.{abort_open, abort_over, final_open, final_over, owing}
-use Rattle.laws_agreement.specs.Crossing.{AreCut, AreHeard, Cuts, FlowsAbort, crossing_at}
+use Rattle.laws_agreement.specs.Crossing.{AreCut, AreHeardBetween, Cuts, FlowsAbort, crossing_at}
 use Rattle.laws_agreement.specs.Cut.{Cut, Crossed, FlowsRow, PlacedAt}
 use Rattle.laws_agreement.specs.PeekStages.{AtHalt, Gave, Gives, Halt, Halted, Halts, IsHaltCross, abort_rows, final_text, halt_asked, halt_near, halt_rows}
 use Rattle.laws_agreement.specs.Stages.{Answers, AtFetch, Closed, Gap, Holds, Lost, Unclosed, no_link}
@@ -75,7 +75,7 @@ module _ (read : Reading) (state : State) (ask : Ask) (own : List Mark) where
     -- no reply is to come
     none_heard_at : (halt : Halt) (b : World) (held xs : List ℕ) (ear : Ear) (gathered : Gathered) → halt_rows halt ≡ [] → Stands halt said came queue b
         → FlowsAbort (halt_asked halt) up
-        → AreHeard held ear gathered → FlowsRow [] held (xs ++ (ys ++ owed)) → Hears halt b ear gathered xs
+        → AreHeardBetween held ear gathered → FlowsRow [] held (xs ++ (ys ++ owed)) → Hears halt b ear gathered xs
     none_heard_at halt b held xs ear gathered none h above heard flow =
         inl (stays halt b (heard_at b up ear gathered xs ys owed) h
         (subst (λ rows. RowStays (halt_asked halt) rows b up (heard_at b up ear gathered xs ys owed)) (sym none)
@@ -92,7 +92,7 @@ module _ (read : Reading) (state : State) (ask : Ask) (own : List Mark) where
     -- the reply to ABOR, which is no more on its way
     abort_heard : (whole : Bool) (gap : Gap) (b : World) (held xs : List ℕ) (ear : Ear) (gathered : Gathered)
         → Stands (Gave whole true false gap) said came queue b → FlowsAbort false up
-        → AreHeard held ear gathered → AreWritten (abort_rows false) → FlowsRow (abort_rows false) held (xs ++ (ys ++ owed))
+        → AreHeardBetween held ear gathered → AreWritten (abort_rows false) → FlowsRow (abort_rows false) held (xs ++ (ys ++ owed))
         → Hears (Gave whole true false gap) b ear gathered xs
     abort_heard whole gap b held xs ear gathered h above heard fine flow =
         elim (row_step false b up above held xs ys owed ear gathered heard (fixed_reply Texts.AbortDone) [] fine flow) [
@@ -162,7 +162,7 @@ module _ (read : Reading) (state : State) (ask : Ask) (own : List Mark) where
     -- the final reply
     final_heard : (whole asked : Bool) (gap : Gap) (b : World) (held xs : List ℕ) (ear : Ear) (gathered : Gathered)
         → Stands (Gave whole false asked gap) said came queue b → FlowsAbort asked up
-        → AreHeard held ear gathered → AreWritten (halt_rows (Gave whole false asked gap))
+        → AreHeardBetween held ear gathered → AreWritten (halt_rows (Gave whole false asked gap))
         → FlowsRow (halt_rows (Gave whole false asked gap)) held (xs ++ (ys ++ owed))
         → Hears (Gave whole false asked gap) b ear gathered xs
     final_heard whole asked gap b held xs ear gathered h above heard fine flow =
@@ -244,7 +244,7 @@ module _ (read : Reading) (state : State) (ask : Ask) (own : List Mark) where
     -- all of these
     pub replies_heard : (halt : Halt) (b : World) (held xs : List ℕ) (ear : Ear) (gathered : Gathered) → Stands halt said came queue b
         → FlowsAbort (halt_asked halt) up
-        → AreHeard held ear gathered → AreWritten (halt_rows halt) → FlowsRow (halt_rows halt) held (xs ++ (ys ++ owed)) → Hears halt b ear gathered xs
+        → AreHeardBetween held ear gathered → AreWritten (halt_rows halt) → FlowsRow (halt_rows halt) held (xs ++ (ys ++ owed)) → Hears halt b ear gathered xs
     replies_heard (Gives octet more) b held xs ear gathered h above heard fine flow =
         none_heard_at (Gives octet more) b held xs ear gathered refl h above heard flow
     replies_heard (Gave whole true true gap) b held xs ear gathered h above heard fine flow =

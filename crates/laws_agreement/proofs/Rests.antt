@@ -14,7 +14,7 @@ use Rattle.ftp_server_model.specs.declared.session.ServerLink.TheVariants as Far
 use Rattle.ftp_server_model.specs.declared.session.Pending.{Pending}
 use Rattle.laws_world.specs.Serving.{near_served, far_served, collected, collected_by, after_event}
 use Rattle.laws_world.specs.World.{World}
-use Rattle.laws_dialogues.specs.Dialogue.{is_aside}
+use Rattle.laws_dialogues.specs.Dialogue.{is_set_aside}
 use Rattle.laws_dialogues.specs.Fetches.{busy, giving_of, linked}
 use Rattle.laws_dialogues.proofs.Offering.{by_flow, with_flow}
 use Rattle.laws_agreement.proofs.FetchLink.{far_linked}
@@ -73,7 +73,7 @@ giving_rests false octets pending w = refl
 giving_rests true octets pending w = refl
 
 -- nor does a server without a transfer
-pub aside_rests : (connection : FarConnection Transfer) → is_aside connection ≡ true → (pending : Pending Names) (w : World)
+pub aside_rests : (connection : FarConnection Transfer) → is_set_aside connection ≡ true → (pending : Pending Names) (w : World)
     → far_served (record w { far = far_linked (linked connection false pending w.far.session) w.far }) ≡ record w { far = far_linked (linked connection false pending w.far.session) w.far }
 aside_rests FarData.Free aside pending w = refl
 aside_rests FarData.Passive aside pending w = refl

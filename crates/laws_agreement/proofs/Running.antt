@@ -9,7 +9,7 @@ use Rattle.ftp_client_model.specs.Calls as near
 use Rattle.ftp_server_model.specs.Calls as far
 use Rattle.ftp_server_model.specs.Machine.{Reading, IsReading}
 use Rattle.ftp_client_model.specs.Tries.{OverBreaks, first_try}
-use Rattle.laws_world.specs.Agreement.{Order, Single, Tries, begun_by}
+use Rattle.laws_world.specs.Agreement.{Order, Single, Tries, begun_by_event}
 use Rattle.ftp_ends.specs.Octets.{has_octets}
 use Rattle.ftp_tree.specs.Sound.{last_second}
 use Rattle.laws_world.specs.Events.{Queue, ControlToServer, ControlToClient, DataToServer, DataToClient, Event, Deliver, Open, Refuse, End, Break, EndControl, Next, Upload, Happens, can_happen, can_begin, operation_begins, upload_begins, is_asked_for, is_gone, is_closed_by_far, is_closed_by_near, is_left_by_near, is_left_by_far}
@@ -206,7 +206,7 @@ module _ (read : Reading) (reads : IsReading read) (from : State) where
   pub other_happens : (begun : List Order) (event : Event) (w new : World) → IsNoBeginning event → Holds begun w → Happens read event w true new → Holds begun new
   other_happens begun event w new plain (inl h) e = inl (subst (λ l. Follows read from l new) (append-nil begun) (subst (λ l. Follows read from (begun ++ l) new) (nothing_begun event plain) (happens read reads from begun event w new plain h e)))
     where
-      nothing_begun : (event : Event) → IsNoBeginning event → begun_by event true ≡ []
+      nothing_begun : (event : Event) → IsNoBeginning event → begun_by_event event true ≡ []
       nothing_begun (Deliver queue count) plain = refl
       nothing_begun Open plain = refl
       nothing_begun Refuse plain = refl

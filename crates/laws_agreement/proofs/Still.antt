@@ -18,8 +18,8 @@ use Rattle.ftp_tree.specs.Tree.{Table}
 use Rattle.laws_world.specs.Serving.{near_served_by, far_served_by, near_served, far_served, served, collected_by, collected, after_event}
 use Rattle.laws_world.specs.World.{World}
 use Rattle.laws_dialogues.specs.Stage.{calm, Way, Asking, Answering, rest, AreWritten, Leads}
-use Rattle.laws_dialogues.specs.Dialogue.{NearWaits, FarWaits, is_aside, Passes, Ends, resting, told}
-use Rattle.laws_dialogues.specs.Login.{Place, Greets, AsksUser, WantsPass, AsksPass, Answers, standing_of, way_of, LogsIn, AtFree, AtOperation}
+use Rattle.laws_dialogues.specs.Dialogue.{NearWaits, FarWaits, is_set_aside, Passes, Ends, resting, told}
+use Rattle.laws_dialogues.specs.Login.{LoginPlace, Greets, AsksUser, WantsPass, AsksPass, Answers, standing_in_login, way_at_login, LogsIn, AtFree, AtOperation}
 use Rattle.laws_agreement.specs.Cut.{Cut, FlowsRow, Fits, coming, world_at, PlacedAt, of_ends, StandsAt}
 use Rattle.laws_agreement.proofs.Chunks.{both_empty}
 
@@ -31,7 +31,7 @@ unfolding near.wants
 near_wants n w = rw (w.closing, w.sound, w.connection) refl
 
 -- where the server is at no transfer, serving what its link wants changes nothing
-pub far_unserved : (connection : ServerLink Transfer) (w : World) → is_aside connection ≡ true → far_served_by (far.wants_of connection) w ≡ w
+pub far_unserved : (connection : ServerLink Transfer) (w : World) → is_set_aside connection ≡ true → far_served_by (far.wants_of connection) w ≡ w
 far_unserved FarData.Free w aside = refl
 far_unserved FarData.Passive w aside = refl
 far_unserved (FarData.Active endpoint) w aside = refl
@@ -124,7 +124,7 @@ pub still_as : (b w : World) → IsSeen b w → NearWaits b.near → FarWaits b.
 still_as b w seen near far = record {
   near = record { sound = ap is_sound seen.standing ∙ near.sound; connection = seen.connection ∙ near.connection; closing = seen.closing ∙ near.closing };
   far = record {
-    aside = ap (λ s. is_aside s.connection) seen.session ∙ far.aside;
+    aside = ap (λ s. is_set_aside s.connection) seen.session ∙ far.aside;
     closing = ap (λ s. s.closing) seen.session ∙ far.closing;
     life = ap (λ s. s.life) seen.session ∙ far.life;
   };
@@ -139,7 +139,7 @@ pub record AreSet (before after : Table) (n : Near) (f : Far) : Type 0 where
   pub table : (f.session.table ≡ before) ⊎ (f.session.table ≡ after)
 
 -- at each place of a login the client is sound
-sound_place : (place : Place) → is_sound (standing_of place) ≡ true
+sound_place : (place : LoginPlace) → is_sound (standing_in_login place) ≡ true
 sound_place Greets = refl
 sound_place AsksUser = refl
 sound_place WantsPass = refl
@@ -148,7 +148,7 @@ sound_place (Answers admitted true) = refl
 sound_place (Answers admitted false) = refl
 
 -- during a login neither end wants anything, and the map is that of the state
-pub logging_set : (state : State) (after : Table) (place : Place) (n : Near) (f : Far) → LogsIn state place n f → AreSet state.table after n f
+pub logging_set : (state : State) (after : Table) (place : LoginPlace) (n : Near) (f : Far) → LogsIn state place n f → AreSet state.table after n f
 logging_set state after place n f logs = record {
   near = record { sound = ap is_sound logs.standing ∙ sound_place place; connection = logs.connection; closing = logs.closing };
   far = logs.far;
@@ -208,10 +208,10 @@ leads_on read before result (suc left) (Asking text) n f leads =
     no_line e = let f : true ≡ false = ap is_some_way e in cc
 
 -- at each place of a login something is on its way
-pub way_some : (place : Place) (n : Near) (way : Way) → way ≡ way_of place n → way ≢ rest
+pub way_some : (place : LoginPlace) (n : Near) (way : Way) → way ≡ way_at_login place n → way ≢ rest
 way_some place n way is e = let f : true ≡ false = sym (place_some place) ∙ ap is_some_way (sym is ∙ e) in cc
   where
-    place_some : (place : Place) → is_some_way (way_of place n) ≡ true
+    place_some : (place : LoginPlace) → is_some_way (way_at_login place n) ≡ true
     place_some Greets = refl
     place_some AsksUser = refl
     place_some WantsPass = refl

@@ -11,7 +11,7 @@ use Rattle.ftp_client_model.specs.Tries.{OverBreaks, first_try, next_in, run_of,
 use Rattle.ftp_client_model.specs.View.{View as Near}
 use Rattle.ftp_server_model.specs.Machine.{Reading, IsReading}
 use Rattle.laws_world.specs.Agreement.{Order, Tries, Item, state_after, ItemHolds}
-use Rattle.laws_world.specs.Events.{begun_at, operation_begins, upload_begins}
+use Rattle.laws_world.specs.Events.{begins_at_moment, operation_begins, upload_begins}
 use Rattle.laws_world.specs.Outcome.{Nothing}
 use Rattle.laws_world.specs.Serving.{after_event}
 use Rattle.laws_world.specs.World.{World, Mark}
@@ -46,7 +46,7 @@ same_start upload n cannot =
 
 -- and the world begins it as it begins that try
 same_begin : (upload : OverBreaks) (moment : ℕ) (w : World) → can_be_sent (first_try upload) ≡ false → upload_begins upload moment w ≡ operation_begins (first_try upload) moment w
-same_begin upload moment w cannot = ap (λ n. begun_at moment n w) (same_start upload w.near cannot)
+same_begin upload moment w cannot = ap (λ n. begins_at_moment moment n w) (same_start upload w.near cannot)
 
 module _ (read : Reading) (reads : IsReading read) (from : State) (begun : List Order) (upload : OverBreaks) (moment : ℕ) (cannot : can_be_sent (first_try upload) ≡ false) where
   abbrev op : Op (List ℕ)

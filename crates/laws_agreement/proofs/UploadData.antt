@@ -24,7 +24,7 @@ use Rattle.laws_world.specs.Events.{DataToServer, pulled, pushed, told}
 use Rattle.laws_world.specs.Outcome.{mmmm_in}
 use Rattle.laws_world.specs.World.{World, Gone, Mark, counted}
 use Rattle.laws_dialogues.specs.Dialogue.{IsSound}
-use Rattle.laws_dialogues.specs.Fetches.{Ask, HasUpload, IsAsk, IsSteady, IsTimely, Rise, busy, kept, linked, over, stored}
+use Rattle.laws_dialogues.specs.Fetches.{Ask, HasUpload, IsAsk, IsSteadySession, IsTimely, Rise, busy, kept, linked, excess_of, stored}
 use Rattle.laws_dialogues.specs.Stage.{calm, still, Way, Answering, row_octets}
 use Rattle.laws_dialogues.specs.Uploads.{Note, last_held, note_replies}
 use Rattle.laws_dialogues.proofs.Notes.{last_held-append, notes_both, notes_written, replies-append}
@@ -178,7 +178,7 @@ module _ (read : Reading) (state : State) (ask : Ask) (own : List Mark) where
 
   -- the server behind it
   module _ (n : ℕ) (rise : Rise) (past : Bool) (came queue others : List ℕ) (mark : Option ℕ) (notes : List Note) (b : World) (c : Cut) (fits : Fits (answers notes) c) (upload : HasUpload ask rise)
-      (known : state.known ≡ true) (steady : IsSteady state (kept b.near b.far)) (climbs : Climbs state ask rise past came (queue ++ others) mark notes)
+      (known : state.known ≡ true) (steady : IsSteadySession state (kept b.near b.far)) (climbs : Climbs state ask rise past came (queue ++ others) mark notes)
       (session : b.far.session ≡ linked (held past (rise.path state) (rise.keep state) (decoder_of ask.settings came)) false Pendings.Nothing b.far.session)
       (to_server : b.data_to_server ≡ queue) where
     -- it has taken them
@@ -227,8 +227,8 @@ module _ (read : Reading) (state : State) (ask : Ask) (own : List Mark) where
         subst (λ rows. Fits (Answering rows) taken_cut) (sym (replies-append notes taken.notes)) (fits_rows (note_replies notes) (note_replies taken.notes) c (notes_written taken.notes taken.fine) fits)
 
     -- a limit is passed where it was passed by those
-    past_on : taken.past ≡ true → is_some (over rise state (length (decoder_of ask.settings (came ++ take n queue)).content)) ≡ true
-    past_on e = ap (λ d. is_some (over rise state (length d.content))) (sym same) ∙ taken.over e
+    past_on : taken.past ≡ true → is_some (excess_of rise state (length (decoder_of ask.settings (came ++ take n queue)).content)) ≡ true
+    past_on e = ap (λ d. is_some (excess_of rise state (length d.content))) (sym same) ∙ taken.over e
 
     -- the last answer is of the last marker that came
     noted_on : IsNoted state ask rise taken.past (came ++ take n queue) mark taken_notes
@@ -356,11 +356,11 @@ module _ (read : Reading) (state : State) (ask : Ask) (good : IsAsk ask) (sound 
   moment_of = subst (λ way. IsTimely way b.far.context.moment) h.ready.2.sends_is h.timed
 
   -- past a limit with what came, past it with the whole
-  past_all : past ≡ true → is_some (over rise state (length rise.octets)) ≡ true
+  past_all : past ≡ true → is_some (excess_of rise state (length rise.octets)) ≡ true
   past_all e = whole_over state ask good rise h.ready.2 h.ready.1 h.fine.0 came ([], h.fine.1) (h.fine.2 e)
 
   -- what the server makes of it
-  serves : (b' : Bool) → is_some (over rise state (length rise.octets)) ≡ b'
+  serves : (b' : Bool) → is_some (excess_of rise state (length rise.octets)) ≡ b'
       → far.data_end (record (still b.far) { owed = c.owed })
       ≡ record (still (far_by state rise b.near b.far h.steady h.ready.1 b' rise.octets)) { owed = c.owed ++ reply_octets (fixed_reply (text_by state rise b.near b.far h.steady h.ready.1 b' Texts.Complete)) }
   serves b' e =
@@ -383,9 +383,9 @@ module _ (read : Reading) (state : State) (ask : Ask) (good : IsAsk ask) (sound 
 
   -- the end leads to where the server is done with the upload
   pub rise_ends : PlacedAt (λ way b. AtFetch state ask read own way b) (told DataToServer (world_at b (Answering (note_replies notes)) c))
-  rise_ends = by_bool (is_some (over rise state (length rise.octets))) big small
+  rise_ends = by_bool (is_some (excess_of rise state (length rise.octets))) big small
     where
-      big : is_some (over rise state (length rise.octets)) ≡ true → PlacedAt (λ way b. AtFetch state ask read own way b) (told DataToServer (world_at b (Answering (note_replies notes)) c))
+      big : is_some (excess_of rise state (length rise.octets)) ≡ true → PlacedAt (λ way b. AtFetch state ask read own way b) (told DataToServer (world_at b (Answering (note_replies notes)) c))
       big e = ends_at (Overfilled true) state (upload_far FarData.Free b.far) (serves true e) (record {
         near = h.near;
         session = refl;
@@ -401,7 +401,7 @@ module _ (read : Reading) (state : State) (ask : Ask) (good : IsAsk ask) (sound 
         fine = (overfull_fares state ask good rise h.ready.2 h.ready.1 h.fine.0 own e, sound, h.fine.3.0, tt);
       })
 
-      small : is_some (over rise state (length rise.octets)) ≡ false → PlacedAt (λ way b. AtFetch state ask read own way b) (told DataToServer (world_at b (Answering (note_replies notes)) c))
+      small : is_some (excess_of rise state (length rise.octets)) ≡ false → PlacedAt (λ way b. AtFetch state ask read own way b) (told DataToServer (world_at b (Answering (note_replies notes)) c))
       small e = ends_at Installed (stored rise state rise.octets) (stored_far (stored rise state rise.octets).table b.far) (serves false e) (record {
         near = h.near;
         session = refl;

@@ -23,7 +23,7 @@ use Rattle.ftp_server_model.specs.declared.session.ServerLink.TheVariants as Far
 use Rattle.laws_world.specs.Events.{DataToClient, is_gone, is_closed_by_far, link_breaks, told}
 use Rattle.laws_world.specs.World.{World, Link, Gone, Mark, Broken, counted}
 use Rattle.laws_dialogues.specs.Dialogue.{IsSound}
-use Rattle.laws_dialogues.specs.Fetches.{Ask, HasUpload, IsAsk, IsSteady, IsTimely, Rise, busy, kept, linked, over, stored}
+use Rattle.laws_dialogues.specs.Fetches.{Ask, HasUpload, IsAsk, IsSteadySession, IsTimely, Rise, busy, kept, linked, excess_of, stored}
 use Rattle.laws_dialogues.specs.Stage.{still, Way, Answering}
 use Rattle.laws_dialogues.specs.Uploads.{Note, last_held, note_replies}
 use Rattle.laws_dialogues.proofs.Offering.{with_flow}
@@ -91,7 +91,7 @@ module _ (read : Reading) (state : State) (ask : Ask) (good : IsAsk ask) (sound 
     pub upload : HasUpload ask rise
     pub set : b.near.settings ≡ ask.settings
     pub known : state.known ≡ true
-    pub steady : IsSteady state (kept b.near b.far)
+    pub steady : IsSteadySession state (kept b.near b.far)
     pub timed : IsTimely ask.sends b.far.context.moment
     pub climbs : Climbs state ask rise past came coming mark notes
     pub none : own ≡ []
@@ -110,7 +110,7 @@ module _ (read : Reading) (state : State) (ask : Ask) (good : IsAsk ask) (sound 
 
     -- the limits of octets, with what came
     pub came_over : Bool
-    came_over = is_some (over rise state (length (decoder_of ask.settings came).content))
+    came_over = is_some (excess_of rise state (length (decoder_of ask.settings came).content))
 
   -- a break where so many octets came leads to where the server is done with the upload
   broken_to : (begun ours past : Bool) (left came coming : List ℕ) (mark : Option ℕ) (notes : List Note) (b : World) (rows : List Reply) (c : Cut) → (g : Going b past came coming mark notes)

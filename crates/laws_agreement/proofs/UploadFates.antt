@@ -19,7 +19,7 @@ use Rattle.ftp_server_model.specs.Keep.{kept_count}
 use Rattle.laws_world.specs.Outcome.{Whole, Cut, CanBeCut, IsCutOf, Stored, cut_by, download_of, mmmm_in, upload_of}
 use Rattle.laws_world.specs.World.{Mark, Broken, counted}
 use Rattle.laws_dialogues.specs.Dialogue.{IsSound}
-use Rattle.laws_dialogues.specs.Fetches.{Ask, HasUpload, IsAsk, IsPlacedAt, Rise, kept_of, over, stored}
+use Rattle.laws_dialogues.specs.Fetches.{Ask, HasUpload, IsAsk, IsPlacedAt, Rise, kept_of, excess_of, stored}
 use Rattle.laws_dialogues.proofs.Rows.{answer_known}
 use Rattle.laws_dialogues.proofs.Texts.{text_shorter}
 use Rattle.laws_dialogues.proofs.Uploads.{kept_as_counted, kept_long, kept_within}
@@ -48,11 +48,11 @@ module _ (state : State) (ask : Ask) (good : IsAsk ask) (rise : Rise) (upload : 
   op = ask.op
 
   -- the direct run refuses it for its octets alone
-  refusal_is : refusal state op ≡ refused_octets (over rise state (length rise.octets))
+  refusal_is : refusal state op ≡ refused_octets (excess_of rise state (length rise.octets))
   refusal_is = upload.refused state taken.1 taken.0
 
   -- within the limits it is done
-  pub installed_fares : (own : List Mark) → is_some (over rise state (length rise.octets)) ≡ false → FaredTo state ask own Done (stored rise state rise.octets) rise.moment
+  pub installed_fares : (own : List Mark) → is_some (excess_of rise state (length rise.octets)) ≡ false → FaredTo state ask own Done (stored rise state rise.octets) rise.moment
   installed_fares own small = record {
     outcome = Whole;
     can_be = tt;
@@ -61,7 +61,7 @@ module _ (state : State) (ask : Ask) (good : IsAsk ask) (rise : Rise) (upload : 
   }
 
   -- past them it is refused
-  pub overfull_fares : (own : List Mark) → is_some (over rise state (length rise.octets)) ≡ true → FaredTo state ask own (Refused (code_of Refusals.TooMuch)) state rise.moment
+  pub overfull_fares : (own : List Mark) → is_some (excess_of rise state (length rise.octets)) ≡ true → FaredTo state ask own (Refused (code_of Refusals.TooMuch)) state rise.moment
   overfull_fares own big = record {
     outcome = Whole;
     can_be = tt;
@@ -70,8 +70,8 @@ module _ (state : State) (ask : Ask) (good : IsAsk ask) (rise : Rise) (upload : 
   }
 
   -- where what came is too much, the whole is
-  pub whole_over : (came : List ℕ) → IsFront came rise.text → is_some (over rise state (length (decoder_of ask.settings came).content)) ≡ true
-      → is_some (over rise state (length rise.octets)) ≡ true
+  pub whole_over : (came : List ℕ) → IsFront came rise.text → is_some (excess_of rise state (length (decoder_of ask.settings came).content)) ≡ true
+      → is_some (excess_of rise state (length rise.octets)) ≡ true
   whole_over came front some = elim (text_shorter ask.settings rise.octets rise.text came upload.text_is front) [
     | inl few ↦ too_many_more (part state) (rise.path state) (kept_count (rise.keep state) + length (decoder_of ask.settings came).content) (kept_count (rise.keep state) + length rise.octets)
         (omega (arith, few)) some
@@ -87,12 +87,12 @@ module _ (state : State) (ask : Ask) (good : IsAsk ask) (rise : Rise) (upload : 
   long content = kept_long (rise.keep state) (octets_or_none (part state) (rise.path state)) content (upload.within state)
 
   -- it can be cut at each front that passes no limit
-  can_be_cut : (came : List ℕ) → IsFront came rise.text → is_some (over rise state (length (decoder_of ask.settings came).content)) ≡ false → CanBeCut state op came
+  can_be_cut : (came : List ℕ) → IsFront came rise.text → is_some (excess_of rise state (length (decoder_of ask.settings came).content)) ≡ false → CanBeCut state op came
   can_be_cut came front small =
       let k = upload.known_so state in
       let first : first_refusal state op ≡ refusal state op = ap (λ (b : Bool). if b then refusal state op else Some Refusals.NotLoggedIn) known in
       let either : (first_refusal state op ≡ None) ⊎ (first_refusal state op ≡ Some Refusals.TooMuch) =
-      subst (λ why. (why ≡ None) ⊎ (why ≡ Some Refusals.TooMuch)) (sym (first ∙ refusal_is)) (either_of (over rise state (length rise.octets))) in
+      subst (λ why. (why ≡ None) ⊎ (why ≡ Some Refusals.TooMuch)) (sym (first ∙ refusal_is)) (either_of (excess_of rise state (length rise.octets))) in
       let limit : octets_refusal (part state) (rise.path state) (length (kept_of rise state ++ settled_content ask.settings.mode (form_of ask.settings) came)) ≡ None =
       ap (λ content. octets_refusal (part state) (rise.path state) (length (kept_of rise state ++ content))) (sym (what_is_settled ask.settings came))
       ∙ ap (octets_refusal (part state) (rise.path state)) (long (decoder_of ask.settings came).content) ∙ none_of _ small in
@@ -120,7 +120,7 @@ module _ (state : State) (ask : Ask) (good : IsAsk ask) (rise : Rise) (upload : 
       ∙ ap (λ content. (BrokenOff [] (held_at came), stored rise state content)) (sym (what_is_settled ask.settings came))
 
   -- with the mark of a break it fares as broken off, with the octets held at the last marker that came, and leaves what was settled
-  pub cut_off_fares : (own : List Mark) (came : List ℕ) (held : Option ℕ) → IsFront came rise.text → is_some (over rise state (length (decoder_of ask.settings came).content)) ≡ false
+  pub cut_off_fares : (own : List Mark) (came : List ℕ) (held : Option ℕ) → IsFront came rise.text → is_some (excess_of rise state (length (decoder_of ask.settings came).content)) ≡ false
       → own ≡ Broken (counted (length came)) ∷ [] → held ≡ held_at came
       → FaredTo state ask own (BrokenOff [] held) (stored rise state (decoder_of ask.settings came).content) rise.moment
   cut_off_fares own came held front small marked heard = record {
@@ -147,5 +147,5 @@ module _ (state : State) (ask : Ask) (good : IsAsk ask) (rise : Rise) (upload : 
       by_node (Some (File octets moment)) is = few_of octets (ap found_in is) (sound.files (rise.path state) octets moment is).1
 
   -- the limit passes nothing that it is not some of
-  pub within_limit : (count : ℕ) → is_some (over rise state count) ≡ false → over rise state count ≡ None
-  within_limit count small = none_of (over rise state count) small
+  pub within_limit : (count : ℕ) → is_some (excess_of rise state count) ≡ false → excess_of rise state count ≡ None
+  within_limit count small = none_of (excess_of rise state count) small

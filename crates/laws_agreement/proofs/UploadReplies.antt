@@ -19,7 +19,7 @@ use Rattle.ftp_server_model.specs.Walk.{refusal_text}
 use Rattle.ftp_server_model.specs.declared.reply.FixedReply.TheVariants as Texts
 use Rattle.laws_world.specs.World.{World, Mark, Broken}
 use Rattle.laws_dialogues.specs.Dialogue.{IsSound}
-use Rattle.laws_dialogues.specs.Fetches.{Ask, HasUpload, IsAsk, IsPlacedAt, IsSteady, Rise, kept, leaving, linked}
+use Rattle.laws_dialogues.specs.Fetches.{Ask, HasUpload, IsAsk, IsPlacedAt, IsSteadySession, Rise, kept, leaving, linked}
 use Rattle.laws_dialogues.specs.Stage.{calm, Way, Answering, NearTurn, behind}
 use Rattle.laws_dialogues.specs.Uploads.{IsNote, Note, note_replies, note_reply}
 use Rattle.laws_dialogues.proofs.LoginTurns.{no_reply}
@@ -311,7 +311,7 @@ module _ (read : Reading) (state : State) (ask : Ask) (good : IsAsk ask) (sound 
         record {
           near = refl;
           session = session;
-          steady = subst (λ s. IsSteady s (kept b.near b.far)) same h.steady;
+          steady = subst (λ s. IsSteadySession s (kept b.near b.far)) same h.steady;
           timed = h.timed;
           ready = tt;
           link = link;

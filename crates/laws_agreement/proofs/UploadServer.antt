@@ -27,7 +27,7 @@ use Rattle.ftp_server_model.specs.declared.session.Pending.TheVariants as Pendin
 use Rattle.ftp_server_model.specs.declared.session.ServerLink.{ServerLink as FarConnection}
 use Rattle.ftp_server_model.specs.declared.session.ServerLink.TheVariants as FarData
 use Rattle.ftp_server_model.specs.declared.session.Transfer.TheVariants as Transfers
-use Rattle.laws_dialogues.specs.Fetches.{Rise, IsSteady, end_why, kept, linked, over, stored}
+use Rattle.laws_dialogues.specs.Fetches.{Rise, IsSteadySession, end_why, kept, linked, excess_of, stored}
 use Rattle.laws_world.specs.Outcome.{mmmm_in, reached}
 use Rattle.laws_dialogues.specs.Stage.{row_octets, still}
 use Rattle.laws_dialogues.specs.Uploads.{AreNotes, Note, last_held, note_replies, note_reply}
@@ -85,7 +85,7 @@ upload_far connection f = far_linked (linked connection false Pendings.Nothing f
 abbrev pub stored_far : Table → Far → Far
 stored_far table f = far_linked (linked FarData.Free false Pendings.Nothing (record f.session { table = table })) f
 
-module _ (state : State) (rise : Rise) (n : Near) (f : Far) (steady : IsSteady state (kept n f)) (known : state.known ≡ true) where
+module _ (state : State) (rise : Rise) (n : Near) (f : Far) (steady : IsSteadySession state (kept n f)) (known : state.known ≡ true) where
   abbrev path : Names
   path = rise.path state
 
@@ -96,7 +96,7 @@ module _ (state : State) (rise : Rise) (n : Near) (f : Far) (steady : IsSteady s
   session_with connection = linked connection false Pendings.Nothing f.session
 
   -- a limit is passed in the session where it is in the state
-  over_is : (d : Decoder) (connection : FarConnection Transfer) → is_over path keep d (session_with connection) ≡ is_some (over rise state (length d.content))
+  over_is : (d : Decoder) (connection : FarConnection Transfer) → is_over path keep d (session_with connection) ≡ is_some (excess_of rise state (length d.content))
   over_is d connection = ap (λ s. is_some (octets_refusal (part s) path (kept_count keep + length d.content))) (same_direct state n f steady known)
 
   -- what is put in the session is what is stored in the state
@@ -108,7 +108,7 @@ module _ (state : State) (rise : Rise) (n : Near) (f : Far) (steady : IsSteady s
       ∙ ap (λ moment. record (session_with FarData.Free) { table = (changed state (installed (part state) path (kept_of keep (octets_or_none (part state) path) ++ content) moment)).table }) (sym timed)
 
   -- the server behind it is steady in what is stored
-  pub stored_steady : (content : List ℕ) → IsSteady (stored rise state content) (kept n (stored_far (stored rise state content).table f))
+  pub stored_steady : (content : List ℕ) → IsSteadySession (stored rise state content) (kept n (stored_far (stored rise state content).table f))
   stored_steady content = record {
     peer = steady.peer;
     here = steady.here;
@@ -138,7 +138,7 @@ module _ (state : State) (rise : Rise) (n : Near) (f : Far) (steady : IsSteady s
     pub notes : List Note
     pub is : v ≡ taking_at past d (owed ++ row_octets (note_replies notes))
     pub since : past ≡ false → before ≡ false
-    pub over : past ≡ true → is_some (over rise state (length d.content)) ≡ true
+    pub over : past ≡ true → is_some (excess_of rise state (length d.content)) ≡ true
     pub few : past ≡ false → kept_count keep + length d.content < 10 ^ 18
     pub fine : AreNotes notes
     pub last : (mark : Option ℕ) → past ≡ false → last_held mark notes ≡ says_last mark
@@ -159,10 +159,10 @@ module _ (state : State) (rise : Rise) (n : Near) (f : Far) (steady : IsSteady s
       record { past = false; notes = []; is = none_owed false d owed; since = λ e. refl; over = λ e. absurd (cc); few = λ e. few; fine = tt; last = λ mark e. refl }
   signs_taken owed d (marker text ∷ more) signs few = absurd signs
   signs_taken owed d (says sign ∷ more) signs few =
-      by_bool (is_some (over rise state (length (with_sign d sign).content))) past
+      by_bool (is_some (excess_of rise state (length (with_sign d sign).content))) past
       (λ e. on (signs_taken owed (with_sign d sign) more signs (clear_few (part state) path (kept_count keep + length (with_sign d sign).content) e)) e)
     where
-      step : (b : Bool) → is_some (over rise state (length (with_sign d sign).content)) ≡ b
+      step : (b : Bool) → is_some (excess_of rise state (length (with_sign d sign).content)) ≡ b
           → takes_all (says sign ∷ more) (taking_at false d owed) ≡ takes_all more (taking_at b (with_sign d sign) owed)
       step true e =
           ap (λ (b : Bool). takes_all more (record (still (upload_far (if b then FarData.Transferring Transfers.OverLimit else FarData.Transferring (Transfers.Upload path keep (with_sign d sign))) f)) { owed = owed }))
@@ -171,7 +171,7 @@ module _ (state : State) (rise : Rise) (n : Near) (f : Far) (steady : IsSteady s
           ap (λ (b : Bool). takes_all more (record (still (upload_far (if b then FarData.Transferring Transfers.OverLimit else FarData.Transferring (Transfers.Upload path keep (with_sign d sign))) f)) { owed = owed }))
           (over_is (with_sign d sign) (held false path keep d) ∙ e)
 
-      past : is_some (over rise state (length (with_sign d sign).content)) ≡ true
+      past : is_some (excess_of rise state (length (with_sign d sign).content)) ≡ true
           → Taken false (takes_all (says sign ∷ more) (taking_at false d owed)) owed (with_all d (says sign ∷ more)) (λ mark. mark)
       past e = record {
         past = true;
@@ -186,7 +186,7 @@ module _ (state : State) (rise : Rise) (n : Near) (f : Far) (steady : IsSteady s
       }
 
       on : Taken false (takes_all more (taking_at false (with_sign d sign) owed)) owed (with_all (with_sign d sign) more) (λ mark. mark)
-          → is_some (over rise state (length (with_sign d sign).content)) ≡ false
+          → is_some (excess_of rise state (length (with_sign d sign).content)) ≡ false
           → Taken false (takes_all (says sign ∷ more) (taking_at false d owed)) owed (with_all d (says sign ∷ more)) (λ mark. mark)
       on t e = record { past = t.past; notes = t.notes; is = step false e ∙ t.is; since = t.since; over = t.over; few = t.few; fine = t.fine; last = t.last }
 
@@ -227,7 +227,7 @@ module _ (state : State) (rise : Rise) (n : Near) (f : Far) (steady : IsSteady s
       (marker_taken owed d marked.text marked.more marked.fine marked.signs few)
 
   -- an octet is taken
-  octet_taken : (owed : List ℕ) (past : Bool) (d : Decoder) (octet : ℕ) → (past ≡ true → is_some (over rise state (length d.content)) ≡ true) → (past ≡ false → kept_count keep + length d.content < 10 ^ 18)
+  octet_taken : (owed : List ℕ) (past : Bool) (d : Decoder) (octet : ℕ) → (past ≡ true → is_some (excess_of rise state (length d.content)) ≡ true) → (past ≡ false → kept_count keep + length d.content < 10 ^ 18)
       → fault_of (read_on d octet) ≡ None → IsSigns (octet_says d octet) ⊎ IsMarked (octet_says d octet)
       → Taken past (far.receives_octet (taking_at past d owed) octet) owed (decoded_octet d octet) (λ mark. reached (kept_count keep + length d.content) mark (octet_says d octet))
   unfolding far.receives_octet
@@ -269,7 +269,7 @@ module _ (state : State) (rise : Rise) (n : Near) (f : Far) (steady : IsSteady s
   octets_dropped d owed (octet ∷ octets) = octets_dropped (decoded_octet d octet) owed octets
 
   -- and a limit is passed still
-  still_over : (d : Decoder) (octets : List ℕ) → is_some (over rise state (length d.content)) ≡ true → is_some (over rise state (length (decoded d octets).content)) ≡ true
+  still_over : (d : Decoder) (octets : List ℕ) → is_some (excess_of rise state (length d.content)) ≡ true → is_some (excess_of rise state (length (decoded d octets).content)) ≡ true
   still_over d octets some = too_many_more (part state) path (kept_count keep + length d.content) (kept_count keep + length (decoded d octets).content) (omega (arith, decoded_grows d octets)) some
 
   -- what is read well once an octet was taken, where no limit was passed with it
@@ -278,7 +278,7 @@ module _ (state : State) (rise : Rise) (n : Near) (f : Far) (steady : IsSteady s
   read_on_far count next octets few within (inr reads) = reads
 
   -- octets are taken
-  pub octets_taken : (owed : List ℕ) (past : Bool) (d : Decoder) (octets : List ℕ) → (past ≡ true → is_some (over rise state (length d.content)) ≡ true)
+  pub octets_taken : (owed : List ℕ) (past : Bool) (d : Decoder) (octets : List ℕ) → (past ≡ true → is_some (excess_of rise state (length d.content)) ≡ true)
       → (past ≡ false → kept_count keep + length d.content < 10 ^ 18) → (past ≡ false → ReadsFar d octets)
       → Taken past (far.receives (taking_at past d owed) octets) owed (decoded d octets) (λ mark. mmmm_in (kept_count keep) d mark octets)
   octets_taken owed true d octets over few reads = record {
@@ -313,7 +313,7 @@ module _ (state : State) (rise : Rise) (n : Near) (f : Far) (steady : IsSteady s
 
   -- it is refused for its octets alone
   abbrev pub EndsSo : Type 0
-  EndsSo = (content : List ℕ) → end_why rise state content ≡ refused_octets (over rise state (length content))
+  EndsSo = (content : List ℕ) → end_why rise state content ≡ refused_octets (excess_of rise state (length content))
 
   -- why the server refuses it at its end is said of its session as of the state
   end_is : (content : List ℕ) → end_refusal path keep content (session_with FarData.Free) ≡ end_why rise state content
@@ -334,9 +334,9 @@ module _ (state : State) (rise : Rise) (n : Near) (f : Far) (steady : IsSteady s
   why_is content = end_refusal path keep content (session_with FarData.Free)
 
   -- it ends so
-  ending_is : EndsSo → (b : Bool) (content : List ℕ) (text : FixedReply) → is_some (over rise state (length content)) ≡ b
+  ending_is : EndsSo → (b : Bool) (content : List ℕ) (text : FixedReply) → is_some (excess_of rise state (length content)) ≡ b
       → ends_for (why_is content) content text ≡ ending_by b content text
-  ending_is so b content text is = ap (λ why. ends_for why content text) (end_is content ∙ so content) ∙ by_fault (over rise state (length content)) b is
+  ending_is so b content text is = ap (λ why. ends_for why content text) (end_is content ∙ so content) ∙ by_fault (excess_of rise state (length content)) b is
     where
       by_fault : (fault : Option TreeFault) (b : Bool) → is_some fault ≡ b → ends_for (refused_octets fault) content text ≡ ending_by b content text
       by_fault None true is = absurd (cc)
@@ -363,7 +363,7 @@ module _ (state : State) (rise : Rise) (n : Near) (f : Far) (steady : IsSteady s
       ap (λ s. record (still (far_linked s f)) { owed = owed ++ reply_octets (fixed_reply text) }) (put_is content timed)
 
   -- a break: what came is installed, where no limit is passed
-  pub upload_breaks : EndsSo → is_overtaken keep ≡ false → (past b : Bool) (d : Decoder) (owed : List ℕ) → rise.moment ≡ f.context.moment → (past ≡ true → b ≡ true) → is_some (over rise state (length d.content)) ≡ b
+  pub upload_breaks : EndsSo → is_overtaken keep ≡ false → (past b : Bool) (d : Decoder) (owed : List ℕ) → rise.moment ≡ f.context.moment → (past ≡ true → b ≡ true) → is_some (excess_of rise state (length d.content)) ≡ b
       → far.data_fault (record (still (upload_far (held past path keep d) f)) { owed = owed })
       ≡ record (still (far_by b d.content)) { owed = owed ++ reply_octets (fixed_reply (text_by b Texts.Broken)) }
   unfolding far.data_fault
@@ -376,7 +376,7 @@ module _ (state : State) (rise : Rise) (n : Near) (f : Far) (steady : IsSteady s
 
   -- the client's close behind the whole text: the file is installed, where no limit is passed
   pub upload_ends : EndsSo → (past b : Bool) (d : Decoder) (content owed : List ℕ) → rise.moment ≡ f.context.moment → (past ≡ false → (is_whole d ≡ true) × ((ended d).content ≡ content))
-      → (past ≡ true → b ≡ true) → is_some (over rise state (length content)) ≡ b
+      → (past ≡ true → b ≡ true) → is_some (excess_of rise state (length content)) ≡ b
       → far.data_end (record (still (upload_far (held past path keep d) f)) { owed = owed })
       ≡ record (still (far_by b content)) { owed = owed ++ reply_octets (fixed_reply (text_by b Texts.Complete)) }
   unfolding far.data_end

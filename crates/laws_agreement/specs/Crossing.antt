@@ -20,8 +20,8 @@ pub record Cuts : Type 0 where
   pub gathered : Gathered
 
 -- so these octets are heard by whatever client is between two replies
-abbrev pub AreHeard : List ℕ → Ear → Gathered → Type 0
-AreHeard held ear gathered = (n : Near) → n.ear ≡ quiet → n.gathered ≡ Between → near.hears n held ≡ record n { ear = ear; gathered = gathered }
+abbrev pub AreHeardBetween : List ℕ → Ear → Gathered → Type 0
+AreHeardBetween held ear gathered = (n : Near) → n.ear ≡ quiet → n.gathered ≡ Between → near.hears n held ≡ record n { ear = ear; gathered = gathered }
 
 -- ABOR is on its way, or no octet is
 abbrev pub FlowsAbort : Bool → Cut → Type 0
@@ -33,7 +33,7 @@ pub record AreCut (asked : Bool) (rows : List Reply) (c : Cuts) : Type 0 where
   pub up : FlowsAbort asked c.up
   pub written : AreWritten rows
   pub down : FlowsRow rows c.down.held (coming c.down)
-  pub heard : AreHeard c.down.held c.ear c.gathered
+  pub heard : AreHeardBetween c.down.held c.ear c.gathered
 
 -- the world of a base and these
 abbrev pub crossing_at : World → Cuts → World

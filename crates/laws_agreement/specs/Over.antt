@@ -11,7 +11,7 @@ use Rattle.ftp_server_model.specs.Machine.{Reading}
 use Rattle.laws_world.specs.Agreement.{Order, Single, Tries}
 use Rattle.laws_world.specs.World.{World, Mark}
 use Rattle.laws_agreement.specs.Runs.{IsTrailing, Runs}
-use Rattle.laws_agreement.specs.Tried.{Tried, tried_orders, tried_marks, tried_said, all_marks, IsChain, IsLast, IsTryOf, IsUnderWay}
+use Rattle.laws_agreement.specs.Tried.{Tried, tried_orders, tried_marks, tried_said, all_marks, IsChain, IsLastOfRun, IsTryOf, IsUnderWay}
 
 -- the upload was begun last; these of its operations are answered, and this one is the last that was begun, with these marks of its link
 pub record Going (begun : List Order) (w : World) : Type 0 where
@@ -33,8 +33,8 @@ pub record Going (begun : List Order) (w : World) : Type 0 where
   pub dated : moment ≤ last_second
 
 -- the orders and the marks, as if each operation were begun by itself
-abbrev pub orders_of : {begun : List Order} {w : World} → Going begun w → List Order
-orders_of g = g.done ++ (tried_orders g.moment g.past ++ Single g.op g.moment ∷ [])
+abbrev pub orders_alone : {begun : List Order} {w : World} → Going begun w → List Order
+orders_alone g = g.done ++ (tried_orders g.moment g.past ++ Single g.op g.moment ∷ [])
 
 abbrev pub marks_of : {begun : List Order} {w : World} → Going begun w → List (List Mark)
 marks_of g = g.marks ++ (tried_marks g.past ++ g.own ∷ [])
@@ -46,7 +46,7 @@ pub record IsTrying (read : Reading) (from : State) (begun : List Order) (w : Wo
   pub near_is : w.near ≡ record near { run = Some going.run }
   pub works : IsUnderWay going.op near.job near.connection
   pub all : length w.reports ≡ length going.done
-  pub alone : Runs read from (orders_of going) (record w { near = record near { run = None }; marks = marks_of going; reports = w.reports ++ tried_said going.past })
+  pub alone : Runs read from (orders_alone going) (record w { near = record near { run = None }; marks = marks_of going; reports = w.reports ++ tried_said going.past })
   pub timed : is_size going.op ≡ true → w.far.context.moment ≡ going.moment
 
 -- it is answered, and the server was not told yet that the link of its last operation is closed
@@ -56,8 +56,8 @@ pub record IsTailing (read : Reading) (from : State) (begun : List Order) (w : W
   pub said : Said
   pub all : length reports ≡ length going.done
   pub reports_are : w.reports ≡ reports ++ said ∷ []
-  pub last : IsLast going.run going.op (Some said)
-  pub alone : IsTrailing from (orders_of going) (record w { marks = marks_of going; reports = reports ++ (tried_said going.past ++ said ∷ []) })
+  pub last : IsLastOfRun going.run going.op (Some said)
+  pub alone : IsTrailing from (orders_alone going) (record w { marks = marks_of going; reports = reports ++ (tried_said going.past ++ said ∷ []) })
 
 -- what holds after every event, uploads over breaks among them
 abbrev pub OverRuns : Reading → State → List Order → World → Type 0

@@ -19,7 +19,7 @@ use Rattle.ftp_server_model.specs.declared.session.ServerLink.{ServerLink as Far
 use Rattle.ftp_server_model.specs.declared.session.ServerLink.TheVariants as FarData
 use Rattle.ftp_server_model.specs.declared.session.Pending.TheVariants as Pendings
 use Rattle.laws_world.specs.World.{World, Mark}
-use Rattle.laws_dialogues.specs.Fetches.{Ask, IsTimely, busy, giving_of, linked, kept, IsSteady}
+use Rattle.laws_dialogues.specs.Fetches.{Ask, IsTimely, busy, giving_of, linked, kept, IsSteadySession}
 use Rattle.laws_dialogues.specs.Peeks.{abort_line, halting}
 use Rattle.laws_agreement.specs.Crossing.{Cuts, AreCut, crossing_at}
 use Rattle.laws_agreement.specs.Stages.{Fared, Gap, Lost, Tie, Joined, gap_tie, left_tie, is_parting, link_of, near_link}
@@ -109,7 +109,7 @@ module _ (state : State) (ask : Ask) where
   pub record Halts (own : List Mark) (halt : Halt) (said : Said) (came queue : List ℕ) (b : World) : Type 0 where
     pub near : b.near ≡ halt_near halt came b.near
     pub session : b.far.session ≡ linked (halt_far ask.listed halt) (is_parting (halt_tie halt)) Pendings.Nothing b.far.session
-    pub steady : IsSteady state (kept b.near b.far)
+    pub steady : IsSteadySession state (kept b.near b.far)
     pub timed : IsTimely ask.sends b.far.context.moment
     pub link : b.link ≡ link_of (halt_tie halt)
     pub to_server : b.data_to_server ≡ []

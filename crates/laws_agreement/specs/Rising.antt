@@ -32,7 +32,7 @@ use Rattle.laws_world.specs.Agreement.{Allows}
 use Rattle.laws_world.specs.Outcome.{Outcome, CanBe, did, mmmm_in}
 use Rattle.laws_world.specs.World.{Link, Gone, Opened, ClosedByNear, ClosedByFar, Mark, Broken, counted}
 use Rattle.laws_dialogues.specs.Dialogue.{IsSound}
-use Rattle.laws_dialogues.specs.Fetches.{Ask, IsPlacedAt, Rise, busy, over}
+use Rattle.laws_dialogues.specs.Fetches.{Ask, IsPlacedAt, Rise, busy, excess_of}
 use Rattle.laws_dialogues.specs.Stage.{Way, Answering}
 use Rattle.laws_dialogues.specs.Uploads.{AreNotes, Note, last_held, note_replies}
 
@@ -214,7 +214,7 @@ module _ (state : State) (ask : Ask) where
 
     -- a limit was passed with what came
     abbrev pub IsPast : Bool → List ℕ → Type 0
-    IsPast past came = past ≡ true → is_some (over rise state (length (decoder_of ask.settings came).content)) ≡ true
+    IsPast past came = past ≡ true → is_some (excess_of rise state (length (decoder_of ask.settings came).content)) ≡ true
 
     -- neither its own command is refused nor REST
     abbrev pub IsOpen : Type 0

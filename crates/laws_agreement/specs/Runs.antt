@@ -8,7 +8,7 @@ use Rattle.ftp_server_model.specs.declared.session.Pending.TheVariants as Pendin
 use Rattle.laws_world.specs.Agreement.{Order, Single}
 use Rattle.laws_world.specs.World.{World, Mark, ClosedByNear}
 use Rattle.laws_dialogues.specs.Dialogue.{IsSound, resting}
-use Rattle.laws_dialogues.specs.Fetches.{Ask, HasPlan, IsAsk, IsTimely, linked, kept, IsSteady}
+use Rattle.laws_dialogues.specs.Fetches.{Ask, HasPlan, IsAsk, IsTimely, linked, kept, IsSteadySession}
 use Rattle.laws_dialogues.specs.Stage.{Way, rest}
 use Rattle.laws_agreement.specs.Cut.{PlacedAt}
 use Rattle.laws_agreement.specs.Follows.{Told, IsLinked, Follows}
@@ -54,7 +54,7 @@ pub record IsHaltingOn (from : State) (begun : List Order) (w : World) : Type 0 
 pub record AtClosed (now : State) (way : Way) (b : World) : Type 0 where
   pub near : b.near ≡ resting b.near
   pub session : b.far.session ≡ linked FarData.Ready false Pendings.Nothing b.far.session
-  pub steady : IsSteady now (kept b.near b.far)
+  pub steady : IsSteadySession now (kept b.near b.far)
   pub link : b.link ≡ ClosedByNear
   pub to_server : b.data_to_server ≡ []
   pub to_client : b.data_to_client ≡ []

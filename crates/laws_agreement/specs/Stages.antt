@@ -35,8 +35,8 @@ use Rattle.ftp_settings.specs.declared.representation.Representation.{Representa
 use Rattle.laws_world.specs.Agreement.{Allows}
 use Rattle.laws_world.specs.Outcome.{Outcome, CanBe, did}
 use Rattle.laws_world.specs.World.{World, Link, Gone, Opened, ClosedByFar, Mark, Broken, Refused, counted}
-use Rattle.laws_dialogues.specs.Dialogue.{IsSound, Passes, is_aside}
-use Rattle.laws_dialogues.specs.Fetches.{Ask, HasAnswer, HasUpload, IsPlacedAt, IsTimely, Rise, Up, busy, carried, fetching, offering, leaving, linked, asked_of, port_reply, rest_reply, giving_of, is_filled, offset_pending, kept, IsSteady, Opens}
+use Rattle.laws_dialogues.specs.Dialogue.{IsSound, Passes, is_set_aside}
+use Rattle.laws_dialogues.specs.Fetches.{Ask, HasAnswer, HasUpload, IsPlacedAt, IsTimely, Rise, Up, busy, carried, fetching, offering, leaving, linked, passive_verb_of, port_reply, rest_reply, giving_of, is_filled, offset_pending, kept, IsSteadySession, Opens}
 use Rattle.laws_dialogues.specs.Login.{IsOnWay}
 use Rattle.laws_dialogues.specs.Stage.{Way, Asking, Answering, rest}
 use Rattle.laws_agreement.specs.Rising.{Lift, lift_passes, lift_near, lift_far, lift_closing, lift_link, lift_way, lift_queue, lift_state, LiftCame, LiftMarked, LiftFine, FaredTo}
@@ -190,17 +190,17 @@ tie_of (Refusing why gap) = gap_tie gap
 tie_of Unopened = Over Endings.Broken
 
 -- a 150, where it was not heard, and then these
-abbrev pub behind_opening : Heard → List Reply → List Reply
-behind_opening NoReply more = fixed_reply Texts.Opens ∷ more
-behind_opening OneReply more = more
-behind_opening BothReplies more = []
+abbrev pub replies_behind_opening : Heard → List Reply → List Reply
+replies_behind_opening NoReply more = fixed_reply Texts.Opens ∷ more
+replies_behind_opening OneReply more = more
+replies_behind_opening BothReplies more = []
 
 -- the replies that are still to be heard
 abbrev pub replies_in : Course → List Reply
-replies_in (Giving begun octet more) = behind_opening (heard_by begun) []
-replies_in (Given heard left) = behind_opening heard (fixed_reply Texts.Complete ∷ [])
-replies_in (Ended begun clean) = behind_opening (heard_by begun) (fixed_reply Texts.Complete ∷ [])
-replies_in (Severed begun) = behind_opening (heard_by begun) (fixed_reply Texts.Broken ∷ [])
+replies_in (Giving begun octet more) = replies_behind_opening (heard_by begun) []
+replies_in (Given heard left) = replies_behind_opening heard (fixed_reply Texts.Complete ∷ [])
+replies_in (Ended begun clean) = replies_behind_opening (heard_by begun) (fixed_reply Texts.Complete ∷ [])
+replies_in (Severed begun) = replies_behind_opening (heard_by begun) (fixed_reply Texts.Broken ∷ [])
 replies_in (Refusing why gap) = fixed_reply (refusal_text why) ∷ []
 replies_in Unopened = fixed_reply Texts.NoConnection ∷ []
 
@@ -329,7 +329,7 @@ module _ (state : State) (ask : Ask) where
 
   -- the server's data connection, by what the client asked for and by its host
   abbrev pub far_at : Stage → Bool → Host → FarConnection Transfer
-  far_at (PortAsked closing) extended here = FarData.Asked (asked_of extended)
+  far_at (PortAsked closing) extended here = FarData.Asked (passive_verb_of extended)
   far_at (PortTold port) extended here = FarData.Passive
   far_at (Dials port) extended here = FarData.Passive
   far_at (PortWanted connection pending) extended here = connection
@@ -493,10 +493,10 @@ module _ (state : State) (ask : Ask) where
   FineAt (PortAsked closing) own = Unit {0}
   FineAt (PortTold port) own = HasPort port
   FineAt (Dials port) own = Unit {0}
-  FineAt (PortWanted connection pending) own = is_aside connection ≡ true
-  FineAt (PortSaid port connection pending) own = (is_aside connection ≡ true) × IsOwnPort port
+  FineAt (PortWanted connection pending) own = is_set_aside connection ≡ true
+  FineAt (PortSaid port connection pending) own = (is_set_aside connection ≡ true) × IsOwnPort port
   FineAt (PortTaken port closing) own = Unit {0}
-  FineAt (PortDenied port connection) own = (is_aside connection ≡ true) × (state.known ≡ false)
+  FineAt (PortDenied port connection) own = (is_set_aside connection ≡ true) × (state.known ≡ false)
   FineAt (Restarts at restart early) own = (ask.offset ≡ Some at) × IsRestarted at restart
   FineAt (Retrieves early) own = IsPlacedAt ask.settings ask.offset
   FineAt (Awaits port begun) own = (ask.why state ≡ None) × IsPlacedAt ask.settings ask.offset
@@ -506,7 +506,7 @@ module _ (state : State) (ask : Ask) where
   FineAt (Rises rise lift) own = LiftFine state ask rise lift own
   FineAt (Tells rise said after) own = FaredTo state ask own said after rise.moment × IsSound after × (ask.sends ≡ Up rise)
   FineAt (Answers said LinkOpen) own = (any : List Mark) → Fared any said
-  FineAt (Answers said (Aside closes connection pending)) own = Fared own said × (is_aside connection ≡ true)
+  FineAt (Answers said (Aside closes connection pending)) own = Fared own said × (is_set_aside connection ≡ true)
   FineAt (Answers said leaves) own = Fared own said
 
   -- the settings are made and somebody is logged in, where that was needed to come so far
@@ -523,7 +523,7 @@ module _ (state : State) (ask : Ask) where
   pub record Holds (own : List Mark) (stage : Stage) (way : Way) (b : World) : Type 0 where
     pub near : b.near ≡ near_at stage b.near
     pub session : b.far.session ≡ linked (far_at stage (is_extended b.near ask.op) b.near.here) (closing_at stage) (pending_at stage) b.far.session
-    pub steady : IsSteady (state_at stage) (kept b.near b.far)
+    pub steady : IsSteadySession (state_at stage) (kept b.near b.far)
     pub timed : IsTimely ask.sends b.far.context.moment
     pub ready : ReadyAt stage b.near.settings
     pub link : b.link ≡ link_at stage

@@ -49,9 +49,9 @@ told_of None = []
 told_of (Some said) = said ∷ []
 
 -- behind it nothing follows
-abbrev pub IsLast : Run → Op (List ℕ) → Option Said → Type 0
-IsLast run op None = Unit {0}
-IsLast run op (Some said) = next_in run op said ≡ None
+abbrev pub IsLastOfRun : Run → Op (List ℕ) → Option Said → Type 0
+IsLastOfRun run op None = Unit {0}
+IsLastOfRun run op (Some said) = next_in run op said ≡ None
 
 -- the operation is under way at the client, or waits there for the end of the login
 abbrev pub IsUnderWay : Op (List ℕ) → Job → ClientLink → Type 0

@@ -28,7 +28,7 @@ use Rattle.ftp_direct.specs.Direct.{State, file_of, offset_refusal, or_refused, 
 use Rattle.ftp_direct.specs.Refusal.{code_of}
 use Rattle.ftp_client_model.specs.Dialogue.{answered, answers_once_over, endpoint_named, finishes_read, judged, judged_reply, last_job, passive_named, placed, port_named, sends, sends_abort, sends_if}
 use Rattle.ftp_client_model.specs.Octets.{flow_of}
-use Rattle.ftp_client_model.specs.Plan.{asks_extended, from_kind, how_of, is_extended, offset_of, opening_of, passive_command, port_command, restart_command, step_behind_opening, step_by}
+use Rattle.ftp_client_model.specs.Plan.{may_ask_extended, from_kind, how_of, is_extended, offset_of, opening_of, passive_command, port_command, restart_command, step_behind_opening, step_by}
 use Rattle.ftp_client_model.specs.View.{View as Near, Transfer as ClientTransfer, Doing, Receiving, stands}
 use Rattle.ftp_client_model.specs.declared.client.Abort.TheVariants as Aborts
 use Rattle.ftp_client_model.specs.declared.client.ClientLink.{ClientLink as NearConnection}
@@ -41,9 +41,9 @@ use Rattle.ftp_client_model.specs.declared.client.Step.TheVariants as Steps
 use Rattle.ftp_server_model.specs.Endpoint.{forgotten, is_standing, is_taken, takes}
 use Rattle.ftp_server_model.specs.Machine.{Reading, IsReading, given_out, heard_line, is_connection_busy, replied, turned}
 use Rattle.ftp_server_model.specs.Act.{act}
-use Rattle.ftp_server_model.specs.Replies.{extended_text, fixed_reply, passive_text, tells}
-use Rattle.ftp_server_model.specs.Texts.{code_of as reply_code}
-use Rattle.ftp_server_model.specs.Transfer.{begin, file_wire, misplaced, place_of, rests, transfer_starts}
+use Rattle.ftp_server_model.specs.Replies.{extended_reply_text, fixed_reply, passive_reply_text, tells}
+use Rattle.ftp_server_model.specs.Texts.{fixed_reply_code as reply_code}
+use Rattle.ftp_server_model.specs.Transfer.{begin, file_wire, misplaced, place_of, restart_pending, transfer_starts}
 use Rattle.ftp_server_model.specs.View.{View as Far, Session, Transfer, direct_of, how_in_force}
 use Rattle.ftp_server_model.specs.Walk.{path_of, refusal_text}
 use Rattle.ftp_server_model.specs.declared.reply.ReplyKind.TheVariants as Kinds
@@ -57,7 +57,7 @@ use Rattle.ftp_server_model.specs.declared.session.Transfer.TheVariants as Trans
 use Rattle.ftp_server_model.specs.declared.session.Way.TheVariants as Ways
 use Rattle.laws_world.specs.Outcome.{mark_in}
 use Rattle.laws_dialogues.specs.Dialogue.{FarWaits, Passes, Stands, doing, resting}
-use Rattle.laws_dialogues.specs.Fetches.{Ask, HasPlan, HasRow, Opens, busy, carried as offered, fetching, flow_after, is_filled, offering, leaving, opened_command, opened_job, asked_of, port_reply, rest_reply, giving_of, offset_pending, kept, IsSteady, download_ask, place_in_file}
+use Rattle.laws_dialogues.specs.Fetches.{Ask, HasPlan, HasRow, Opens, busy, carried as offered, fetching, flow_after, is_filled, offering, leaving, opened_command, opened_job, passive_verb_of, port_reply, rest_reply, giving_of, offset_pending, kept, IsSteadySession, download_ask, place_in_file}
 use Rattle.laws_dialogues.specs.Operations.{LeadsBy}
 use Rattle.laws_dialogues.specs.Stage.{calm, still, row_octets, FarTurn}
 use Rattle.laws_dialogues.proofs.Exchanges.{IsSent, with_session}
@@ -70,7 +70,7 @@ use Rattle.laws_dialogues.proofs.Settings.{LeadsFrom, settings_lead}
 -- ---- a port is asked for
 
 -- ends that stand in a state are steady in it
-pub steady_at : (state : State) (n : Near) (f : Far) → Stands state n f → IsSteady state (kept n f)
+pub steady_at : (state : State) (n : Near) (f : Far) → Stands state n f → IsSteadySession state (kept n f)
 steady_at state n f stands = record {
   peer = stands.meets.peer;
   here = stands.meets.here;
@@ -117,11 +117,11 @@ module _ (read : Reading) (reads : IsReading read) (state : State) (ask : Ask) (
 
   -- a client that has asked for a port and a server that was so asked are at the opening
   is_asked : (extended : Bool) (n : Near) (f : Far) → is_extended n op ≡ extended → Stands state n f → n.settings ≡ ask.settings
-      → Opens state ask (doing op Steps.Passive n) (with_session (asking (asked_of extended) f) f)
+      → Opens state ask (doing op Steps.Passive n) (with_session (asking (passive_verb_of extended) f) f)
   is_asked extended n f is stands set = inl (record {
     near = refl;
     closing = f.session.closing || is_standing f.session.connection;
-    session = λ i. record (asking (asked_of extended) f) { connection = FarData.Asked (asked_of (sym is i)); life = stands.far.life i };
+    session = λ i. record (asking (passive_verb_of extended) f) { connection = FarData.Asked (passive_verb_of (sym is i)); life = stands.far.life i };
     steady = steady_at state n f stands;
     set = set;
     known = known;
@@ -160,7 +160,7 @@ module _ (read : Reading) (reads : IsReading read) (state : State) (ask : Ask) (
           (decides_known Commands.Pasv f (stands.sees.known ∙ known)
           ∙ ap (λ (b : Bool). if b then tells Texts.BadSequence (cleared f) else (if is_v6 f.context.here then tells Texts.NoConnection (cleared f) else (asking Asking.Pasv f, Kinds.Nothing))) stands.meets.all_ways
           ∙ ap (λ (b : Bool). if b then tells Texts.NoConnection (cleared f) else (asking Asking.Pasv f, Kinds.Nothing))
-          (ap is_v6 (sym stands.meets.peer) ∙ neither (asks_extended (how_of op)) (is_v6 n.peer) is)),
+          (ap is_v6 (sym stands.meets.peer) ∙ neither (may_ask_extended (how_of op)) (is_v6 n.peer) is)),
       is_asked false n f is stands set,
     );
   }
@@ -237,12 +237,12 @@ module _ (op : Op (List ℕ)) (port : ℕ) (n : Near) where
       ≡ record (calm (busy (Doing op Steps.Connect) (NearData.Connecting (record { host = n.peer; port = port })) n)) { owed = [] }
   unfolding answered
   port_is_told true is typed some small =
-      ap (λ b. passive_named b op (extended_text port) (calm (busy (Doing op Steps.Passive) NearData.Free n))) is
+      ap (λ b. passive_named b op (extended_reply_text port) (calm (busy (Doing op Steps.Passive) NearData.Free n))) is
       ∙ ap (λ o. port_named o op (calm (busy (Doing op Steps.Passive) NearData.Free n))) (extended-reads port some small)
   port_is_told false is typed some small =
-      ap (λ b. passive_named b op (passive_text (record { host = n.peer; port = port })) (calm (busy (Doing op Steps.Passive) NearData.Free n))) is
+      ap (λ b. passive_named b op (passive_reply_text (record { host = n.peer; port = port })) (calm (busy (Doing op Steps.Passive) NearData.Free n))) is
       ∙ ap (λ o. endpoint_named o op (calm (busy (Doing op Steps.Passive) NearData.Free n)))
-      (passive-reads n.peer port (is_v4 n.peer (neither (asks_extended (how_of op)) (is_v6 n.peer) is)) typed small)
+      (passive-reads n.peer port (is_v4 n.peer (neither (may_ask_extended (how_of op)) (is_v6 n.peer) is)) typed small)
       ∙ ap (λ (b : Bool). if b then record (calm (busy (Doing op Steps.Connect) (NearData.Connecting (record { host = n.peer; port = port })) n)) { owed = [] }
       else finishes_read (Some Foreign) (calm (busy (Doing op Steps.Passive) NearData.Free n))) (own_host n.peer)
 
@@ -364,15 +364,15 @@ pub endpoint_taken : (host peer : Host) (port : ℕ) → host ≡ peer → 1024 
 endpoint_taken host peer port is high = ap (λ h. same_host h peer && nat_le 1024 port) is ∙ (λ i. own_host peer i && le-leb 1024 port high i)
 
 -- its line can be carried
-pub port_line_is : (state : State) (op : Op (List ℕ)) (port : ℕ) (n : Near) (f : Far) → IsSteady state (kept n f) → 1024 ≤ port → port < 65536
+pub port_line_is : (state : State) (op : Op (List ℕ)) (port : ℕ) (n : Near) (f : Far) → IsSteadySession state (kept n f) → 1024 ≤ port → port < 65536
     → IsLine (line_of (port_command (is_extended n op) (record { host = n.here; port = port })))
-port_line_is state op port n f steady high small = by_extended (is_extended n op) (λ plain. is_v4 n.here (steady.family ∙ neither (asks_extended (how_of op)) (is_v6 n.peer) plain))
+port_line_is state op port n f steady high small = by_extended (is_extended n op) (λ plain. is_v4 n.here (steady.family ∙ neither (may_ask_extended (how_of op)) (is_v6 n.peer) plain))
   where
     by_extended : (extended : Bool) → (extended ≡ false → IsV4 n.here) → IsLine (line_of (port_command extended (record { host = n.here; port = port })))
     by_extended true v4 = carried (Commands.Eprt (record { host = n.here; port = port })) (steady.own, small) (omega (arith, high))
     by_extended false v4 = carried (Commands.Port (record { host = n.here; port = port })) (steady.own, small) (v4 refl)
 
-module _ (read : Reading) (reads : IsReading read) (state : State) (op : Op (List ℕ)) (port : ℕ) (n : Near) (f : Far) (steady : IsSteady state (kept n f))
+module _ (read : Reading) (reads : IsReading read) (state : State) (op : Op (List ℕ)) (port : ℕ) (n : Near) (f : Far) (steady : IsSteadySession state (kept n f))
     (high : 1024 ≤ port) (small : port < 65536) (idle : is_connection_busy f.session.connection ≡ false) where
   abbrev endpoint : Endpoint
   endpoint = record { host = n.here; port = port }
@@ -393,7 +393,7 @@ module _ (read : Reading) (reads : IsReading read) (state : State) (op : Op (Lis
 
   -- without EPRT the client's host is one of IPv4
   own_v4 : is_extended n op ≡ false → IsV4 n.here
-  own_v4 plain = is_v4 n.here (steady.family ∙ neither (asks_extended (how_of op)) (is_v6 n.peer) plain)
+  own_v4 plain = is_v4 n.here (steady.family ∙ neither (may_ask_extended (how_of op)) (is_v6 n.peer) plain)
 
   abbrev pub own_port : Command (List ℕ)
   own_port = port_command (is_extended n op) endpoint
@@ -446,17 +446,17 @@ given_all false v = refl
 given_all true v = refl
 
 -- what the direct run sees of a steady session
-pub same_direct : (state : State) (n : Near) (f : Far) → IsSteady state (kept n f) → state.known ≡ true → direct_of (cleared f) ≡ state
+pub same_direct : (state : State) (n : Near) (f : Far) → IsSteadySession state (kept n f) → state.known ≡ true → direct_of (cleared f) ≡ state
 same_direct state n f steady known = λ i. record { table = steady.table i; root = steady.root known i; cwd = steady.cwd i; known = sym known i; rights = steady.rights known i }
 
-module _ (read : Reading) (reads : IsReading read) (state : State) (ask : Ask) (row : HasRow ask) (n : Near) (f : Far) (steady : IsSteady state (kept n f))
+module _ (read : Reading) (reads : IsReading read) (state : State) (ask : Ask) (row : HasRow ask) (n : Near) (f : Far) (steady : IsSteadySession state (kept n f))
     (set : n.settings ≡ ask.settings) (known : state.known ≡ true) (idle : is_connection_busy f.session.connection ≡ false) where
   -- what the server decides on a REST is whether its offset is refused under the settings in force
-  rest_decided : (offset : ℕ) (why : Option Refusal) → offset_refusal offset (how_in_force ask.settings) ≡ why → decides (Commands.Rest offset) f ≡ rests why offset (cleared f)
+  rest_decided : (offset : ℕ) (why : Option Refusal) → offset_refusal offset (how_in_force ask.settings) ≡ why → decides (Commands.Rest offset) f ≡ restart_pending why offset (cleared f)
   rest_decided offset why is =
       decides_known (Commands.Rest offset) f (steady.access ∙ known)
-      ∙ ap (λ settings. rests (offset_refusal offset (how_in_force settings)) offset (cleared f)) (steady.settings ∙ set)
-      ∙ ap (λ w. rests w offset (cleared f)) is
+      ∙ ap (λ settings. restart_pending (offset_refusal offset (how_in_force settings)) offset (cleared f)) (steady.settings ∙ set)
+      ∙ ap (λ w. restart_pending w offset (cleared f)) is
 
   -- an offset that is not refused is pending at the server, which owes the reply that grants it
   pub granted_turn : (offset : ℕ) → offset < 10 ^ 18 → offset_refusal offset (how_in_force ask.settings) ≡ None

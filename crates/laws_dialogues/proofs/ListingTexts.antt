@@ -10,7 +10,7 @@ use Rattle.std.proofs.lemmas.List.Elements.{All-cons, All-nil}
 use Rattle.std.proofs.lemmas.List.Folds.{list_all-append}
 use Rattle.std.proofs.lemmas.List.Splits.{slice_split_at}
 use Rattle.ftp_facts.specs.Listed.{Listed, entry_value}
-use Rattle.ftp_facts.specs.Listing.{all_values, but_empty_last, entries_value, is_shown, line_feed, lines_of, name_value, names_value}
+use Rattle.ftp_facts.specs.Listing.{all_values, but_empty_last, entries_value, is_entry_shown, line_feed, lines_of, name_value, names_value}
 use Rattle.ftp_facts.specs.Value.{and_then}
 use Rattle.ftp_facts.proofs.LineLemmas.{Lets, weaker}
 use Rattle.ftp_facts.proofs.NameLemmas.{word_passes}
@@ -131,14 +131,14 @@ text_parts text is =
 record IsRead (entry : Listed) : Type 0 where
   says : entry_value (listed_line all_facts entry) ≡ Some entry
   lacks : NoFeed (listed_line all_facts entry)
-  shown : is_shown entry ≡ true
+  shown : is_entry_shown entry ≡ true
 
 abbrev AreRead : List Listed → Type 0
 AreRead [] = Unit {0}
 AreRead (entry ∷ entries) = IsRead entry × AreRead entries
 
 -- the entry of a node is of a kind that a listing shows
-kind_shown : (name : List ℕ) (path : Names) (node : Node) → is_shown (listed name path node) ≡ true
+kind_shown : (name : List ℕ) (path : Names) (node : Node) → is_entry_shown (listed name path node) ≡ true
 kind_shown name path Dir = refl
 kind_shown name path (File octets moment) = refl
 
@@ -180,9 +180,9 @@ entry_values (entry ∷ entries) read =
     ∙ ap (option_map (λ values. entry ∷ values)) (entry_values entries read.1)
 
 -- each of such entries is shown, and none is left out
-all_shown : (entries : List Listed) → AreRead entries → filter is_shown entries ≡ entries
+all_shown : (entries : List Listed) → AreRead entries → filter is_entry_shown entries ≡ entries
 all_shown [] read = refl
-all_shown (entry ∷ entries) read = ap (λ b. cond b (entry ∷ filter is_shown entries) (filter is_shown entries)) read.0.shown ∙ ap (λ l. entry ∷ l) (all_shown entries read.1)
+all_shown (entry ∷ entries) read = ap (λ b. cond b (entry ∷ filter is_entry_shown entries) (filter is_entry_shown entries)) read.0.shown ∙ ap (λ l. entry ∷ l) (all_shown entries read.1)
 
 -- the listing of a directory of a sound state is read back as the entries in it
 pub entries-back : (state : State) (path : Names) → IsSound state
@@ -192,8 +192,8 @@ entries-back state path sound =
     let names : List (List ℕ) = children (part state) path in
     let entries : List Listed = filter_map (entry_in (part state) path) names in
     let read = entries_read state path sound names (children_named state path sound) in
-    ap (λ lines. option_map (filter is_shown) (all_values entry_value lines)) (lines_back (map (listed_line all_facts) entries) (entry_lines_lack entries read))
-    ∙ ap (option_map (filter is_shown)) (entry_values entries read) ∙ ap Some (all_shown entries read)
+    ap (λ lines. option_map (filter is_entry_shown) (all_values entry_value lines)) (lines_back (map (listed_line all_facts) entries) (entry_lines_lack entries read))
+    ∙ ap (option_map (filter is_entry_shown)) (entry_values entries read) ∙ ap Some (all_shown entries read)
 
 -- ---- pathnames
 

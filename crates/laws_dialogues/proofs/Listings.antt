@@ -30,7 +30,7 @@ use Rattle.ftp_server_model.specs.Listing.{entry_lines, list_lines, listing_wire
 use Rattle.ftp_server_model.specs.Transfer.{transfer_starts}
 use Rattle.ftp_server_model.specs.View.{direct_of, seen}
 use Rattle.ftp_server_model.specs.declared.session.Transfer.TheVariants as Transfers
-use Rattle.laws_world.specs.Outcome.{text_by}
+use Rattle.laws_world.specs.Outcome.{listing_text_by}
 use Rattle.laws_dialogues.specs.Dialogue.{IsSound}
 use Rattle.laws_dialogues.specs.Fetches.{HasAnswer, HasRow, IsAsk, list_ask, listing_ask, names_ask, text_ask}
 use Rattle.laws_dialogues.proofs.Telling.{is_sent, stated}
@@ -93,14 +93,14 @@ list_answer text how can = record {
   done_so = λ state moment. refl;
   whole = λ state mark sound known none.
       let settings : Representation = listing_settings how.representation.mode in
-      let octets : List ℕ = text_by Verbs.Mlsd state text in
+      let octets : List ℕ = listing_text_by Verbs.Mlsd state text in
       let gives = wire_gives_file settings octets in
       let d = decoder_of settings (listing_wire how.representation.mode (lines_for Verbs.Mlsd (part state) (named_or_here state text) text)) in
       ap (λ (b : Bool). if b then content_answer (Ops.List text how) (ended d).content else cut_answer (Ops.List text how) (Receiving d mark)) gives.whole
       ∙ ap (λ content. option_map Entries (entries_value content)) gives.content ∙ ap (option_map Entries) (entries-back state (named_or_here state text) sound);
   filled = λ state came sound none front filled. absurd (cc);
   no_upload = λ state. refl;
-  sent_so = λ state none. record { start = 0; octets = text_by Verbs.Mlsd state text; down = refl; text = refl };
+  sent_so = λ state none. record { start = 0; octets = listing_text_by Verbs.Mlsd state text; down = refl; text = refl };
 }
 
 -- all that is so of a listing of entries
@@ -139,7 +139,7 @@ names_answer text how can = record {
   done_so = λ state moment. refl;
   whole = λ state mark sound known none.
       let settings : Representation = listing_settings how.representation.mode in
-      let octets : List ℕ = text_by Verbs.Nlst state text in
+      let octets : List ℕ = listing_text_by Verbs.Nlst state text in
       let gives = wire_gives_file settings octets in
       let d = decoder_of settings (listing_wire how.representation.mode (lines_for Verbs.Nlst (part state) (named_or_here state text) text)) in
       ap (λ (b : Bool). if b then content_answer (Ops.Names text how) (ended d).content else cut_answer (Ops.Names text how) (Receiving d mark)) gives.whole
@@ -147,7 +147,7 @@ names_answer text how can = record {
       ∙ ap (option_map NameList) (names-back state (named_or_here state text) text sound (names_given text how can) (here_no_file state text none));
   filled = λ state came sound none front filled. absurd (cc);
   no_upload = λ state. refl;
-  sent_so = λ state none. record { start = 0; octets = text_by Verbs.Nlst state text; down = refl; text = refl };
+  sent_so = λ state none. record { start = 0; octets = listing_text_by Verbs.Nlst state text; down = refl; text = refl };
 }
 
 -- all that is so of a listing of names
@@ -168,14 +168,14 @@ text_answer verb text how = record {
   done_so = λ state moment. refl;
   whole = λ state mark sound known none.
       let settings : Representation = listing_settings how.representation.mode in
-      let octets : List ℕ = text_by verb state text in
+      let octets : List ℕ = listing_text_by verb state text in
       let gives = wire_gives_file settings octets in
       let d = decoder_of settings (listing_wire how.representation.mode (lines_for verb (part state) (named_or_here state text) text)) in
       ap (λ (b : Bool). if b then content_answer (Ops.Text verb text how) (ended d).content else cut_answer (Ops.Text verb text how) (Receiving d mark)) gives.whole
       ∙ ap (λ content. Some (Octets content)) gives.content;
   filled = λ state came sound none front filled. absurd (cc);
   no_upload = λ state. refl;
-  sent_so = λ state none. record { start = 0; octets = text_by verb state text; down = refl; text = refl };
+  sent_so = λ state none. record { start = 0; octets = listing_text_by verb state text; down = refl; text = refl };
 }
 
 -- all that is so of the text of a listing

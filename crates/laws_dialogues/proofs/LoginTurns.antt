@@ -18,7 +18,7 @@ use Rattle.ftp_client_model.specs.Replies.{Completion, Intermediate, Negative}
 use Rattle.ftp_client_model.specs.View.{View as Near, Job, Idle, Waiting}
 use Rattle.ftp_client_model.specs.declared.client.ClientLink.TheVariants as NearData
 use Rattle.ftp_client_model.specs.declared.client.Standing.TheVariants as Standings
-use Rattle.ftp_server_model.specs.Login.{open_account, user_named, checked, pass as pass_turn, logs_in, logged_out, admits}
+use Rattle.ftp_server_model.specs.Login.{open_account, user_named, password_checked, pass as pass_turn, logs_in, logged_out, admits}
 use Rattle.ftp_server_model.specs.Machine.{Reading, IsReading}
 use Rattle.ftp_server_model.specs.Replies.{fixed_reply, tells}
 use Rattle.ftp_server_model.specs.View.{Session, View as Far}
@@ -29,8 +29,8 @@ use Rattle.ftp_server_model.specs.declared.session.Access.TheVariants as Accesse
 use Rattle.ftp_command.proofs.CarriedLemmas.{carried}
 use Rattle.ftp_server_model.proofs.RepliesWritten.{replies_are_written}
 use Rattle.laws_dialogues.specs.Stage.{calm, Way, Asking, Answering, rest, FarTurn, NearTurn, behind, Leads, Turns}
-use Rattle.laws_dialogues.specs.Dialogue.{is_aside, FarWaits, Meets, Sees, Stands, resting}
-use Rattle.laws_dialogues.specs.Login.{Place, Greets, AsksUser, WantsPass, AsksPass, Answers, last_text, way_of, standing_of, IsAccessOf, LogsIn, Logging, AtFree, IsOnWay}
+use Rattle.laws_dialogues.specs.Dialogue.{is_set_aside, FarWaits, ArePeersOfOneFamily, Sees, Stands, resting}
+use Rattle.laws_dialogues.specs.Login.{LoginPlace, Greets, AsksUser, WantsPass, AsksPass, Answers, last_text, way_at_login, standing_in_login, IsAccessOf, LogsIn, Logging, AtFree, IsOnWay}
 use Rattle.laws_dialogues.specs.Operations.{LeadsBy}
 use Rattle.laws_dialogues.proofs.ServerTurns.{aside_idle, cleared, decides, decides_free, far_turn_is}
 use Rattle.laws_dialogues.proofs.Exchanges.{IsSent, with_session}
@@ -138,13 +138,13 @@ same_admits account s = by_directory (is_directory (node_at s.table account.root
 -- a server that waits still does so with a session that differs in who is logged in alone
 far_steps : (f : Far) (new : Session) → IsLoginStep (cleared f) new → FarWaits f → FarWaits (with_session new f)
 far_steps f new same waits = record {
-  aside = ap is_aside same.connection ∙ waits.aside;
+  aside = ap is_set_aside same.connection ∙ waits.aside;
   closing = same.closing ∙ waits.closing;
   life = same.life ∙ waits.life;
 }
 
 -- the login goes on at another place
-logs_at : (state : State) (before after : Place) (n next : Near) (f : Far) (new : Session) → LogsIn state before n f → next ≡ record n { standing = standing_of after }
+logs_at : (state : State) (before after : LoginPlace) (n next : Near) (f : Far) (new : Session) → LogsIn state before n f → next ≡ record n { standing = standing_in_login after }
     → IsLoginStep (cleared f) new → IsAccessOf after state next (with_session new f) → LogsIn state after next (with_session new f)
 logs_at state before after n next f new logs is same access = record {
   standing = ap (λ v. v.standing) is;
@@ -173,8 +173,8 @@ logs_at state before after n next f new logs is same access = record {
 -- ---- the turns of the server
 
 -- a line of the login is heard, and a fixed reply is owed
-login_turn : (read : Reading) (state : State) (before after : Place) (command : Command (List ℕ)) (text : FixedReply) (n : Near) (f : Far) (new : Session)
-    → IsReading read → IsSent read command → LogsIn state before n f → way_of after n ≡ Answering (fixed_reply text ∷ []) → standing_of before ≡ standing_of after
+login_turn : (read : Reading) (state : State) (before after : LoginPlace) (command : Command (List ℕ)) (text : FixedReply) (n : Near) (f : Far) (new : Session)
+    → IsReading read → IsSent read command → LogsIn state before n f → way_at_login after n ≡ Answering (fixed_reply text ∷ []) → standing_in_login before ≡ standing_in_login after
     → decides command f ≡ tells text new → IsLoginStep (cleared f) new → IsAccessOf after state n (with_session new f)
     → (t : FarTurn read f (line_of command)) × Logging state (Answering t.replies) n t.far
 login_turn read state before after command text n f new reads sent logs way place decided same access = (
@@ -219,7 +219,7 @@ pass_turn_is read state n f reads logs = by_account (login_account f.context.acc
     sent : IsSent read (Commands.Pass n.pass)
     sent = record { reads = reads; typed = tt; stated = logs.pass; other = refl }
 
-    awaited : decides (Commands.Pass n.pass) f ≡ checked (login_account f.context.accounts n.user n.pass) (cleared f)
+    awaited : decides (Commands.Pass n.pass) f ≡ password_checked (login_account f.context.accounts n.user n.pass) (cleared f)
     awaited =
         decides_free (Commands.Pass n.pass) f refl ∙ ap (λ access. pass_turn access f.context.accounts n.pass (cleared f)) logs.access
 
@@ -228,7 +228,7 @@ pass_turn_is read state n f reads logs = by_account (login_account f.context.acc
     by_account None none =
         let starts : state ≡ direct_start state.table None = logs.leads_to ∙ ap (direct_start state.table) none in
         login_turn read state AsksPass (Answers false true) (Commands.Pass n.pass) Texts.LoginRefused n f (logged_out (cleared f))
-        reads sent logs refl refl (awaited ∙ ap (λ found. checked found (cleared f)) none)
+        reads sent logs refl refl (awaited ∙ ap (λ found. password_checked found (cleared f)) none)
         (record { connection = refl; closing = refl; life = refl; settings = refl; facts = refl; table = refl; all_ways = refl })
         (record {
           table = logs.table;
@@ -240,12 +240,12 @@ pass_turn_is read state n f reads logs = by_account (login_account f.context.acc
     by_account (Some account) is =
         let a = admits_as state account (cleared f) logs.table (logs.leads_to ∙ ap (direct_start state.table) is) in
         login_turn read state AsksPass (Answers a.admitted true) (Commands.Pass n.pass) (last_text a.admitted) n f (logs_in account (cleared f)).0
-        reads sent logs refl refl (awaited ∙ ap (λ found. checked found (cleared f)) is ∙ a.is) (same_admits account (cleared f)) a.sees
+        reads sent logs refl refl (awaited ∙ ap (λ found. password_checked found (cleared f)) is ∙ a.is) (same_admits account (cleared f)) a.sees
 
 -- ---- the turns of the client
 
 -- the last reply ends the login, whatever it says
-last_heard : (admitted to_pass : Bool) (n : Near) → n.standing ≡ standing_of (Answers admitted to_pass)
+last_heard : (admitted to_pass : Bool) (n : Near) → n.standing ≡ standing_in_login (Answers admitted to_pass)
     → answered (fixed_reply (last_text admitted)).code (fixed_reply (last_text admitted)).lines (calm n) ≡ enters_with n.job (record (calm n) { standing = Standings.Entered })
 unfolding answered
 last_heard true true n is = ap (λ s. stand_answered s Completion 230 (codes "Logged in" ∷ []) (calm n)) is
@@ -255,11 +255,11 @@ last_heard false false n is = ap (λ s. stand_answered s Negative 530 (codes "Lo
 
 -- both ends behind the login
 stands_behind : (state : State) (admitted to_pass : Bool) (n next : Near) (f : Far) → LogsIn state (Answers admitted to_pass) n f → next.settings ≡ n.settings
-    → Meets next f → Stands state next f
+    → ArePeersOfOneFamily next f → Stands state next f
 stands_behind state admitted to_pass n next f logs same meets = record { meets = meets; far = logs.far; sees = logs.access; settings = logs.settings ∙ sym same; facts = logs.facts }
 
 -- a client that meets a server meets it at rest too
-meets_at_rest : (n : Near) (f : Far) → Meets n f → Meets (resting n) f
+meets_at_rest : (n : Near) (f : Far) → ArePeersOfOneFamily n f → ArePeersOfOneFamily (resting n) f
 meets_at_rest n f meets = record { peer = meets.peer; here = meets.here; typed = meets.typed; own = meets.own; family = meets.family; all_ways = meets.all_ways }
 
 -- a place of the login that is not the last: its reply is heard, and a line is sent
@@ -310,7 +310,7 @@ password_heard state n f logs = record {
 -- ---- the login with no operation, and with one that waits
 
 -- a line of the login
-asked_at : (read : Reading) (state : State) (place : Place) (text : List ℕ) (n : Near) (f : Far) → IsReading read → Asking text ≡ way_of place n → LogsIn state place n f
+asked_at : (read : Reading) (state : State) (place : LoginPlace) (text : List ℕ) (n : Near) (f : Far) → IsReading read → Asking text ≡ way_at_login place n → LogsIn state place n f
     → (t : FarTurn read f text) × Logging state (Answering t.replies) n t.far
 asked_at read state Greets text n f reads way logs = absurd (no_asking text _ way)
 asked_at read state AsksUser text n f reads way logs = subst (λ l. (t : FarTurn read f l) × Logging state (Answering t.replies) n t.far) (sym (asked_text way)) (user_turn read state n f reads logs)
@@ -326,7 +326,7 @@ pub record LoginEnds (state : State) (n : Near) (f : Far) (reply : Reply) : Type
   pub is : answered reply.code reply.lines (calm n) ≡ enters_with n.job (record (calm n) { standing = Standings.Entered })
 
 -- a reply of the login stands alone on its way, and leads to the next place or ends the login
-told_at : (state : State) (place : Place) (reply : Reply) (more : List Reply) (n : Near) (f : Far) → Answering (reply ∷ more) ≡ way_of place n → LogsIn state place n f
+told_at : (state : State) (place : LoginPlace) (reply : Reply) (more : List Reply) (n : Near) (f : Far) → Answering (reply ∷ more) ≡ way_at_login place n → LogsIn state place n f
     → (more ≡ []) × (NextPlace state n f reply ⊎ LoginEnds state n f reply)
 told_at state Greets reply more n f way logs =
     (rest_of way, inl (subst (NextPlace state n f) (sym (reply_of_way way)) (greeting_heard state n f logs)))

@@ -2,7 +2,7 @@
 use Rattle.std.proofs.Common.{◌≡◌, ℕ, zero, suc, ◌+◌, ◌-◌, ◌*◌, ◌/◌, ◌<◌, ◌≤◌, ◌^◌, List, [], ◌∷◌, ◌++◌, length, take, drop, Bool, true, false, ◌&&◌, refl, sym, ap, subst, ◌∙◌, arith, append_assoc, length-append, length-drop}
 use Rattle.std.specs.Prelude.{if◌then◌else◌, ◌==◌, nat_lt}
 use Rattle.std.proofs.lemmas.List.{drop-append-le, length-take-le, take-append-drop, take-append-le}
-use Rattle.ftp_mode.specs.Block.{block_text, blocks_text, count_of, data_text, ends_of, has, marked_text, marker_text, marks_text}
+use Rattle.ftp_mode.specs.Block.{block_text, blocks_text, block_count, data_text, ends_of, has, marked_text, marker_text, marks_text}
 use Rattle.ftp_mode.specs.Marker.{places, to_place}
 use Rattle.ftp_mode.specs.Reading.{Place, plain, outside, escaped, at_head, at_high, at_low, inside, marking, ended as passed, Reading, going, failed, place_out, read_out}
 use Rattle.ftp_mode.specs.Said.{Said, says, marker}
@@ -67,7 +67,7 @@ place_few escaped c =
     short_if (c == 255) _ _ 3 (omega arith) (short_if (c == 1) _ _ 3 (omega arith) (short_if (c == 2) _ _ 3 (omega arith) (short_if (c == 3) _ _ 3 (omega arith) (omega arith))))
 place_few at_head c = omega arith
 place_few (at_high d) c = omega arith
-place_few (at_low d high) c = short_if (has d RESTART_MARKER) _ _ 3 (omega arith) (short_if (count_of high c == 0) _ _ 3 (omega (arith, ends_few d)) (omega arith))
+place_few (at_low d high) c = short_if (has d RESTART_MARKER) _ _ 3 (omega arith) (short_if (block_count high c == 0) _ _ 3 (omega (arith, ends_few d)) (omega arith))
 place_few (inside d left) c = let few = short_if (left == 1) (ends_of d) [] 2 (ends_few d) (omega arith) in omega (arith, few)
 place_few (marking d left text) c =
     short_if (is_marker_octet c && nat_lt (length text) 255) _ _ 3 (short_if (left == 1) _ _ 3 (let few = ends_few d in omega (arith, few)) (omega arith)) (omega arith)

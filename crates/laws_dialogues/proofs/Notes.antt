@@ -7,10 +7,10 @@ use Rattle.std.proofs.lemmas.Bool.Decides.{nat_tests}
 use Rattle.std.proofs.lemmas.List.{map-append}
 use Rattle.std.proofs.lemmas.List.Elements.{All-nil}
 use Rattle.std.proofs.lemmas.List.Sums.{count_by-le-length}
-use Rattle.ftp_nvt.specs.Lines.{Lacks}
+use Rattle.ftp_nvt.specs.Lines.{IsNoneOf}
 use Rattle.ftp_command.proofs.CarriedLemmas.{Fits, is_plain, all_plain, decimal_fits, fits_both, fits_with}
 use Rattle.ftp_endpoint.proofs.WrittenLemmas.{says_number}
-use Rattle.ftp_ends.specs.Reply.{IsCarried, IsWritten}
+use Rattle.ftp_ends.specs.Reply.{CanBeCarried, IsWritten}
 use Rattle.ftp_reply.specs.Lines.{AreWithin, joined}
 use Rattle.ftp_reply.specs.Reply.{begins_with_digits, code_text, last_line}
 use Rattle.ftp_reply.specs.Values.{is_marker, mark_value}
@@ -26,7 +26,7 @@ note_text note = codes "MARK " ++ (note.theirs ++ (codes " = " ++ decimal note.h
 -- ---- it can be written
 
 -- a text of octets that are no ends of lines has none
-lacks : (text : List ℕ) → AllByRecursion (λ c. is_plain c ≡ true) text → Lacks 10 text
+lacks : (text : List ℕ) → AllByRecursion (λ c. is_plain c ≡ true) text → IsNoneOf 10 text
 lacks [] all = tt
 lacks (c ∷ text) all = (no_feed (c == 10) (c == 13) all.0, lacks text all.1)
   where
@@ -35,7 +35,7 @@ lacks (c ∷ text) all = (no_feed (c == 10) (c == 13) all.0, lacks text all.1)
     no_feed true b is = absurd (let e : false ≡ true = is in cc)
 
 -- such a text, not too long, is carried
-carried : (most : ℕ) (text : List ℕ) → most ≤ 2000 → Fits most text → IsCarried text
+carried : (most : ℕ) (text : List ℕ) → most ≤ 2000 → Fits most text → CanBeCarried text
 carried most text small fits = (lacks text fits.plain, omega (arith, count_by-le-length (λ c. c == 13) text, fits.short, small))
 
 -- a closed text

@@ -15,7 +15,7 @@ use Rattle.ftp_client_model.specs.declared.client.ClientLink.{ClientLink as Near
 use Rattle.ftp_client_model.specs.declared.client.ClientLink.TheVariants as NearData
 use Rattle.ftp_client_model.specs.declared.client.Replied.{Replied}
 use Rattle.ftp_client_model.specs.declared.client.Replied.TheVariants as Replies
-use Rattle.ftp_server_model.specs.Texts.{code_of as reply_code}
+use Rattle.ftp_server_model.specs.Texts.{fixed_reply_code as reply_code}
 use Rattle.ftp_server_model.specs.Walk.{refusal_text}
 use Rattle.laws_dialogues.specs.Fetches.{Ask, Down, Up, Rise, busy, carrying, fetching, leaving, offering}
 use Rattle.laws_dialogues.specs.Stage.{calm}

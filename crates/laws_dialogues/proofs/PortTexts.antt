@@ -13,7 +13,7 @@ use Rattle.ftp_endpoint.proofs.WrittenLemmas.{says_number, front_of, behind_of}
 use Rattle.ftp_reply.specs.Values.{extended_value, passive_value, six_behind}
 use Rattle.ftp_reply.proofs.ExtendedLemmas.{says_port_of}
 use Rattle.ftp_reply.proofs.PassiveLemmas.{says_endpoint}
-use Rattle.ftp_server_model.specs.Replies.{extended_text, passive_text}
+use Rattle.ftp_server_model.specs.Replies.{extended_reply_text, passive_reply_text}
 
 -- ---- numbers as they are written
 
@@ -94,7 +94,7 @@ words_passed : (text : List ℕ) → six_behind false (codes "Entering Passive M
 words_passed text = refl
 
 -- the endpoint of an IPv4 host and a port is read back from the text of a 227
-pub passive-reads : (host : Host) (port : ℕ) → IsV4 host → IsTypedHost host → port < 65536 → passive_value (passive_text (at_port host port)) ≡ Some (at_port host port)
+pub passive-reads : (host : Host) (port : ℕ) → IsV4 host → IsTypedHost host → port < 65536 → passive_value (passive_reply_text (at_port host port)) ≡ Some (at_port host port)
 unfolding passive_value
 passive-reads (V6 octets) port v4 typed small = absurd v4
 passive-reads (V4 octets) port v4 typed small =
@@ -114,7 +114,7 @@ unfolding extended_value
 words_before rest = refl
 
 -- a port from 1 to 65535 is read back from the text of a 229
-pub extended-reads : (port : ℕ) → 1 ≤ port → port < 65536 → extended_value (extended_text port) ≡ Some port
+pub extended-reads : (port : ℕ) → 1 ≤ port → port < 65536 → extended_value (extended_reply_text port) ≡ Some port
 extended-reads port some small =
     let rest : List ℕ = decimal port ++ 124 ∷ 41 ∷ [] in
     words_before rest

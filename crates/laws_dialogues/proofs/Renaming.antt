@@ -29,7 +29,7 @@ use Rattle.ftp_server_model.specs.declared.session.Pending.TheVariants as Pendin
 use Rattle.ftp_command.proofs.CarriedLemmas.{carried}
 use Rattle.laws_dialogues.specs.Stage.{calm, Asking, Leads}
 use Rattle.laws_dialogues.specs.Dialogue.{FarWaits, Sees, Passes, Stands, Ends, doing, told}
-use Rattle.laws_dialogues.specs.Operations.{LeadsTo}
+use Rattle.laws_dialogues.specs.Operations.{LeadsToAnswer}
 use Rattle.laws_dialogues.proofs.ServerTurns.{cleared, decides, decides_known, decides_unknown}
 use Rattle.laws_dialogues.proofs.Exchanges.{IsSent, with_session, Exchange, exchange, near_told_is}
 use Rattle.laws_dialogues.proofs.Rows.{Keeps, keeps_cleared, waits_on, sees_cleared, direct_is, last_exchange, refused_exchange, may_none, answer_known, answer_unknown}
@@ -118,7 +118,7 @@ module _ (read : Reading) (text new : List ℕ) (reads : IsReading read) (first 
   sent_target = record { reads = reads; typed = tt; stated = second; other = refl }
 
   abbrev To : Said × State → Type 0
-  To result = LeadsTo read state (Ops.Rename text new) result n f
+  To result = LeadsToAnswer read state (Ops.Rename text new) result n f
 
   -- by what is done of RNFR
   by_source : (result : Said × State) (left : ℕ)

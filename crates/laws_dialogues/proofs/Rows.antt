@@ -17,12 +17,12 @@ use Rattle.ftp_client_model.specs.View.{View as Near}
 use Rattle.ftp_client_model.specs.declared.client.Step.{Step}
 use Rattle.ftp_server_model.specs.Machine.{Reading}
 use Rattle.ftp_server_model.specs.Replies.{fixed_reply}
-use Rattle.ftp_server_model.specs.Texts.{code_of as reply_code}
+use Rattle.ftp_server_model.specs.Texts.{fixed_reply_code as reply_code}
 use Rattle.ftp_server_model.specs.View.{Session, View as Far, direct_of, all_facts}
 use Rattle.ftp_server_model.specs.Walk.{refusal_text}
 use Rattle.ftp_server_model.specs.declared.reply.ReplyKind.TheVariants as Replies
 use Rattle.laws_dialogues.specs.Stage.{calm, Asking, Leads}
-use Rattle.laws_dialogues.specs.Dialogue.{is_aside, FarWaits, Meets, Sees, Passes, Ends, doing, told}
+use Rattle.laws_dialogues.specs.Dialogue.{is_set_aside, FarWaits, ArePeersOfOneFamily, Sees, Passes, Ends, doing, told}
 use Rattle.laws_dialogues.proofs.ServerTurns.{cleared, decides}
 use Rattle.laws_dialogues.proofs.Exchanges.{IsSent, with_session, Exchange, exchange, near_refused_is}
 
@@ -39,7 +39,7 @@ pub record Keeps (old new : Session) : Type 0 where
 -- a server that waits still waits with a session that keeps connection, closing and life
 pub waits_on : (f : Far) (new : Session) → Keeps f.session new → FarWaits f → FarWaits (with_session new f)
 waits_on f new keeps waits = record {
-  aside = ap is_aside keeps.connection ∙ waits.aside;
+  aside = ap is_set_aside keeps.connection ∙ waits.aside;
   closing = keeps.closing ∙ waits.closing;
   life = keeps.life ∙ waits.life;
 }
@@ -60,7 +60,7 @@ direct_is state s sees known = λ i. record { table = sees.table i; root = sees.
 
 -- an exchange that tells the result, at a server that keeps its session and sees the result's state, ends the operation in two turns
 pub last_exchange : (read : Reading) (before : Table) (op : Op (List ℕ)) (step : Step) (command : Command (List ℕ)) (result : Said × State) (n : Near) (f : Far) (after : Session)
-    → IsSent read command → FarWaits f → (f.session.table ≡ before) → f.session.settings ≡ n.settings → f.session.facts ≡ all_facts → Meets n f
+    → IsSent read command → FarWaits f → (f.session.table ≡ before) → f.session.settings ≡ n.settings → f.session.facts ≡ all_facts → ArePeersOfOneFamily n f
     → Keeps f.session after → Sees result.1 after → Exchange command (doing op step n) (told result.0 n) None f after
     → Leads read (Passes before result.1.table) (Ends result) 2 (Asking (line_of command)) (doing op step n) f
 last_exchange read before op step command result n f after sent waits table settings facts meets keeps sees x =

@@ -19,12 +19,12 @@ use Rattle.ftp_server_model.specs.declared.session.ServerLink.TheVariants as Dat
 use Rattle.ftp_server_model.specs.declared.session.Pending.TheVariants as Pendings
 use Rattle.ftp_server_model.proofs.ReadingLemmas.{reads_stated}
 use Rattle.laws_dialogues.specs.Stage.{still, row_octets}
-use Rattle.laws_dialogues.specs.Dialogue.{is_aside}
+use Rattle.laws_dialogues.specs.Dialogue.{is_set_aside}
 
 -- ---- no data connection is under way
 
 -- a connection that is aside is not busy
-pub aside_idle : (connection : ServerLink Transfer) → is_aside connection ≡ true → is_connection_busy connection ≡ false
+pub aside_idle : (connection : ServerLink Transfer) → is_set_aside connection ≡ true → is_connection_busy connection ≡ false
 aside_idle Data.Free aside = refl
 aside_idle Data.Passive aside = refl
 aside_idle (Data.Active endpoint) aside = refl

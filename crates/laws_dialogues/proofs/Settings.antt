@@ -24,7 +24,7 @@ use Rattle.ftp_client_model.specs.declared.client.Step.{Step}
 use Rattle.ftp_client_model.specs.declared.client.Step.TheVariants as Steps
 use Rattle.ftp_server_model.specs.Machine.{Reading, IsReading}
 use Rattle.ftp_server_model.specs.Replies.{fixed_reply}
-use Rattle.ftp_server_model.specs.Texts.{code_of, text_of}
+use Rattle.ftp_server_model.specs.Texts.{fixed_reply_code, text_of}
 use Rattle.ftp_server_model.specs.View.{Session, View as Far}
 use Rattle.ftp_server_model.specs.declared.reply.ReplyKind.TheVariants as Replies
 use Rattle.ftp_server_model.specs.declared.reply.FixedReply.{FixedReply}
@@ -75,7 +75,7 @@ module _ (read : Reading) (state : State) (after : Table) (Goal : Near → Far �
   one_set : (step next : Step) (command : Command (List ℕ)) (text : FixedReply) (settings : Representation) (n : Near) (f : Far) → Stands state n f
       → IsSent read command → decides command f ≡ (session_set settings (cleared f), Replies.Fixed text)
       → ((job : Job) → placed op step (record (calm (resting n)) { job = job }) ≡ record (calm (doing op step n)) { owed = written_line (line_of command) })
-      → answered (code_of text) (text_of text ∷ []) (calm (doing op step n)) ≡ placed op next (record (calm (resting (near_set settings n))) { job = Doing op step })
+      → answered (fixed_reply_code text) (text_of text ∷ []) (calm (doing op step n)) ≡ placed op next (record (calm (resting (near_set settings n))) { job = Doing op step })
       → LeadsFrom read Along Goal op next (near_set settings n) (far_set settings f) → LeadsFrom read Along Goal op step n f
   one_set step next command text settings n f stands sent decided placed_so heard onward =
       let later : FarWaits (far_set settings f) = record { aside = stands.far.aside; closing = stands.far.closing; life = stands.far.life } in

@@ -23,7 +23,7 @@ use Rattle.ftp_server_model.specs.declared.reply.ReplyKind.TheVariants as Replie
 use Rattle.ftp_server_model.specs.declared.session.Pending.{Pending}
 use Rattle.laws_dialogues.specs.Stage.{calm}
 use Rattle.laws_dialogues.specs.Dialogue.{Sees, Stands, IsSound, resting, doing, told}
-use Rattle.laws_dialogues.specs.Operations.{LeadsTo}
+use Rattle.laws_dialogues.specs.Operations.{LeadsToAnswer}
 use Rattle.laws_dialogues.proofs.ServerTurns.{cleared, decides, decides_known, decides_unknown}
 use Rattle.laws_dialogues.proofs.Exchanges.{IsSent, Exchange}
 use Rattle.laws_dialogues.proofs.Rows.{Keeps, keeps_cleared, sees_cleared, direct_is, last_exchange, refused_exchange, answer_known, answer_unknown}
@@ -63,7 +63,7 @@ module _ (read : Reading) (op : Op (List ℕ)) (accepted : Session → Turn) (si
 
   -- the exchange of the one command that tells a result makes the operation lead to it
   by_exchange : (result : Said × State) (after : Session) → Keeps f.session after → Sees result.1 after
-      → Exchange (own_command op) (doing op Steps.Last n) (told result.0 n) None f after → LeadsTo read state op result n f
+      → Exchange (own_command op) (doing op Steps.Last n) (told result.0 n) None f after → LeadsToAnswer read state op result n f
   by_exchange result after keeps sees x = record {
     near = doing op Steps.Last n;
     line = Some (line_of (own_command op));
@@ -74,23 +74,23 @@ module _ (read : Reading) (op : Op (List ℕ)) (accepted : Session → Turn) (si
   }
 
   -- a refused command leads to the answer of its refusal
-  refused_leads : (why : Refusal) → decides (own_command op) f ≡ (cleared f, Replies.Fixed (refusal_text why)) → LeadsTo read state op (chosen (Some why) state (done state op 0)) n f
+  refused_leads : (why : Refusal) → decides (own_command op) f ≡ (cleared f, Replies.Fixed (refusal_text why)) → LeadsToAnswer read state op (chosen (Some why) state (done state op 0)) n f
   refused_leads why decided =
       by_exchange (chosen (Some why) state (done state op 0)) (cleared f) (keeps_cleared f) (sees_cleared state f stands.sees)
       (refused_exchange op Steps.Last (own_command op) why n f refl decided)
 
   -- a command that is accepted leads to the result that the server does and says
-  accepted_leads : (result : Said × State) → decides (own_command op) f ≡ accepted (cleared f) → Accepts op result n f (accepted (cleared f)) → LeadsTo read state op result n f
+  accepted_leads : (result : Said × State) → decides (own_command op) f ≡ accepted (cleared f) → Accepts op result n f (accepted (cleared f)) → LeadsToAnswer read state op result n f
   accepted_leads result decided a =
       by_exchange result (accepted (cleared f)).0 a.keeps a.sees
       (record { kind = (accepted (cleared f)).1; reply = a.reply; decided = decided; within = a.within; said = a.said; heard = a.heard })
 
   -- an operation of one command that can be sent leads, from a sound state, to the answer of the direct run
-  pub single_leads : (moment : ℕ) → can_be_sent op ≡ true → IsSound state → LeadsTo read state op (answer state op moment) n f
+  pub single_leads : (moment : ℕ) → can_be_sent op ≡ true → IsSound state → LeadsToAnswer read state op (answer state op moment) n f
   single_leads moment can sound = by_known state.known refl (refusal state op) refl
     where
       To : Said × State → Type 0
-      To result = LeadsTo read state op result n f
+      To result = LeadsToAnswer read state op result n f
 
       by_known : (known : Bool) → state.known ≡ known → (why : Option Refusal) → refusal state op ≡ why → To (answer state op moment)
       by_known true known None is =

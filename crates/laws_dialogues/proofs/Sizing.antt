@@ -49,7 +49,7 @@ use Rattle.ftp_server_model.specs.declared.reply.FixedReply.TheVariants as Texts
 use Rattle.ftp_command.proofs.CarriedLemmas.{carried}
 use Rattle.laws_dialogues.specs.Stage.{calm}
 use Rattle.laws_dialogues.specs.Dialogue.{Passes, Stands, Ends, IsSound, resting, doing}
-use Rattle.laws_dialogues.specs.Operations.{LeadsTo}
+use Rattle.laws_dialogues.specs.Operations.{LeadsToAnswer}
 use Rattle.laws_dialogues.proofs.ServerTurns.{cleared, decides, decides_known, decides_unknown}
 use Rattle.laws_dialogues.proofs.Exchanges.{IsSent, near_told_is}
 use Rattle.laws_dialogues.proofs.Rows.{keeps_cleared, sees_cleared, direct_is, last_exchange, refused_exchange, answer_known, answer_unknown}
@@ -192,7 +192,7 @@ module _ (read : Reading) (text : List ℕ) (how : How) (reads : IsReading read)
 
   -- where the login is known, SIZE leads to its size or its refusal behind the settings that it needs
   pub size_known : (result : Said × State) (n : Near) (f : Far) → Stands state n f → result ≡ chosen (refusal state (Ops.Size text how)) state (done state (Ops.Size text how) 0)
-      → LeadsTo read state (Ops.Size text how) result n f
+      → LeadsToAnswer read state (Ops.Size text how) result n f
   size_known result n f stands result_is =
       let on = settings_lead read state result.1.table (Ends result) (Ops.Size text how) reads known (size_settings how) refl
       (λ n f stands set. size_last result n f stands set (refusal state (Ops.Size text how)) refl result_is) n f stands in
@@ -242,14 +242,14 @@ size_unknown read text how reads is state n f stands unknown = by_kind (same_kin
 
 -- SIZE that can be sent leads to its answer
 pub size_leads : (read : Reading) (text : List ℕ) (how : How) (moment : ℕ) → IsReading read → IsPathText text → (state : State) (n : Near) (f : Far) → Stands state n f
-    → can_be_sent (Ops.Size text how) ≡ true → LeadsTo read state (Ops.Size text how) (answer state (Ops.Size text how) moment) n f
+    → can_be_sent (Ops.Size text how) ≡ true → LeadsToAnswer read state (Ops.Size text how) (answer state (Ops.Size text how) moment) n f
 size_leads read text how moment reads is state n f stands can = by_known state.known refl
   where
-    by_known : (b : Bool) → state.known ≡ b → LeadsTo read state (Ops.Size text how) (answer state (Ops.Size text how) moment) n f
+    by_known : (b : Bool) → state.known ≡ b → LeadsToAnswer read state (Ops.Size text how) (answer state (Ops.Size text how) moment) n f
     by_known true known =
         size_known read text how reads is state known (answer state (Ops.Size text how) moment) n f stands
         (sym (answer_known state (Ops.Size text how) moment (refusal state (Ops.Size text how)) can known refl))
     by_known false unknown =
         let on = size_unknown read text how reads is state n f stands unknown in
-        subst (λ result. LeadsTo read state (Ops.Size text how) result n f) (answer_unknown state (Ops.Size text how) moment can unknown)
+        subst (λ result. LeadsToAnswer read state (Ops.Size text how) result n f) (answer_unknown state (Ops.Size text how) moment can unknown)
         (record { near = on.near; line = on.line; left = on.left; begins_so = on.placed_so; fine = on.fine; leads = on.leads })

@@ -33,8 +33,8 @@ use Rattle.ftp_server_model.specs.declared.session.Transfer.TheVariants as Trans
 use Rattle.ftp_wire.specs.Decoder.{no_octets}
 use Rattle.ftp_server_model.proofs.PathTexts.{is_path-led}
 use Rattle.laws_dialogues.specs.Dialogue.{IsFine, IsSound}
-use Rattle.laws_dialogues.specs.Fetches.{HasPlan, HasRow, IsAsk, IsKept, IsKnownUpload, IsPlacedAt, IsTextOf, end_why, over, stored, kept_of}
-use Rattle.laws_dialogues.specs.Uploads.{Place, Anew, Behind, From, room_why, store, store_keep, store_offset, store_place, store_rise, store_start, store_why, upload_ask}
+use Rattle.laws_dialogues.specs.Fetches.{HasPlan, HasRow, IsAsk, IsKept, IsKnownUpload, IsPlacedAt, IsTextOf, end_why, excess_of, stored, kept_of}
+use Rattle.laws_dialogues.specs.Uploads.{StorePlace, Anew, Behind, From, room_why, store, store_keep, store_offset, store_place, store_rise, store_start, store_why, upload_ask}
 use Rattle.laws_dialogues.proofs.Renaming.{none_limited}
 use Rattle.laws_dialogues.proofs.Sound.{HasFineFiles, HasNames, by_bool, change-sound}
 use Rattle.laws_dialogues.proofs.Texts.{written_text}
@@ -140,7 +140,7 @@ kept_own (Keeps.AllOvertaken count) octets none = absurd none
 pub kept_long : (keep : Keep) (octets content : List ℕ) → IsKept keep octets → length (kept_octets keep octets ++ content) ≡ kept_count keep + length content
 kept_long keep octets content kept = length-append (kept_octets keep octets) content ∙ ap (λ n. n + length content) (kept_as_counted keep octets kept)
 
-module _ (place : Place) (text octets : List ℕ) (how : How) (moment : ℕ) where
+module _ (place : StorePlace) (text octets : List ℕ) (how : How) (moment : ℕ) where
   abbrev op : Op (List ℕ)
   op = store place text octets how
 
@@ -150,7 +150,7 @@ module _ (place : Place) (text octets : List ℕ) (how : How) (moment : ℕ) whe
   upload_plan : HasPlan (upload_ask place text octets how moment)
   upload_plan = by_place place
     where
-      by_place : (place : Place) → HasPlan (upload_ask place text octets how moment)
+      by_place : (place : StorePlace) → HasPlan (upload_ask place text octets how moment)
       by_place Anew = record { how_is = refl; asks = refl; offset_is = refl; own = refl; flow = refl }
       by_place Behind = record { how_is = refl; asks = refl; offset_is = refl; own = refl; flow = refl }
       by_place (From offset) = record { how_is = refl; asks = refl; offset_is = refl; own = refl; flow = refl }
@@ -161,7 +161,7 @@ module _ (place : Place) (text octets : List ℕ) (how : How) (moment : ℕ) whe
   upload_row : IsPathText text → ((at : ℕ) → store_offset place ≡ Some at → at < 10 ^ 18) → HasRow (upload_ask place text octets how moment)
   upload_row path few = by_place place few
     where
-      by_place : (place : Place) → ((at : ℕ) → store_offset place ≡ Some at → at < 10 ^ 18) → HasRow (upload_ask place text octets how moment)
+      by_place : (place : StorePlace) → ((at : ℕ) → store_offset place ≡ Some at → at < 10 ^ 18) → HasRow (upload_ask place text octets how moment)
       by_place Anew few = record {
         typed = tt;
         stated = path;
@@ -191,12 +191,12 @@ module _ (place : Place) (text octets : List ℕ) (how : How) (moment : ℕ) whe
 
   -- behind REST the direct run refuses it as the server does, and then for its octets
   refusal_is : (state : State) → IsPlacedAt how.representation (store_offset place)
-      → refusal state op ≡ or_refused (store_why state place text how) (refused_octets (over (store_rise place text octets how moment) state (length octets)))
+      → refusal state op ≡ or_refused (store_why state place text how) (refused_octets (excess_of (store_rise place text octets how moment) state (length octets)))
   refusal_is state placed = by_place place placed
     where
-      by_place : (place : Place) → IsPlacedAt how.representation (store_offset place)
+      by_place : (place : StorePlace) → IsPlacedAt how.representation (store_offset place)
           → refusal state (store place text octets how)
-          ≡ or_refused (store_why state place text how) (refused_octets (over (store_rise place text octets how moment) state (length octets)))
+          ≡ or_refused (store_why state place text how) (refused_octets (excess_of (store_rise place text octets how moment) state (length octets)))
       by_place Anew placed =
           ap (λ n. or_refused (barred_put state (named state text)) (put_refusal state (named state text) n)) (let e : length octets ≡ 0 + length octets = omega arith in e)
           ∙ or_assoc (barred_put state (named state text)) (room_why state text) _
@@ -212,7 +212,7 @@ module _ (place : Place) (text octets : List ℕ) (how : How) (moment : ℕ) whe
   done_is : (state : State) → done state op moment ≡ (Done, stored (store_rise place text octets how moment) state octets)
   done_is state = by_place place
     where
-      by_place : (place : Place) → done state (store place text octets how) moment ≡ (Done, stored (store_rise place text octets how moment) state octets)
+      by_place : (place : StorePlace) → done state (store place text octets how) moment ≡ (Done, stored (store_rise place text octets how moment) state octets)
       by_place Anew = refl
       by_place Behind = refl
       by_place (From offset) = refl
@@ -225,7 +225,7 @@ module _ (place : Place) (text octets : List ℕ) (how : How) (moment : ℕ) whe
       within_by None within = omega arith
       within_by (Some at) within = within at refl
 
-      by_place : (place : Place) → IsKept (store_keep state place text how) (file_of state text)
+      by_place : (place : StorePlace) → IsKept (store_keep state place text how) (file_of state text)
       by_place Anew = omega arith
       by_place Behind = refl
       by_place (From offset) =
@@ -235,14 +235,14 @@ module _ (place : Place) (text octets : List ℕ) (how : How) (moment : ℕ) whe
   known_is : (state : State) → IsKnownUpload (upload_ask place text octets how moment) (store_rise place text octets how moment) state
   known_is state = by_place place
     where
-      by_place : (place : Place) → IsKnownUpload (upload_ask place text octets how moment) (store_rise place text octets how moment) state
+      by_place : (place : StorePlace) → IsKnownUpload (upload_ask place text octets how moment) (store_rise place text octets how moment) state
       by_place Anew = record { start = 0; set = refl; up = refl; text = refl }
       by_place Behind = record { start = 0; set = refl; up = refl; text = refl }
       by_place (From offset) = record { start = offset; set = refl; up = refl; text = refl }
 
   -- what was not refused at its command is refused at its end for its octets alone
   ends_is : (state : State) (content : List ℕ) → store_why state place text how ≡ None
-      → end_why (store_rise place text octets how moment) state content ≡ refused_octets (over (store_rise place text octets how moment) state (length content))
+      → end_why (store_rise place text octets how moment) state content ≡ refused_octets (excess_of (store_rise place text octets how moment) state (length content))
   ends_is state content none =
       let rise = store_rise place text octets how moment in
       let path : Names = named state text in
@@ -261,7 +261,7 @@ module _ (place : Place) (text octets : List ℕ) (how : How) (moment : ℕ) whe
 
   -- a sound state is sound when a file within the limits is put where the server takes one
   stays_sound : IsPathText text → moment ≤ last_second → (state : State) (content : List ℕ) → IsSound state → state.known ≡ true → store_why state place text how ≡ None
-      → over (store_rise place text octets how moment) state (length content) ≡ None → IsSound (stored (store_rise place text octets how moment) state content)
+      → excess_of (store_rise place text octets how moment) state (length content) ≡ None → IsSound (stored (store_rise place text octets how moment) state content)
   stays_sound path dated state content sound known none few =
       let rise = store_rise place text octets how moment in
       let misplaced_at = refused_name (misplaced (store_place state place text how)) in
@@ -285,7 +285,7 @@ module _ (place : Place) (text octets : List ℕ) (how : How) (moment : ℕ) whe
   store_text : can_be_sent op ≡ true → IsPathText text
   store_text can = by_place place can
     where
-      by_place : (place : Place) → can_be_sent (store place text octets how) ≡ true → IsPathText text
+      by_place : (place : StorePlace) → can_be_sent (store place text octets how) ≡ true → IsPathText text
       by_place Anew can = can
       by_place Behind can = can
       by_place (From offset) can = (and_parts (is_path_text text) (is_number offset) can).0
@@ -294,7 +294,7 @@ module _ (place : Place) (text octets : List ℕ) (how : How) (moment : ℕ) whe
   store_few : can_be_sent op ≡ true → (at : ℕ) → store_offset place ≡ Some at → at < 10 ^ 18
   store_few can at is = by_place place can is
     where
-      by_place : (place : Place) → can_be_sent (store place text octets how) ≡ true → store_offset place ≡ Some at → at < 10 ^ 18
+      by_place : (place : StorePlace) → can_be_sent (store place text octets how) ≡ true → store_offset place ≡ Some at → at < 10 ^ 18
       by_place Anew can is = absurd (cc)
       by_place Behind can is = absurd (cc)
       by_place (From offset) can is =
@@ -306,7 +306,7 @@ module _ (place : Place) (text octets : List ℕ) (how : How) (moment : ℕ) whe
       written_text how.representation (store_start place) octets (how.marks && has_markers how.representation) (λ sends. (and_parts how.marks (has_markers how.representation) sends).1)
       (by_place place (store_few can))
     where
-      by_place : (place : Place) → ((at : ℕ) → store_offset place ≡ Some at → at < 10 ^ 18) → store_start place < 10 ^ 18
+      by_place : (place : StorePlace) → ((at : ℕ) → store_offset place ≡ Some at → at < 10 ^ 18) → store_start place < 10 ^ 18
       by_place Anew few = omega arith
       by_place Behind few = omega arith
       by_place (From offset) few = few offset refl
@@ -315,7 +315,7 @@ module _ (place : Place) (text octets : List ℕ) (how : How) (moment : ℕ) whe
   unplaced_is : (state : State) (at : ℕ) (why : Refusal) → store_offset place ≡ Some at → offset_refusal at (how_in_force how.representation) ≡ Some why → refusal state op ≡ Some why
   unplaced_is state at why is some = by_place place is
     where
-      by_place : (place : Place) → store_offset place ≡ Some at → refusal state (store place text octets how) ≡ Some why
+      by_place : (place : StorePlace) → store_offset place ≡ Some at → refusal state (store place text octets how) ≡ Some why
       by_place Anew is = absurd (cc)
       by_place Behind is = absurd (cc)
       by_place (From offset) is =
@@ -332,7 +332,7 @@ module _ (place : Place) (text octets : List ℕ) (how : How) (moment : ℕ) whe
     refuses = record {
       can = can;
       refused = λ state why placed some.
-          refusal_is state placed ∙ ap (λ o. or_refused o (refused_octets (over (store_rise place text octets how moment) state (length octets)))) some;
+          refusal_is state placed ∙ ap (λ o. or_refused o (refused_octets (excess_of (store_rise place text octets how moment) state (length octets)))) some;
       unplaced = unplaced_is;
     };
     way = record {
@@ -341,7 +341,7 @@ module _ (place : Place) (text octets : List ℕ) (how : How) (moment : ℕ) whe
       text_is = store_text_is can;
       within = within_file;
       refused = λ state placed none.
-          refusal_is state placed ∙ ap (λ o. or_refused o (refused_octets (over (store_rise place text octets how moment) state (length octets)))) none;
+          refusal_is state placed ∙ ap (λ o. or_refused o (refused_octets (excess_of (store_rise place text octets how moment) state (length octets)))) none;
       ends_so = ends_is;
       done_so = done_is;
       known_so = known_is;
@@ -349,7 +349,7 @@ module _ (place : Place) (text octets : List ℕ) (how : How) (moment : ℕ) whe
     };
   }
     where
-      by_place : (place : Place) → count_of (store place text octets how) ≡ None
+      by_place : (place : StorePlace) → count_of (store place text octets how) ≡ None
       by_place Anew = refl
       by_place Behind = refl
       by_place (From offset) = refl

@@ -3,7 +3,7 @@ use Rattle.std.proofs.Common.{◌≡◌, ◌⊎◌, inl, inr, ℕ, ◌+◌, ◌<
 use Rattle.std.specs.Prelude.{if◌then◌else◌, ◌==◌, nat_lt}
 use Rattle.std.specs.List.{AllByRecursion, list_all}
 use Rattle.ftp_pieces.specs.Machine.{after, gives}
-use Rattle.ftp_mode.specs.Block.{Block, IsBlock, block_said, count_of, ends_of, has, marked_text, octets_of}
+use Rattle.ftp_mode.specs.Block.{Block, IsBlock, block_said, block_count, ends_of, has, marked_text, octets_of}
 use Rattle.ftp_mode.specs.Laws.{unsaid_end}
 use Rattle.ftp_mode.specs.Reading.{Place, plain, outside, escaped, at_head, at_high, at_low, inside, marking, ended as passed, Reading, going, failed, place_out, read_out, reader, start}
 use Rattle.ftp_mode.specs.Said.{Said, says, marker, octets_said}
@@ -85,7 +85,7 @@ place_one outside c = inl (signs_if (c == 255) _ _ tt tt)
 place_one escaped c = inl (signs_if (c == 255) _ _ tt (signs_if (c == 1) _ _ tt (signs_if (c == 2) _ _ tt (signs_if (c == 3) _ _ tt tt))))
 place_one at_head c = inl tt
 place_one (at_high d) c = inl tt
-place_one (at_low d high) c = inl (signs_if (has d RESTART_MARKER) _ _ tt (signs_if (count_of high c == 0) _ _ (ends_signs d) tt))
+place_one (at_low d high) c = inl (signs_if (has d RESTART_MARKER) _ _ tt (signs_if (block_count high c == 0) _ _ (ends_signs d) tt))
 place_one (inside d left) c = inl (signs_if (left == 1) _ _ (ends_signs d) tt)
 place_one (marking d left text) c =
     one_if (is_marker_octet c && nat_lt (length text) 255) _ _ (one_if (left == 1) _ _ (inr (text ++ c ∷ [], ends_of d, refl, ends_signs d)) (inl tt)) (inl tt)

@@ -33,15 +33,15 @@ pub record NearWaits (n : Near) : Type 0 where
   pub closing : n.closing ≡ false
 
 -- no endpoint is set, or one that no transfer was asked for, or a port is listened at that nobody will open
-abbrev pub is_aside : ServerLink Transfer → Bool
-is_aside FarData.Free = true
-is_aside (FarData.Active endpoint) = true
-is_aside FarData.Passive = true
-is_aside other = false
+abbrev pub is_set_aside : ServerLink Transfer → Bool
+is_set_aside FarData.Free = true
+is_set_aside (FarData.Active endpoint) = true
+is_set_aside FarData.Passive = true
+is_set_aside other = false
 
 -- a line may be acted on at once
 pub record FarWaits (f : Far) : Type 0 where
-  pub aside : is_aside f.session.connection ≡ true
+  pub aside : is_set_aside f.session.connection ≡ true
   pub closing : f.session.closing ≡ false
   pub life : f.session.life ≡ Lives.Running
 
@@ -75,7 +75,7 @@ abbrev pub doing : Op (List ℕ) → Step → Near → Near
 doing op step n = record n { standing = Standings.Entered; job = Doing op step; run = None; connection = NearData.Free; closing = false }
 
 -- each end is the other's peer, both are of one family, and EPSV ALL was never sent
-pub record Meets (n : Near) (f : Far) : Type 0 where
+pub record ArePeersOfOneFamily (n : Near) (f : Far) : Type 0 where
   pub peer : n.peer ≡ f.context.here
   pub here : n.here ≡ f.context.peer
   pub typed : IsTypedHost f.context.here
@@ -85,7 +85,7 @@ pub record Meets (n : Near) (f : Far) : Type 0 where
 
 -- the server is in this state, with all facts in force, and the client knows its settings
 pub record Stands (state : State) (n : Near) (f : Far) : Type 0 where
-  pub meets : Meets n f
+  pub meets : ArePeersOfOneFamily n f
   pub far : FarWaits f
   pub sees : Sees state f.session
   pub settings : f.session.settings ≡ n.settings

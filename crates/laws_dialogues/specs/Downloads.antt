@@ -17,8 +17,8 @@ use Rattle.ftp_client_model.specs.declared.client.Replied.TheVariants as Replies
 use Rattle.ftp_client_model.specs.declared.client.Standing.TheVariants as Standings
 
 -- a client whose download has had these replies, octets and link
-abbrev pub downloading : Op (List ℕ) → Replied → Decoder → Option ℕ → ClientLink → Near → Near
-downloading op replied decoder mark connection n = record n {
+abbrev pub download_under_way : Op (List ℕ) → Replied → Decoder → Option ℕ → ClientLink → Near → Near
+download_under_way op replied decoder mark connection n = record n {
   standing = Standings.Entered;
   job = Transferring op (record { replied = replied; abort = Aborts.Unsent; flow = Receiving decoder mark });
   connection = connection;
@@ -28,22 +28,22 @@ downloading op replied decoder mark connection n = record n {
 -- a 150 or a 226, and an octet
 pub record RepliesCommute (op : Op (List ℕ)) (d : Decoder) (mark : Option ℕ) (n : Near) (texts : List Text) : Type 0 where
   pub opening : (octet : ℕ)
-      → receives_octet (answered 150 texts (downloading op Replies.Nothing d mark Data.Open n)) octet
-      ≡ answered 150 texts (receives_octet (downloading op Replies.Nothing d mark Data.Open n) octet)
+      → receives_octet (answered 150 texts (download_under_way op Replies.Nothing d mark Data.Open n)) octet
+      ≡ answered 150 texts (receives_octet (download_under_way op Replies.Nothing d mark Data.Open n) octet)
   pub final : (octet : ℕ)
-      → receives_octet (answered 226 texts (downloading op Replies.Begun d mark Data.Open n)) octet
-      ≡ answered 226 texts (receives_octet (downloading op Replies.Begun d mark Data.Open n) octet)
+      → receives_octet (answered 226 texts (download_under_way op Replies.Begun d mark Data.Open n)) octet
+      ≡ answered 226 texts (receives_octet (download_under_way op Replies.Begun d mark Data.Open n) octet)
 
 -- a 150 or a 226, and the end of the link or a break
 pub record EndsCommute (op : Op (List ℕ)) (d : Decoder) (mark : Option ℕ) (n : Near) (texts : List Text) : Type 0 where
-  pub opening_end : data_end (answered 150 texts (downloading op Replies.Nothing d mark Data.Open n))
-      ≡ answered 150 texts (data_end (downloading op Replies.Nothing d mark Data.Open n))
-  pub final_end : data_end (answered 226 texts (downloading op Replies.Begun d mark Data.Open n))
-      ≡ answered 226 texts (data_end (downloading op Replies.Begun d mark Data.Open n))
-  pub opening_break : data_fault (answered 150 texts (downloading op Replies.Nothing d mark Data.Open n))
-      ≡ answered 150 texts (data_fault (downloading op Replies.Nothing d mark Data.Open n))
-  pub final_break : data_fault (answered 226 texts (downloading op Replies.Begun d mark Data.Open n))
-      ≡ answered 226 texts (data_fault (downloading op Replies.Begun d mark Data.Open n))
+  pub opening_end : data_end (answered 150 texts (download_under_way op Replies.Nothing d mark Data.Open n))
+      ≡ answered 150 texts (data_end (download_under_way op Replies.Nothing d mark Data.Open n))
+  pub final_end : data_end (answered 226 texts (download_under_way op Replies.Begun d mark Data.Open n))
+      ≡ answered 226 texts (data_end (download_under_way op Replies.Begun d mark Data.Open n))
+  pub opening_break : data_fault (answered 150 texts (download_under_way op Replies.Nothing d mark Data.Open n))
+      ≡ answered 150 texts (data_fault (download_under_way op Replies.Nothing d mark Data.Open n))
+  pub final_break : data_fault (answered 226 texts (download_under_way op Replies.Begun d mark Data.Open n))
+      ≡ answered 226 texts (data_fault (download_under_way op Replies.Begun d mark Data.Open n))
 
 -- of both downloads that ask for all octets of a file
 abbrev pub DownloadsCommute : Type 0

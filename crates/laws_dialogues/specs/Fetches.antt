@@ -46,7 +46,7 @@ use Rattle.ftp_server_model.specs.Act.{act, is_in}
 use Rattle.ftp_server_model.specs.Keep.{kept_count, kept_of as kept_octets, lacks}
 use Rattle.ftp_server_model.specs.Listing.{listing_wire}
 use Rattle.ftp_server_model.specs.Machine.{is_abor}
-use Rattle.ftp_server_model.specs.Replies.{extended_text, passive_text}
+use Rattle.ftp_server_model.specs.Replies.{extended_reply_text, passive_reply_text}
 use Rattle.ftp_server_model.specs.Transfer.{file_wire, misplaced, transfer_starts}
 use Rattle.ftp_server_model.specs.View.{View as Far, Context, Session, Transfer, all_facts, direct_of, how_in_force}
 use Rattle.ftp_server_model.specs.declared.heard.HeardLine.TheVariants.{Asks}
@@ -62,8 +62,8 @@ use Rattle.ftp_server_model.specs.declared.session.Life.TheVariants as Lives
 use Rattle.ftp_server_model.specs.declared.session.Pending.{Pending}
 use Rattle.ftp_server_model.specs.declared.session.Pending.TheVariants as Pendings
 use Rattle.ftp_server_model.specs.declared.session.Transfer.TheVariants as Transfers
-use Rattle.laws_world.specs.Outcome.{download_of, fetched, mark_in, text_by, upload_of}
-use Rattle.laws_dialogues.specs.Dialogue.{Ends, IsSound, is_aside}
+use Rattle.laws_world.specs.Outcome.{download_of, fetched, mark_in, listing_text_by, upload_of}
+use Rattle.laws_dialogues.specs.Dialogue.{Ends, IsSound, is_set_aside}
 
 -- ---- what is asked for
 
@@ -162,13 +162,13 @@ abbrev pub linked : FarConnection Transfer → Bool → Pending Names → Sessio
 linked connection closing pending s = record s { connection = connection; closing = closing; pending = pending; life = Lives.Running }
 
 -- EPSV or PASV was heard
-abbrev pub asked_of : Bool → PassiveVerb
-asked_of extended = if extended then Asking.Epsv else Asking.Pasv
+abbrev pub passive_verb_of : Bool → PassiveVerb
+passive_verb_of extended = if extended then Asking.Epsv else Asking.Pasv
 
 -- the reply to it, once there is a port
 abbrev pub port_reply : Bool → Host → ℕ → Reply
-port_reply true host port = reply_of 229 (extended_text port)
-port_reply false host port = reply_of 227 (passive_text (record { host = host; port = port }))
+port_reply true host port = reply_of 229 (extended_reply_text port)
+port_reply false host port = reply_of 227 (passive_reply_text (record { host = host; port = port }))
 
 -- REST is accepted
 abbrev pub rest_reply : ℕ → Reply
@@ -227,7 +227,7 @@ kept n f = record {
 
 -- each end is the other's peer, both are of one family; the server is in this state, in the settings that the client knows, with all facts in
 -- force
-pub record IsSteady (state : State) (k : Kept) : Type 0 where
+pub record IsSteadySession (state : State) (k : Kept) : Type 0 where
   pub peer : k.near_peer ≡ k.far_here
   pub here : k.near_here ≡ k.far_peer
   pub typed : IsTypedHost k.far_here
@@ -248,8 +248,8 @@ pub record IsSteady (state : State) (k : Kept) : Type 0 where
 pub record PortIsAsked (state : State) (ask : Ask) (n : Near) (f : Far) : Type 0 where
   pub near : n ≡ busy (Doing ask.op Steps.Passive) NearData.Free n
   pub closing : Bool
-  pub session : f.session ≡ linked (FarData.Asked (asked_of (is_extended n ask.op))) closing Pendings.Nothing f.session
-  pub steady : IsSteady state (kept n f)
+  pub session : f.session ≡ linked (FarData.Asked (passive_verb_of (is_extended n ask.op))) closing Pendings.Nothing f.session
+  pub steady : IsSteadySession state (kept n f)
   pub set : n.settings ≡ ask.settings
   pub known : state.known ≡ true
 
@@ -257,10 +257,10 @@ pub record PortIsAsked (state : State) (ask : Ask) (n : Near) (f : Far) : Type 0
 pub record PortIsWanted (state : State) (ask : Ask) (n : Near) (f : Far) : Type 0 where
   pub near : n ≡ busy (Doing ask.op Steps.Listen) NearData.ListenWanted n
   pub connection : FarConnection Transfer
-  pub aside : is_aside connection ≡ true
+  pub aside : is_set_aside connection ≡ true
   pub pending : Pending Names
   pub session : f.session ≡ linked connection false pending f.session
-  pub steady : IsSteady state (kept n f)
+  pub steady : IsSteadySession state (kept n f)
   pub set : state.known ≡ true → n.settings ≡ ask.settings
 
 -- a port is asked for or wanted; or the first command was refused, as nobody is logged in
@@ -333,7 +333,7 @@ names_ask text how = listing_ask (Ops.Names text how) Verbs.Nlst text how (λ st
 
 -- the text of either, or of LIST
 abbrev pub text_ask : ListVerb → List ℕ → How → Ask
-text_ask verb text how = listing_ask (Ops.Text verb text how) verb text how (λ state. Octets (text_by verb state text))
+text_ask verb text how = listing_ask (Ops.Text verb text how) verb text how (λ state. Octets (listing_text_by verb state text))
 
 -- ---- what is so of what is asked for
 
@@ -396,8 +396,8 @@ abbrev pub stored : Rise → State → List ℕ → State
 stored rise state content = changed state (installed (part state) (rise.path state) (kept_of rise state ++ content) rise.moment)
 
 -- why so many octets behind those that are kept are too many
-abbrev pub over : Rise → State → ℕ → Option TreeFault
-over rise state count = octets_refusal (part state) (rise.path state) (kept_count (rise.keep state) + count)
+abbrev pub excess_of : Rise → State → ℕ → Option TreeFault
+excess_of rise state count = octets_refusal (part state) (rise.path state) (kept_count (rise.keep state) + count)
 
 -- why the server refuses at the end to put octets there
 abbrev pub end_why : Rise → State → List ℕ → Option Refusal
@@ -432,11 +432,11 @@ pub record HasUpload (ask : Ask) (rise : Rise) : Type 0 where
   pub all : count_of ask.op ≡ None
   pub text_is : IsTextOf ask.settings rise.octets rise.text
   pub within : (state : State) → IsKept (rise.keep state) (octets_or_none (part state) (rise.path state))
-  pub refused : (state : State) → IsPlacedAt ask.settings ask.offset → ask.why state ≡ None → refusal state ask.op ≡ refused_octets (over rise state (length rise.octets))
-  pub ends_so : (state : State) (content : List ℕ) → ask.why state ≡ None → end_why rise state content ≡ refused_octets (over rise state (length content))
+  pub refused : (state : State) → IsPlacedAt ask.settings ask.offset → ask.why state ≡ None → refusal state ask.op ≡ refused_octets (excess_of rise state (length rise.octets))
+  pub ends_so : (state : State) (content : List ℕ) → ask.why state ≡ None → end_why rise state content ≡ refused_octets (excess_of rise state (length content))
   pub done_so : (state : State) → done state ask.op rise.moment ≡ (Done, stored rise state rise.octets)
   pub known_so : (state : State) → IsKnownUpload ask rise state
-  pub sound : (state : State) (content : List ℕ) → IsSound state → state.known ≡ true → ask.why state ≡ None → over rise state (length content) ≡ None
+  pub sound : (state : State) (content : List ℕ) → IsSound state → state.known ≡ true → ask.why state ≡ None → excess_of rise state (length content) ≡ None
       → IsSound (stored rise state content)
 
 -- by which way its octets go

@@ -20,15 +20,15 @@ use Rattle.ftp_server_model.specs.declared.reply.FixedReply.{FixedReply}
 use Rattle.ftp_server_model.specs.declared.reply.FixedReply.TheVariants as Texts
 use Rattle.ftp_server_model.specs.declared.session.Access.TheVariants as Accesses
 use Rattle.laws_dialogues.specs.Stage.{Way, Asking, Answering, rest, Leads}
-use Rattle.laws_dialogues.specs.Dialogue.{FarWaits, Meets, Sees, Passes, Stands, Ends, resting}
+use Rattle.laws_dialogues.specs.Dialogue.{FarWaits, ArePeersOfOneFamily, Sees, Passes, Stands, Ends, resting}
 
 -- what is on its way: the greeting, USER, the 331, PASS, or the last reply, to USER or to PASS
-pub data Place : Type 0 where
-  Greets : Place
-  AsksUser : Place
-  WantsPass : Place
-  AsksPass : Place
-  Answers : (admitted : Bool) → (to_pass : Bool) → Place
+pub data LoginPlace : Type 0 where
+  Greets : LoginPlace
+  AsksUser : LoginPlace
+  WantsPass : LoginPlace
+  AsksPass : LoginPlace
+  Answers : (admitted : Bool) → (to_pass : Bool) → LoginPlace
 
 -- the last reply
 abbrev pub last_text : Bool → FixedReply
@@ -36,24 +36,24 @@ last_text true = Texts.LoggedIn
 last_text false = Texts.LoginRefused
 
 -- the unit that is on its way
-abbrev pub way_of : Place → Near → Way
-way_of Greets n = Answering (fixed_reply Texts.Ready ∷ [])
-way_of AsksUser n = Asking (line_of (Commands.User n.user))
-way_of WantsPass n = Answering (fixed_reply Texts.PasswordNeeded ∷ [])
-way_of AsksPass n = Asking (line_of (Commands.Pass n.pass))
-way_of (Answers admitted to_pass) n = Answering (fixed_reply (last_text admitted) ∷ [])
+abbrev pub way_at_login : LoginPlace → Near → Way
+way_at_login Greets n = Answering (fixed_reply Texts.Ready ∷ [])
+way_at_login AsksUser n = Asking (line_of (Commands.User n.user))
+way_at_login WantsPass n = Answering (fixed_reply Texts.PasswordNeeded ∷ [])
+way_at_login AsksPass n = Asking (line_of (Commands.Pass n.pass))
+way_at_login (Answers admitted to_pass) n = Answering (fixed_reply (last_text admitted) ∷ [])
 
 -- how far the client is
-abbrev pub standing_of : Place → Standing
-standing_of Greets = Standings.Greeting
-standing_of AsksUser = Standings.User
-standing_of WantsPass = Standings.User
-standing_of AsksPass = Standings.Pass
-standing_of (Answers admitted true) = Standings.Pass
-standing_of (Answers admitted false) = Standings.User
+abbrev pub standing_in_login : LoginPlace → Standing
+standing_in_login Greets = Standings.Greeting
+standing_in_login AsksUser = Standings.User
+standing_in_login WantsPass = Standings.User
+standing_in_login AsksPass = Standings.Pass
+standing_in_login (Answers admitted true) = Standings.Pass
+standing_in_login (Answers admitted false) = Standings.User
 
 -- who is logged in; before the last reply nobody is
-abbrev pub IsAccessOf : Place → State → Near → Far → Type 0
+abbrev pub IsAccessOf : LoginPlace → State → Near → Far → Type 0
 IsAccessOf Greets state n f = f.session.access ≡ Accesses.Nobody
 IsAccessOf AsksUser state n f = f.session.access ≡ Accesses.Nobody
 IsAccessOf WantsPass state n f = f.session.access ≡ Accesses.AwaitsPass n.user
@@ -61,8 +61,8 @@ IsAccessOf AsksPass state n f = f.session.access ≡ Accesses.AwaitsPass n.user
 IsAccessOf (Answers admitted to_pass) state n f = Sees state f.session
 
 -- both ends during the login: it leads to the state where the direct run begins
-pub record LogsIn (state : State) (place : Place) (n : Near) (f : Far) : Type 0 where
-  pub standing : n.standing ≡ standing_of place
+pub record LogsIn (state : State) (place : LoginPlace) (n : Near) (f : Far) : Type 0 where
+  pub standing : n.standing ≡ standing_in_login place
   pub connection : n.connection ≡ NearData.Free
   pub closing : n.closing ≡ false
   pub run : n.run ≡ None
@@ -73,14 +73,14 @@ pub record LogsIn (state : State) (place : Place) (n : Near) (f : Far) : Type 0 
   pub facts : f.session.facts ≡ all_facts
   pub table : f.session.table ≡ state.table
   pub access : IsAccessOf place state n f
-  pub meets : Meets n f
+  pub meets : ArePeersOfOneFamily n f
   pub leads_to : state ≡ direct_start state.table (login_account f.context.accounts n.user n.pass)
   pub opens : (account : Account) → open_account f.context.accounts n.user ≡ Some account → login_account f.context.accounts n.user n.pass ≡ Some account
 
 -- some place of the login
 pub record Logging (state : State) (way : Way) (n : Near) (f : Far) : Type 0 where
-  pub place : Place
-  pub way_is : way ≡ way_of place n
+  pub place : LoginPlace
+  pub way_is : way ≡ way_at_login place n
   pub logs : LogsIn state place n f
 
 -- ---- with no operation, and with one

@@ -22,14 +22,14 @@ pub record LeadsBy (read : Reading) (Along Goal : Near → Far → Type 0) (op :
   pub leads : Leads read Along Goal left (behind line []) near f
 
 -- the goal is this answer and this state, with the map before or behind it all along
-abbrev pub LeadsTo : Reading → State → Op (List ℕ) → Said × State → Near → Far → Type 0
-LeadsTo read state op result n f = LeadsBy read (Passes state.table result.1.table) (Ends result) op n f
+abbrev pub LeadsToAnswer : Reading → State → Op (List ℕ) → Said × State → Near → Far → Type 0
+LeadsToAnswer read state op result n f = LeadsBy read (Passes state.table result.1.table) (Ends result) op n f
 
 -- so it is of every such operation that can be sent, with the answer of the direct run
 abbrev pub EachLeadsAsRun : Type 0
 EachLeadsAsRun =
     (read : Reading) (state : State) (op : Op (List ℕ)) (moment : ℕ) (n : Near) (f : Far) → IsReading read → HasNoTransfer op
-    → can_be_sent op ≡ true → IsSound state → Stands state n f → LeadsTo read state op (answer state op moment) n f
+    → can_be_sent op ≡ true → IsSound state → Stands state n f → LeadsToAnswer read state op (answer state op moment) n f
 
 -- and a sound state is left sound
 abbrev pub EachStaysSound : Type 0

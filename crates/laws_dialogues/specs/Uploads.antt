@@ -21,40 +21,40 @@ use Rattle.ftp_server_model.specs.declared.session.Keep.TheVariants as Keeps
 use Rattle.laws_dialogues.specs.Fetches.{Ask, Rise, Up}
 
 -- where its octets go: in place of the file, behind it, or behind what an offset skips
-pub data Place : Type 0 where
-  Anew Behind : Place
-  From : (offset : ℕ) → Place
+pub data StorePlace : Type 0 where
+  Anew Behind : StorePlace
+  From : (offset : ℕ) → StorePlace
 
 -- the operation
-abbrev pub store : Place → List ℕ → List ℕ → How → Op (List ℕ)
+abbrev pub store : StorePlace → List ℕ → List ℕ → How → Op (List ℕ)
 store Anew text octets how = Ops.Put text octets how
 store Behind text octets how = Ops.Append text octets how
 store (From offset) text octets how = Ops.PutFrom text offset octets how
 
 -- its own command
-abbrev pub store_command : Place → List ℕ → Command (List ℕ)
+abbrev pub store_command : StorePlace → List ℕ → Command (List ℕ)
 store_command Anew text = Commands.Stor text
 store_command Behind text = Commands.Appe text
 store_command (From offset) text = Commands.Stor text
 
 -- the offset of REST
-abbrev pub store_offset : Place → Option ℕ
+abbrev pub store_offset : StorePlace → Option ℕ
 store_offset (From offset) = Some offset
 store_offset place = None
 
 -- where its markers begin to count
-abbrev pub store_start : Place → ℕ
+abbrev pub store_start : StorePlace → ℕ
 store_start (From offset) = offset
 store_start place = 0
 
 -- how many octets of the file are kept, where the place leads to one
-abbrev pub store_place : State → Place → List ℕ → How → Option ℕ
+abbrev pub store_place : State → StorePlace → List ℕ → How → Option ℕ
 store_place state Anew text how = Some 0
 store_place state Behind text how = Some (length (file_of state text))
 store_place state (From offset) text how = place_at state (named state text) how offset
 
 -- which of them are kept
-abbrev pub store_keep : State → Place → List ℕ → How → Keep
+abbrev pub store_keep : State → StorePlace → List ℕ → How → Keep
 store_keep state Behind text how = Keeps.All (length (file_of state text))
 store_keep state place text how = Keeps.First (unwrap_or (store_place state place text how) 0)
 
@@ -63,12 +63,12 @@ abbrev pub room_why : State → List ℕ → Option Refusal
 room_why state text = refused_room (limited (named state text) (room_refusal (part state) (named state text)))
 
 -- why its command is refused
-abbrev pub store_why : State → Place → List ℕ → How → Option Refusal
+abbrev pub store_why : State → StorePlace → List ℕ → How → Option Refusal
 store_why state place text how =
     or_refused (barred_put state (named state text)) (or_refused (refused_name (misplaced (store_place state place text how))) (room_why state text))
 
 -- its octets
-abbrev pub store_rise : Place → List ℕ → List ℕ → How → ℕ → Rise
+abbrev pub store_rise : StorePlace → List ℕ → List ℕ → How → ℕ → Rise
 store_rise place text octets how moment = record {
   path = λ state. named state text;
   keep = λ state. store_keep state place text how;
@@ -78,7 +78,7 @@ store_rise place text octets how moment = record {
 }
 
 -- an upload as what is asked for
-abbrev pub upload_ask : Place → List ℕ → List ℕ → How → ℕ → Ask
+abbrev pub upload_ask : StorePlace → List ℕ → List ℕ → How → ℕ → Ask
 upload_ask place text octets how moment = record {
   op = store place text octets how;
   how = how;

@@ -5,7 +5,7 @@ use Rattle.ftp_server_model.specs.Machine.{Reading}
 use Rattle.laws_world.specs.Settling.{Falls, Left, left_in}
 use Rattle.laws_world.specs.World.{World}
 use Rattle.laws_settling.specs.Laws.{SteadyEnds}
-use Rattle.laws_settling.specs.Steady.{IsSteady}
+use Rattle.laws_settling.specs.Steady.{IsSteadyWorld}
 use Rattle.laws_settling.specs.Turns.{Ends, ends}
 use Rattle.laws_settling.proofs.EventsFall.{events_fall}
 use Rattle.laws_settling.proofs.Steady.{happens_steady}
@@ -70,7 +70,7 @@ Descends-prop l (descends f) (descends g) = ap descends (fun_ext (λ m. fun_ext 
 -- ---- so each run of them ends
 
 -- from a world with so much left
-ends_from : (read : Reading) (l : Left) (w : World) → Descends l → left_in w ≡ l → IsSteady w → Ends read w
+ends_from : (read : Reading) (l : Left) (w : World) → Descends l → left_in w ≡ l → IsSteadyWorld w → Ends read w
 ends_from read l w (descends f) is s = ends (λ event next settles happens.
     let falls = events_fall read event w next s.apart s.asks settles happens in
     ends_from read (left_in next) next (f (left_in next) (subst (Falls (left_in next)) is falls)) refl (happens_steady read event true w next s happens))

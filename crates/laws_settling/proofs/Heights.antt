@@ -8,7 +8,7 @@ use Rattle.laws_world.specs.Settling.{Falls, Left, left_in}
 use Rattle.laws_world.specs.Still.{queue_room}
 use Rattle.laws_world.specs.World.{World}
 use Rattle.laws_settling.specs.Laws.{HasHeight, Then}
-use Rattle.laws_settling.specs.Steady.{IsSteady}
+use Rattle.laws_settling.specs.Steady.{IsSteadyWorld}
 use Rattle.laws_settling.specs.Turns.{IsTurn}
 use Rattle.laws_settling.proofs.Ending.{Descends, descends, Descends-prop, left_descends}
 use Rattle.laws_settling.proofs.EventsFall.{events_fall}
@@ -169,7 +169,7 @@ lower read l w (descends f) turn count few less e =
     below_next (height_at read (left_in new) new e) (at turn count) (over_turns w at) one (under_turns w at turn count few)
 
 -- each turn from a steady world does
-pub lowers : (read : Reading) (event : Event) (w new : World) → IsSteady w → IsTurn event w → Happens read event w true new → height read new < height read w
+pub lowers : (read : Reading) (event : Event) (w new : World) → IsSteadyWorld w → IsTurn event w → Happens read event w true new → height read new < height read w
 unfolding height
 lowers read event w new s turn happens =
     let t : IsTurned read w new = turned_so read event w new turn happens in

@@ -5,8 +5,8 @@ use Rattle.std.proofs.Props.{props}
 use Rattle.ftp_server_model.proofs.LinesDecided.{reading_exists}
 use Rattle.laws_world.specs.World.{World}
 use Rattle.laws_settling.specs.Laws.{LoopsEnd}
-use Rattle.laws_settling.specs.Steady.{IsSteady}
-use Rattle.laws_settling.specs.Turns.{Turned}
+use Rattle.laws_settling.specs.Steady.{IsSteadyWorld}
+use Rattle.laws_settling.specs.Turns.{TurnHappened}
 use Rattle.laws_settling.proofs.Heights.{height, lowers}
 use Rattle.laws_settling.proofs.Steady.{happens_steady}
 
@@ -19,11 +19,11 @@ less_once : (m n : ℕ) → IsProp (m < n)
 less_once m n = hlevel props
 
 -- the world stays steady
-pub still_steady : (old new : World) → Turned old new → ∥ IsSteady old ∥₁ → ∥ IsSteady new ∥₁
+pub still_steady : (old new : World) → TurnHappened old new → ∥ IsSteadyWorld old ∥₁ → ∥ IsSteadyWorld new ∥₁
 still_steady old new t was = ∥∥₁_elim was ∥∥₁_prop (λ s. ∣ happens_steady reading_exists.0 t.0 true old new s (t.2 reading_exists.0 reading_exists.1) ∣₁)
 
 -- its height falls
-pub falls : (old new : World) → Turned old new → ∥ IsSteady old ∥₁ → tall new < tall old
+pub falls : (old new : World) → TurnHappened old new → ∥ IsSteadyWorld old ∥₁ → tall new < tall old
 falls old new t was = ∥∥₁_elim was (less_once _ _) (λ s. lowers reading_exists.0 t.0 old new s t.1 (t.2 reading_exists.0 reading_exists.1))
 
 -- so a loop of turns has its measure

@@ -9,7 +9,7 @@ use Rattle.ftp_server_model.specs.Calls as far
 use Rattle.ftp_server_model.specs.View.{View as Far}
 use Rattle.laws_world.specs.Settling.{Left, Falls, left_in}
 use Rattle.laws_world.specs.World.{World}
-use Rattle.laws_settling.specs.Laws.{AtMost, InOrder, Then}
+use Rattle.laws_settling.specs.Laws.{AtMost, IsLessInOrder, Then}
 
 -- two such steps, one behind the other, are one
 through : {P Q R : Type 0} (a b c : ℕ) → (P → Q → R) → Then b a P → Then c b Q → Then c a R
@@ -19,7 +19,7 @@ through a b c f (inr x) (inl y) = inl (omega (arith, x.0, y))
 through a b c f (inr x) (inr y) = inr (omega (arith, x.0, y.0), f x.1 y.1)
 
 -- and of all five numbers
-through_all : {P Q R : Type 0} (a b c : Left) → (P → Q → R) → InOrder b a P → InOrder c b Q → InOrder c a R
+through_all : {P Q R : Type 0} (a b c : Left) → (P → Q → R) → IsLessInOrder b a P → IsLessInOrder c b Q → IsLessInOrder c a R
 through_all a b c f =
     through a.at_client b.at_client c.at_client
     (through a.to_server b.to_server c.to_server (through a.at_server b.at_server c.at_server (through a.to_client b.to_client c.to_client f)))

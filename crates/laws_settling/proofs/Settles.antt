@@ -3,7 +3,7 @@ use Rattle.std.proofs.Common.{◌≡◌, ◌⊎◌, inl, inr, ℕ, zero, suc, �
 use Rattle.std.specs.Prelude.{min, nat_lt}
 use Rattle.ftp_nvt.proofs.CutLemmas.{decided}
 use Rattle.ftp_server_model.specs.Machine.{Reading}
-use Rattle.laws_world.specs.Agreement.{begun_by}
+use Rattle.laws_world.specs.Agreement.{begun_by_event}
 use Rattle.laws_world.specs.Claims.{IsSettling, SettlesAlways, Settles, world_of}
 use Rattle.ftp_ends.specs.Octets.{has_octets}
 use Rattle.laws_world.specs.Events.{Queue, ControlToServer, ControlToClient, DataToServer, DataToClient, Event, Deliver, Open, End, Gives, Happens, IsQuiet, MayTakeFrom, can_happen, due, in_queue, lends_none, link_opens, may_take, pulled, pushed, taking, told}
@@ -21,7 +21,7 @@ pub record Progresses (read : Reading) (w : World) : Type 0 where
   pub event : Event
   pub next : World
   pub settles : IsSettling event
-  pub nothing : begun_by event true ≡ []
+  pub nothing : begun_by_event event true ≡ []
   pub happens : Happens read event w true next
 
 -- a call may give all that is due, up to its room

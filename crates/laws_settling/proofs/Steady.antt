@@ -13,11 +13,11 @@ use Rattle.ftp_server_model.specs.View.{View as Far}
 use Rattle.ftp_server_model.specs.declared.reply.FixedReply.TheVariants as Texts
 use Rattle.laws_world.specs.Agreement.{Leads, Order}
 use Rattle.laws_world.specs.Claims.{Beginning, SettlingFalls, world_of}
-use Rattle.laws_world.specs.Events.{Queue, ControlToServer, ControlToClient, DataToServer, DataToClient, Event, Deliver, Open, Refuse, End, Break, EndControl, Next, Upload, DeliversBy, Does, begun_at, broken_by, can_happen, ends_control, filled, lends_none, link_breaks, link_opens, link_refused, operation_begins, pulled, pushed, refused_by, taking, told, upload_begins}
+use Rattle.laws_world.specs.Events.{Queue, ControlToServer, ControlToClient, DataToServer, DataToClient, Event, Deliver, Open, Refuse, End, Break, EndControl, Next, Upload, DeliversBy, Does, begins_at_moment, broken_by, can_happen, ends_control, filled, lends_none, link_breaks, link_opens, link_refused, operation_begins, pulled, pushed, refused_by, taking, told, upload_begins}
 use Rattle.laws_world.specs.Serving.{after_event, collected_by, far_closes, far_listens, far_served, left_by_far, link_closed_by_far, link_closed_by_near, near_closes, near_listens, near_served, served}
 use Rattle.laws_world.specs.World.{World, Control, Stands, LeftByNear, Link, Gone, Opened, ClosedByNear, ClosedByFar, port_at}
 use Rattle.laws_settling.specs.Laws.{EventsKeepSteady, StaysSteady}
-use Rattle.laws_settling.specs.Steady.{AreApart, AskNothing, AsksNothing, FarIsApart, IsSteady, NearIsApart, is_left}
+use Rattle.laws_settling.specs.Steady.{AreApart, AskNothing, AsksNothing, FarIsApart, IsSteadyWorld, NearIsApart, has_client_left}
 use Rattle.laws_settling.proofs.Asking.{ask_more, calm_reply, octet_place}
 use Rattle.laws_settling.proofs.EventsFall.{ended, events_fall, left_near}
 use Rattle.laws_settling.proofs.Possible.{lent_can}
@@ -39,8 +39,8 @@ pub record Carries (w new : World) : Type 0 where
   pub control : new.control ≡ w.control
 
 -- so it leaves the world steady
-steady_by : (w new : World) → Carries w new → AreApart new → IsSteady w → IsSteady new
-steady_by w new c apart s = record { apart = apart; asks = asks; on = λ sound. ap is_left c.control ∙ s.on (c.near sound).0 }
+steady_by : (w new : World) → Carries w new → AreApart new → IsSteadyWorld w → IsSteadyWorld new
+steady_by w new c apart s = record { apart = apart; asks = asks; on = λ sound. ap has_client_left c.control ∙ s.on (c.near sound).0 }
   where
     asks : AsksNothing new
     asks sound =
@@ -53,7 +53,7 @@ steady_by w new c apart s = record { apart = apart; asks = asks; on = λ sound. 
         subst (λ place. AskNothing place (new.control_to_client ++ new.far.owed)) (ap (λ (e : Ear). e.place) (sym n.1)) (subst (AskNothing w.near.ear.place) same whole)
 
 -- where the client is not sound, only the close is left to look at
-unsound_steady : (new : World) → AreApart new → is_sound new.near.standing ≡ false → IsSteady new
+unsound_steady : (new : World) → AreApart new → is_sound new.near.standing ≡ false → IsSteadyWorld new
 unsound_steady new apart is = record { apart = apart; asks = λ sound. absurd (true_false (is_sound new.near.standing) sound is); on = λ sound. absurd (true_false (is_sound new.near.standing) sound is) }
   where
     true_false : (b : Bool) → b ≡ true → b ≡ false → ⊥
@@ -111,15 +111,15 @@ far_listens_carries : (w : World) → Carries w (far_listens w)
 far_listens_carries w = record { near = λ s. (s, refl); far = calm.listening_grows (port_at w.listens) w.far; queue = refl; control = refl }
 
 -- each thing that one look at the client does
-near_cases : (w new : World) → IsSteady w → AreApart new → IsNearServed w new → IsSteady new
+near_cases : (w new : World) → IsSteadyWorld w → AreApart new → IsNearServed w new → IsSteadyWorld new
 near_cases w new s a (closes is e) = steady_by w new (subst (Carries w) (sym e) (near_closes_carries w)) a s
 near_cases w new s a (listens is e) = steady_by w new (subst (Carries w) (sym e) (listens_carries w)) a s
 near_cases w new s a (leaves is sound e) =
     unsound_steady new a (ap (λ (u : World). is_sound u.near.standing) e ∙ ap (λ (n : Near). is_sound n.standing) (near_left_ends w.control w).0 ∙ sound)
-near_cases w new s a (rests sound e) = subst IsSteady (sym e) s
+near_cases w new s a (rests sound e) = subst IsSteadyWorld (sym e) s
 
 -- one look at the client
-near_served_steady : (w : World) → IsSteady w → IsSteady (near_served w)
+near_served_steady : (w : World) → IsSteadyWorld w → IsSteadyWorld (near_served w)
 near_served_steady w s = near_cases w (near_served w) s (near_is_served w s.apart).apart (near_served_is w)
 
 -- a test has one outcome
@@ -127,26 +127,26 @@ off_now : {P : Type 0} (b : Bool) → b ≡ true → b ≡ false → P
 off_now b holds fails = absurd (cc)
 
 -- the server leaves
-goes_steady : (control : Control) (w : World) → w.control ≡ control → IsSteady w → IsSteady (left_by_far control w)
+goes_steady : (control : Control) (w : World) → w.control ≡ control → IsSteadyWorld w → IsSteadyWorld (left_by_far control w)
 goes_steady Stands w is s = record { apart = record { near = s.apart.near; far = s.apart.far }; asks = s.asks; on = λ sound. refl }
 goes_steady LeftByNear w is s =
-    let off : is_left w.control ≡ true = ap is_left is in
+    let off : has_client_left w.control ≡ true = ap has_client_left is in
     record {
       apart = record { near = s.apart.near; far = s.apart.far };
-      asks = λ sound. off_now (is_left w.control) off (s.on sound);
-      on = λ sound. off_now (is_left w.control) off (s.on sound);
+      asks = λ sound. off_now (has_client_left w.control) off (s.on sound);
+      on = λ sound. off_now (has_client_left w.control) off (s.on sound);
     }
 goes_steady control w is s = s
 
 -- each thing that one look at the server does
-far_cases : (w new : World) → IsSteady w → AreApart new → IsFarServed w new → IsSteady new
+far_cases : (w new : World) → IsSteadyWorld w → AreApart new → IsFarServed w new → IsSteadyWorld new
 far_cases w new s a (far_shuts is e) = steady_by w new (subst (Carries w) (sym e) (far_closes_carries w)) a s
 far_cases w new s a (far_hears is e) = steady_by w new (subst (Carries w) (sym e) (far_listens_carries w)) a s
-far_cases w new s a (far_goes is e) = subst IsSteady (sym e) (goes_steady w.control w refl s)
-far_cases w new s a (far_rests undone e) = subst IsSteady (sym e) s
+far_cases w new s a (far_goes is e) = subst IsSteadyWorld (sym e) (goes_steady w.control w refl s)
+far_cases w new s a (far_rests undone e) = subst IsSteadyWorld (sym e) s
 
 -- one look at the server
-far_served_steady : (w : World) → IsSteady w → IsSteady (far_served w)
+far_served_steady : (w : World) → IsSteadyWorld w → IsSteadyWorld (far_served w)
 far_served_steady w s = far_cases w (far_served w) s (far_is_served w s.apart).apart (far_served_is w)
 
 -- the report
@@ -155,13 +155,13 @@ collected_carries None w = record { near = λ s. (s, refl); far = calm.same w.fa
 collected_carries (Some answer) w = record { near = (keeps.reports_keep w.near).sound; far = calm.same w.far; queue = refl; control = refl }
 
 -- all six looks
-served_steady : (w : World) → IsSteady w → IsSteady (served w)
+served_steady : (w : World) → IsSteadyWorld w → IsSteadyWorld (served w)
 served_steady w s =
     let a = near_served_steady (near_served (near_served w)) (near_served_steady (near_served w) (near_served_steady w s)) in
     far_served_steady _ (far_served_steady _ (far_served_steady (near_served (near_served (near_served w))) a))
 
 -- what is served behind an event
-pub after_steady : (w : World) → IsSteady w → IsSteady (after_event w)
+pub after_steady : (w : World) → IsSteadyWorld w → IsSteadyWorld (after_event w)
 after_steady w s =
     let all = served_steady w s in
     steady_by (served w) (after_event w) (collected_carries (near.report_of (served w).near) (served w)) (collects_served (served w) all.apart).apart all
@@ -169,7 +169,7 @@ after_steady w s =
 -- ---- deliveries
 
 -- octets go out
-pull_steady : (queue : Queue) (count : ℕ) (w : World) → IsSteady w → IsSteady (pulled queue w count)
+pull_steady : (queue : Queue) (count : ℕ) (w : World) → IsSteadyWorld w → IsSteadyWorld (pulled queue w count)
 pull_steady ControlToServer count w s =
     steady_by w (pulled ControlToServer w count) (record { near = λ s. (s, refl); far = calm.same w.far; queue = refl; control = refl }) (pull_apart ControlToServer count w s.apart) s
 pull_steady ControlToClient count w s = record { apart = pull_apart ControlToClient count w s.apart; asks = pull_asks count w s.asks; on = s.on }
@@ -181,7 +181,7 @@ pull_steady DataToClient count w s =
     (pull_apart DataToClient count w s.apart) s
 
 -- a queue is filled
-fill_steady : (queue : Queue) (w : World) (counts : List ℕ) → IsSteady w → IsSteady (filled queue w counts)
+fill_steady : (queue : Queue) (w : World) (counts : List ℕ) → IsSteadyWorld w → IsSteadyWorld (filled queue w counts)
 fill_steady queue w [] s = s
 fill_steady queue w (count ∷ counts) s = fill_steady queue (pulled queue w count) counts (pull_steady queue count w s)
 
@@ -204,7 +204,7 @@ heard_asks (suc n) (octet ∷ queue) more v asks sound = heard_asks n queue more
         subst (λ place. AskNothing place (queue ++ more)) (sym was.1) (record { none = old.none.1; rest = old.rest })
 
 -- octets are taken
-push_steady : (read : Reading) (queue : Queue) (count : ℕ) (w : World) → IsSteady w → IsSteady (pushed read queue count w)
+push_steady : (read : Reading) (queue : Queue) (count : ℕ) (w : World) → IsSteadyWorld w → IsSteadyWorld (pushed read queue count w)
 push_steady read ControlToServer count w s =
     steady_by w (pushed read ControlToServer count w) (record { near = λ s. (s, refl); far = calm.hears_grows read (take count w.control_to_server) w.far; queue = refl; control = refl })
     (push_apart read ControlToServer count w s.apart) s
@@ -222,31 +222,31 @@ push_steady read DataToClient count w s =
     (push_apart read DataToClient count w s.apart) s
 
 -- octets are lent
-taking_steady : (queue : Queue) (count : ℕ) (w : World) → IsSteady w → IsSteady (taking queue count w)
+taking_steady : (queue : Queue) (count : ℕ) (w : World) → IsSteadyWorld w → IsSteadyWorld (taking queue count w)
 taking_steady queue count w s = record { apart = lent_apart queue count w s.apart; asks = s.asks; on = s.on }
 
 -- a delivery
-delivery_steady : (none : Bool) (read : Reading) (queue : Queue) (count : ℕ) (w new : World) → IsSteady w → DeliversBy none read queue count w new → IsSteady new
-delivery_steady true read queue count w new s m = subst IsSteady (sym m.is) (after_steady (pulled queue w m.gave) (pull_steady queue m.gave w s))
+delivery_steady : (none : Bool) (read : Reading) (queue : Queue) (count : ℕ) (w new : World) → IsSteadyWorld w → DeliversBy none read queue count w new → IsSteadyWorld new
+delivery_steady true read queue count w new s m = subst IsSteadyWorld (sym m.is) (after_steady (pulled queue w m.gave) (pull_steady queue m.gave w s))
 delivery_steady false read queue count w new s d =
     let u : World = filled queue w d.counts in
-    subst IsSteady (sym d.is) (after_steady (pushed read queue d.taken (taking queue d.taken u)) (push_steady read queue d.taken (taking queue d.taken u) (taking_steady queue d.taken u (fill_steady queue w d.counts s))))
+    subst IsSteadyWorld (sym d.is) (after_steady (pushed read queue d.taken (taking queue d.taken u)) (push_steady read queue d.taken (taking queue d.taken u) (taking_steady queue d.taken u (fill_steady queue w d.counts s))))
 
 -- ---- the link
 
 -- an opening
-opens_steady : (w : World) → IsSteady w → IsSteady (link_opens w)
+opens_steady : (w : World) → IsSteadyWorld w → IsSteadyWorld (link_opens w)
 opens_steady w s =
     steady_by w (link_opens w) (record { near = (keeps.data_opened_keep w.far.context.here w.near).sound; far = calm.data_opened_grows w.near.here w.far; queue = refl; control = refl }) (opens_apart w s.apart) s
 
 -- a world with other marks
-marked : (u new : World) → new.near ≡ u.near → new.far ≡ u.far → new.control_to_client ≡ u.control_to_client → new.control ≡ u.control → IsSteady u → IsSteady new
+marked : (u new : World) → new.near ≡ u.near → new.far ≡ u.far → new.control_to_client ≡ u.control_to_client → new.control ≡ u.control → IsSteadyWorld u → IsSteadyWorld new
 marked u new near_is far_is queue control s =
     steady_by u new (carries_as u u new (record { near = λ s. (s, refl); far = calm.same u.far; queue = refl; control = refl }) near_is far_is queue control)
     (record { near = subst (λ (n : Near). NearIsApart n) (sym near_is) s.apart.near; far = subst (λ (f : Far). FarIsApart f) (sym far_is) s.apart.far }) s
 
 -- the end that connects is refused
-refused_by_steady : (connects : Bool) (w : World) → IsSteady w → IsSteady (refused_by connects w)
+refused_by_steady : (connects : Bool) (w : World) → IsSteadyWorld w → IsSteadyWorld (refused_by connects w)
 refused_by_steady true w s =
     let k = keeps.data_refused_keep w.near in
     steady_by w (refused_by true w) (by_near w (near.data_refused w.near) k) (record { near = k.apart s.apart.near; far = s.apart.far }) s
@@ -254,11 +254,11 @@ refused_by_steady false w s =
     steady_by w (refused_by false w) (by_far w (far.data_refused w.far) (calm.data_refused_grows w.far)) (record { near = s.apart.near; far = data_refused_apart w.far s.apart.far }) s
 
 -- a refusal
-refused_steady : (w : World) → IsSteady w → IsSteady (link_refused w)
+refused_steady : (w : World) → IsSteadyWorld w → IsSteadyWorld (link_refused w)
 refused_steady w s = marked (refused_by (is_connecting (near.wants w.near)) w) (link_refused w) refl refl refl refl (refused_by_steady (is_connecting (near.wants w.near)) w s)
 
 -- each end that has not closed the link is told
-broken_steady : (link : Link) (w : World) → IsSteady w → IsSteady (broken_by link w)
+broken_steady : (link : Link) (w : World) → IsSteadyWorld w → IsSteadyWorld (broken_by link w)
 broken_steady Gone w s = s
 broken_steady Opened w s =
     let k = keeps.data_fault_keep w.near in
@@ -270,18 +270,18 @@ broken_steady ClosedByFar w s =
     steady_by w (broken_by ClosedByFar w) (by_near w (near.data_fault w.near) k) (record { near = k.apart s.apart.near; far = s.apart.far }) s
 
 -- a break
-breaks_steady : (w : World) → IsSteady w → IsSteady (link_breaks w)
+breaks_steady : (w : World) → IsSteadyWorld w → IsSteadyWorld (link_breaks w)
 breaks_steady w s = marked (broken_by w.link w) (link_breaks w) refl refl refl refl (broken_steady w.link w s)
 
 -- ---- ends
 
 -- an end is told
-end_steady : (queue : Queue) (w : World) → can_happen (End queue) w ≡ true → IsSteady w → IsSteady (told queue w)
+end_steady : (queue : Queue) (w : World) → can_happen (End queue) w ≡ true → IsSteadyWorld w → IsSteadyWorld (told queue w)
 end_steady ControlToServer w can s =
-    let off : is_left w.control ≡ true = ap is_left (left_near w.control (ended ControlToServer w can)) in
+    let off : has_client_left w.control ≡ true = ap has_client_left (left_near w.control (ended ControlToServer w can)) in
     record {
       apart = record { near = s.apart.near; far = control_end_apart w.far };
-      asks = λ sound. off_now (is_left w.control) off (s.on sound);
+      asks = λ sound. off_now (has_client_left w.control) off (s.on sound);
       on = s.on;
     }
 end_steady ControlToClient w can s =
@@ -293,45 +293,45 @@ end_steady DataToClient w can s =
     steady_by w (told DataToClient w) (record { near = k.sound; far = calm.same w.far; queue = refl; control = refl }) (record { near = k.apart s.apart.near; far = s.apart.far }) s
 
 -- the end of the control connection
-ends_steady : (w : World) → IsSteady w → IsSteady (ends_control w)
+ends_steady : (w : World) → IsSteadyWorld w → IsSteadyWorld (ends_control w)
 ends_steady w s = unsound_steady (ends_control w) (record { near = (keeps.control_end_keep w.near).apart s.apart.near; far = control_end_apart w.far }) (near_failed w.near)
 
 -- ---- an operation begins
 
 -- an operation is begun
-begins_steady : (moment : ℕ) (n : Near) (w : World) → Keeps w.near n → IsSteady w → IsSteady (begun_at moment n w)
+begins_steady : (moment : ℕ) (n : Near) (w : World) → Keeps w.near n → IsSteadyWorld w → IsSteadyWorld (begins_at_moment moment n w)
 begins_steady moment n w k s =
-    steady_by w (begun_at moment n w) (record { near = k.sound; far = calm.clocked_grows moment w.far; queue = refl; control = refl })
+    steady_by w (begins_at_moment moment n w) (record { near = k.sound; far = calm.clocked_grows moment w.far; queue = refl; control = refl })
     (record { near = k.apart s.apart.near; far = clocked_apart moment w.far s.apart.far }) s
 
 -- ---- all events
 
 -- what each event does
-does_steady : (read : Reading) (event : Event) (w new : World) → can_happen event w ≡ true → IsSteady w → Does read event w new → IsSteady new
+does_steady : (read : Reading) (event : Event) (w new : World) → can_happen event w ≡ true → IsSteadyWorld w → Does read event w new → IsSteadyWorld new
 does_steady read (Deliver queue count) w new can s does = delivery_steady (count == 0) read queue count w new s does
-does_steady read Open w new can s does = subst IsSteady (sym does) (after_steady (link_opens w) (opens_steady w s))
-does_steady read Refuse w new can s does = subst IsSteady (sym does) (after_steady (link_refused w) (refused_steady w s))
-does_steady read (End queue) w new can s does = subst IsSteady (sym does) (after_steady (told queue w) (end_steady queue w can s))
-does_steady read Break w new can s does = subst IsSteady (sym does) (after_steady (link_breaks w) (breaks_steady w s))
-does_steady read EndControl w new can s does = subst IsSteady (sym does) (after_steady (ends_control w) (ends_steady w s))
+does_steady read Open w new can s does = subst IsSteadyWorld (sym does) (after_steady (link_opens w) (opens_steady w s))
+does_steady read Refuse w new can s does = subst IsSteadyWorld (sym does) (after_steady (link_refused w) (refused_steady w s))
+does_steady read (End queue) w new can s does = subst IsSteadyWorld (sym does) (after_steady (told queue w) (end_steady queue w can s))
+does_steady read Break w new can s does = subst IsSteadyWorld (sym does) (after_steady (link_breaks w) (breaks_steady w s))
+does_steady read EndControl w new can s does = subst IsSteadyWorld (sym does) (after_steady (ends_control w) (ends_steady w s))
 does_steady read (Next op moment) w new can s does =
-    subst IsSteady (sym does) (after_steady (operation_begins op moment w) (begins_steady moment (near.starts op w.near) w (keeps.starts_keep op w.near) s))
+    subst IsSteadyWorld (sym does) (after_steady (operation_begins op moment w) (begins_steady moment (near.starts op w.near) w (keeps.starts_keep op w.near) s))
 does_steady read (Upload upload moment) w new can s does =
-    subst IsSteady (sym does) (after_steady (upload_begins upload moment w) (begins_steady moment (near.uploads upload w.near) w (keeps.uploads_keep upload w.near) s))
+    subst IsSteadyWorld (sym does) (after_steady (upload_begins upload moment w) (begins_steady moment (near.uploads upload w.near) w (keeps.uploads_keep upload w.near) s))
 
 -- so each event leaves the world steady
 pub happens_steady : EventsKeepSteady
 happens_steady read event true w new s happens =
     does_steady read event (lends_none w) new (lent_can event w happens.0) (record { apart = record { near = s.apart.near; far = s.apart.far }; asks = s.asks; on = s.on }) happens.1
-happens_steady read event false w new s happens = subst IsSteady (sym happens.1) s
+happens_steady read event false w new s happens = subst IsSteadyWorld (sym happens.1) s
 
 -- and so do events, one after the other
-pub leads_steady : (read : Reading) (events : List Event) (begun : List Order) (w new : World) → IsSteady w → Leads read w events begun new → IsSteady new
-leads_steady read [] begun w new s l = subst IsSteady (sym l.1) s
+pub leads_steady : (read : Reading) (events : List Event) (begun : List Order) (w new : World) → IsSteadyWorld w → Leads read w events begun new → IsSteadyWorld new
+leads_steady read [] begun w new s l = subst IsSteadyWorld (sym l.1) s
 leads_steady read (event ∷ events) begun w new s l = leads_steady read events l.2 l.1 new (happens_steady read event l.0 w l.1 s l.3) l.5
 
 -- a session begins steady: the greeting asks nothing
-pub starts_steady : (b : Beginning) → IsSteady (world_of b)
+pub starts_steady : (b : Beginning) → IsSteadyWorld (world_of b)
 starts_steady b = record {
   apart = record { near = λ is. absurd (cc); far = λ is. absurd (cc) };
   asks = λ sound. calm_reply (fixed_reply Texts.Ready);

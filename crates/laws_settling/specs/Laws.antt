@@ -6,8 +6,8 @@ use Rattle.laws_world.specs.Events.{Event, Happens}
 use Rattle.laws_world.specs.Serving.{after_event}
 use Rattle.laws_world.specs.Settling.{Left, Falls, left_in}
 use Rattle.laws_world.specs.World.{World}
-use Rattle.laws_settling.specs.Steady.{AreApart, AsksNothing, IsSteady}
-use Rattle.laws_settling.specs.Turns.{Ends, IsTurn, Turned}
+use Rattle.laws_settling.specs.Steady.{AreApart, AsksNothing, IsSteadyWorld}
+use Rattle.laws_settling.specs.Turns.{Ends, IsTurn, TurnHappened}
 
 -- ---- the numbers
 
@@ -16,13 +16,13 @@ abbrev pub Then : (new old : ℕ) → Type 0 → Type 0
 Then new old Rest = (new < old) ⊎ ((new ≡ old) × Rest)
 
 -- the first of four numbers that differs is less, or none differs and something holds of the fifth
-abbrev pub InOrder : (new old : Left) → Type 0 → Type 0
-InOrder new old Last =
+abbrev pub IsLessInOrder : (new old : Left) → Type 0 → Type 0
+IsLessInOrder new old Last =
     Then new.at_client old.at_client (Then new.to_server old.to_server (Then new.at_server old.at_server (Then new.to_client old.to_client Last)))
 
 -- the first number that differs is less, or none differs but the last, which is not more
 abbrev pub AtMost : (new old : Left) → Type 0
-AtMost new old = InOrder new old (new.unqueued ≤ old.unqueued)
+AtMost new old = IsLessInOrder new old (new.unqueued ≤ old.unqueued)
 
 -- ---- the laws
 
@@ -38,27 +38,27 @@ EventsFall =
 
 -- every event, of whatever kind, leaves a steady world steady
 abbrev pub EventsKeepSteady : Type 0
-EventsKeepSteady = (read : Reading) (event : Event) (possible : Bool) (w new : World) → IsSteady w → Happens read event w possible new → IsSteady new
+EventsKeepSteady = (read : Reading) (event : Event) (possible : Bool) (w new : World) → IsSteadyWorld w → Happens read event w possible new → IsSteadyWorld new
 
 -- so every world that a fair beginning leads to is steady
 abbrev pub StaysSteady : Type 0
-StaysSteady = Always (λ read b events begun w. IsSteady w)
+StaysSteady = Always (λ read b events begun w. IsSteadyWorld w)
 
 -- each run of deliveries, openings and ends from a steady world ends
 abbrev pub SteadyEnds : Type 0
-SteadyEnds = (read : Reading) (w : World) → IsSteady w → Ends read w
+SteadyEnds = (read : Reading) (w : World) → IsSteadyWorld w → Ends read w
 
 -- there is a number that each turn from a steady world lowers, for a loop to count down: a function of the world
 abbrev pub HasHeight : Type 0
 HasHeight =
     (read : Reading)
-    → (height : World → ℕ) × ((event : Event) (w new : World) → IsSteady w → IsTurn event w → Happens read event w true new → height new < height w)
+    → (height : World → ℕ) × ((event : Event) (w new : World) → IsSteadyWorld w → IsTurn event w → Happens read event w true new → height new < height w)
 
 -- a step of a loop leaves its world steady, and lowers a number
 pub record StepsDown (height : World → ℕ) (old new : World) : Type 0 where
-  pub steady : ∥ IsSteady new ∥₁
+  pub steady : ∥ IsSteadyWorld new ∥₁
   pub less : height new < height old
 
 -- so does each turn, as a loop knows of it: that its world is steady is no more than a fact, which a ghost field may hold
 abbrev pub LoopsEnd : Type 0
-LoopsEnd = (height : World → ℕ) × ((old new : World) → ∥ IsSteady old ∥₁ → Turned old new → StepsDown height old new)
+LoopsEnd = (height : World → ℕ) × ((old new : World) → ∥ IsSteadyWorld old ∥₁ → TurnHappened old new → StepsDown height old new)

@@ -45,15 +45,15 @@ pub record AreApart (w : World) : Type 0 where
 -- ---- the client stays while it hears
 
 -- the client has left the control connection
-abbrev pub is_left : Control → Bool
-is_left Stands = false
-is_left LeftByFar = false
-is_left LeftByNear = true
-is_left Parted = true
+abbrev pub has_client_left : Control → Bool
+has_client_left Stands = false
+has_client_left LeftByFar = false
+has_client_left LeftByNear = true
+has_client_left Parted = true
 
 -- ---- all three
 
-pub record IsSteady (w : World) : Type 0 where
+pub record IsSteadyWorld (w : World) : Type 0 where
   pub apart : AreApart w
   pub asks : AsksNothing w
-  pub on : is_sound w.near.standing ≡ true → is_left w.control ≡ false
+  pub on : is_sound w.near.standing ≡ true → has_client_left w.control ≡ false

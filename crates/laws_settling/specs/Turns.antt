@@ -19,5 +19,5 @@ IsTurn (End queue) w = Unit {0}
 IsTurn event w = ⊥
 
 -- a turn happened, whatever reads the server's lines
-abbrev pub Turned : (old new : World) → Type 0
-Turned old new = (event : Event) × IsTurn event old × ((read : Reading) → IsReading read → Happens read event old true new)
+abbrev pub TurnHappened : (old new : World) → Type 0
+TurnHappened old new = (event : Event) × IsTurn event old × ((read : Reading) → IsReading read → Happens read event old true new)

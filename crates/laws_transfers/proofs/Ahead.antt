@@ -20,7 +20,7 @@ use Rattle.laws_drivers.proofs.world.Settling as settling
 use Rattle.laws_drivers.proofs.world.Settling.{Same}
 use Rattle.laws_drivers.proofs.events.Holding.{is_called, is_had}
 use Rattle.laws_transfers.proofs.Known.{is_ready}
-use Rattle.laws_transfers.specs.Ahead.{Ahead, Fits, Level, Listened, Listens, Opens, Parted, ahead_of, far_ahead, is_left, is_parted}
+use Rattle.laws_transfers.specs.Ahead.{Ahead, Fits, Level, Listened, Listens, Opens, Parted, ahead_of, far_ahead, is_left, is_parted_ahead}
 
 -- ---- what it says comes after what the drive's is still to say
 
@@ -69,7 +69,7 @@ next_ahead true port = Listens port
 next_ahead false port = Level
 
 -- it was told of no end
-pub next_whole : (asked : Bool) (port : ℕ) → is_parted (next_ahead asked port) ≡ false
+pub next_whole : (asked : Bool) (port : ℕ) → is_parted_ahead (next_ahead asked port) ≡ false
 next_whole true port = refl
 next_whole false port = refl
 
@@ -83,11 +83,11 @@ fits_next (Data.Opening transfer way) port = refl
 fits_next (Data.Transferring transfer) port = refl
 
 -- that is no other than where files are fetched alone
-far_next : (asked : Bool) (port : ℕ) (v : Far) → plainly.far_ahead (settling.next_ahead asked port) v ≡ far_ahead (next_ahead asked port) v
+far_next : (asked : Bool) (port : ℕ) (v : Far) → plainly.far_world_ahead (settling.next_ahead asked port) v ≡ far_ahead (next_ahead asked port) v
 far_next true port v = refl
 far_next false port v = refl
 
-listened_next : (asked : Bool) (port here there : ℕ) → plainly.Listened (settling.next_ahead asked port) here there
+listened_next : (asked : Bool) (port here there : ℕ) → plainly.ListenedAhead (settling.next_ahead asked port) here there
     → Listened (next_ahead asked port) here there
 listened_next true port here there l = l
 listened_next false port here there l = l

@@ -18,7 +18,7 @@ use Rattle.laws_drivers.specs.control.Between.{Between, Hold}
 use Rattle.laws_drivers.proofs.control.Taken.{taken, taken_none}
 use Rattle.laws_drivers.proofs.control.Worlds.{LeadsOn}
 use Rattle.laws_drivers.specs.world.Ahead.{is_asked, is_open}
-use Rattle.laws_transfers.specs.Ahead.{Ahead, Fits, Listened, far_ahead, is_parted}
+use Rattle.laws_transfers.specs.Ahead.{Ahead, Fits, Listened, far_ahead, is_parted_ahead}
 use Rattle.laws_transfers.proofs.Ahead.{Holds, Keeps, keeps}
 use Rattle.laws_drivers.proofs.world.Moves.{Rested}
 use Rattle.laws_drivers.proofs.world.Served.{rests}
@@ -90,7 +90,7 @@ pub record Together (read : Reading) (begun : List Order) (moment : ℕ) (ahead 
   pub takes : Takes client.owner.channel
   pub gives : Writes between.near client.owner.channel
   pub keeping : Keeping between.near client.owner.end.view client.owner.channel w
-  pub twin : is_parted ahead ≡ true → HasTwin read begun w
+  pub twin : is_parted_ahead ahead ≡ true → HasTwin read begun w
 
 -- events that begin these lead on to a world that is so again, when these were begun, and that has these marks
 pub record GoesTo (read : Reading) (more begun : List Order) (between : Between) (told : ℕ) (server : Stand server_side) (client : Stand client_side)

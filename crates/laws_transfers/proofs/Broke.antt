@@ -6,7 +6,7 @@ use Rattle.ftp_ports.specs.Asking.{Connected, Ended as EndedBy, NotConnected, Re
 use Rattle.ftp_ports.specs.Actions.{Calls, Action, Done, Heard, HearsNext, Other, Read, ReadsNext, Said as Says, Says as SaysNext, Stand}
 use Rattle.ftp_ports.specs.Channel.{IsOpen, Channel}
 use Rattle.ftp_ports.specs.Machine.{Aside, Break, Closed, End, Failed as HasFailed, Gave, Got, Held, Left, LetGo, MayLeave, Opened, Received, Refused, Waited, Wrote, awaits, seen}
-use Rattle.ftp_client_driver.specs.Side.{Reporting, Starting, client_side, is_under_way}
+use Rattle.ftp_client_driver.specs.Side.{Reporting, Starting, client_side, is_operation_under_way}
 use Rattle.ftp_client_model.specs.Calls as near
 use Rattle.ftp_client_model.specs.Calls.{data_closed, gives_control, hears, is_sound}
 use Rattle.ftp_client_model.specs.Failing.{Client}
@@ -195,11 +195,11 @@ module _ (p q : Between) (old new : Stand client_side) (b : Near) (broke : IsBro
       }
 
   -- it is left
-  may_leave_so : MayLeave (is_under_way a.job ≡ false) (near.wants a) old.owner.channel.fate
-      → MayLeave (is_under_way b.job ≡ false) (near.wants b) old.owner.channel.fate
+  may_leave_so : MayLeave (is_operation_under_way a.job ≡ false) (near.wants a) old.owner.channel.fate
+      → MayLeave (is_operation_under_way b.job ≡ false) (near.wants b) old.owner.channel.fate
   may_leave_so may =
-      subst (λ w. MayLeave (is_under_way b.job ≡ false) w old.owner.channel.fate) (sym both_are.wants)
-      (subst (λ j. MayLeave (is_under_way j ≡ false) (near.wants a) old.owner.channel.fate) (sym both_are.job) may)
+      subst (λ w. MayLeave (is_operation_under_way b.job ≡ false) w old.owner.channel.fate) (sym both_are.wants)
+      (subst (λ j. MayLeave (is_operation_under_way j ≡ false) (near.wants a) old.owner.channel.fate) (sym both_are.job) may)
 
   reset_so : (left written : Option (List ℕ)) → ClientTries (Other (Left (Reset left written))) old.owner new.owner
       → Calls {side = client_side} (Left (Reset left written)) old new → is_lost q.near ≡ true → DoneSo (Other (Left (Reset left written))) q new there
@@ -237,7 +237,7 @@ module _ (p q : Between) (old new : Stand client_side) (b : Near) (broke : IsBro
           (refl, did.0.0.1),
           (did.0.1.0, did.0.1.1),
           λ sound busy. both_are.wants
-              ∙ did.0.2 (subst IsTrue (ap is_sound (standing_is broke.apart)) sound) (subst (λ j. IsTrue (is_under_way j)) both_are.job busy),
+              ∙ did.0.2 (subst IsTrue (ap is_sound (standing_is broke.apart)) sound) (subst (λ j. IsTrue (is_operation_under_way j)) both_are.job busy),
         ),
         ap (with_view (data_closed b)) did.1,
       ) in

@@ -23,7 +23,7 @@ use Rattle.laws_drivers.specs.control.Alone.{ClientIsCalm}
 use Rattle.laws_drivers.specs.control.Between.{Between, Hold}
 use Rattle.laws_drivers.proofs.control.Worlds.{LeadsOn, leads_then}
 use Rattle.laws_drivers.proofs.control.Taken.{HearsAlike, hears_alike, taken, taken_none}
-use Rattle.laws_transfers.specs.Ahead.{Ahead, Level, Listened, Listens, Opens, Parted, far_ahead, freed, is_left}
+use Rattle.laws_transfers.specs.Ahead.{Ahead, Level, Listened, Listens, Opens, Parted, far_ahead, without_connection, is_left}
 use Rattle.laws_transfers.proofs.Ahead.{Holds, opens_ready}
 use Rattle.laws_drivers.specs.world.Ahead.{is_asked}
 use Rattle.laws_drivers.proofs.world.Moves.{Rested, drop_front, near_hears, take_front}
@@ -264,7 +264,7 @@ module _ (read : Reading) (begun : List Order) (server : Stand server_side) (old
       record Behind : Type 0 where
         accepted : Bool
         fits : is_left accepted server.owner.end.server.view.session.connection ≡ true
-        far : close_step (freed w.far) ≡ clock_step moment (far_ahead (Parted accepted) server.owner.end.server.view)
+        far : close_step (without_connection w.far) ≡ clock_step moment (far_ahead (Parted accepted) server.owner.end.server.view)
         listens : w.listens ≡ told
         holds : Holds (Parted accepted) between.far server.owner.end.server.view.session
 
@@ -273,7 +273,7 @@ module _ (read : Reading) (begun : List Order) (server : Stand server_side) (old
         accepted = true;
         fits = ap (is_left true) (ready_is server.owner.end.server.view.session.connection
             (ap (λ (f : Far). is_ready f.session.connection) (sym t.beside.far) ∙ ready));
-        far = ap (λ f. close_step (freed f)) t.beside.far;
+        far = ap (λ f. close_step (without_connection f)) t.beside.far;
         listens = t.beside.listens;
         holds = record { shut = t.holds.shut; had = t.holds.had; called = t.holds.called; opened = t.holds.opened };
       }
@@ -284,8 +284,8 @@ module _ (read : Reading) (begun : List Order) (server : Stand server_side) (old
           record {
             accepted = false;
             fits = ap (is_left false) passive;
-            far = ap (λ f. close_step (freed f)) t.beside.far
-                ∙ ap (λ l. close_step (freed (clock_step moment (far_ahead Opens (record x { session = record x.session { connection = l } }))))) passive;
+            far = ap (λ f. close_step (without_connection f)) t.beside.far
+                ∙ ap (λ l. close_step (without_connection (clock_step moment (far_ahead Opens (record x { session = record x.session { connection = l } }))))) passive;
             listens = t.beside.listens;
             holds = record { shut = t.holds.shut; had = t.holds.had; called = t.holds.called; opened = t.holds.opened };
           }
@@ -309,7 +309,7 @@ module _ (read : Reading) (begun : List Order) (server : Stand server_side) (old
                 beside = record {
                   fits = h.fits;
                   near = p.near ∙ near_now;
-                  far = p.far ∙ ap (λ (f : Far). close_step (freed f)) s.far ∙ h.far;
+                  far = p.far ∙ ap (λ (f : Far). close_step (without_connection f)) s.far ∙ h.far;
                   to_server = p.to_server ∙ s.same.to_server ∙ b.to_server;
                   to_client = p.to_client ∙ s.same.to_client;
                   rising = p.rising ∙ sym none_rises ∙ b.rising ∙ ap (λ o. server.owner.channel.untold ++ (between.data_ways.to_server ++ o)) (sym unwritten);

@@ -10,7 +10,7 @@ use Rattle.ftp_ports.specs.Channel.{IsEnded, Channel, with_fate}
 use Rattle.ftp_ports.specs.Machine.{Aside, Closed, Failed as HasFailed, Got, Left, LetGo, MayLeave, Waited, Wrote, leaves}
 use Rattle.ftp_ports.specs.declared.whole.Fate.{Fate}
 use Rattle.ftp_ports.specs.declared.whole.Fate.TheVariants.{Sound, Failed, Broken, Over}
-use Rattle.ftp_client_driver.specs.Side.{Reporting, client_side, is_under_way}
+use Rattle.ftp_client_driver.specs.Side.{Reporting, client_side, is_operation_under_way}
 use Rattle.ftp_client_model.specs.Calls as near
 use Rattle.ftp_client_model.specs.Calls.{data_closed, is_busy, report_of}
 use Rattle.ftp_client_model.specs.View.{View as Near}
@@ -320,7 +320,7 @@ module _ (read : Reading) (orders : List Order) (server : Stand server_side) (ol
       → Together read orders moment ahead between told server old reports w → Calls {side = client_side} (Left asked) old new → is_near_held w.link ≡ false
   left_held asks never asked moment ahead between told t did = by_fate old.owner.channel.fate refl did.0.2.0
     where
-      idle : is_under_way v.job ≡ false → is_near_held w.link ≡ false
+      idle : is_operation_under_way v.job ≡ false → is_near_held w.link ≡ false
       idle done = ap is_near_held (known.idle (ap is_busy t.beside.near ∙ idle_free v done)).link
 
       -- one that wants no close, has not failed and wants no port of its own goes on without a link only as it dials or accepts, so that none stands
@@ -335,14 +335,14 @@ module _ (read : Reading) (orders : List Order) (server : Stand server_side) (ol
       dials apart Want.Send is quiet e = absurd (true≢false (sym e))
       dials apart Want.CloseAll is quiet e = absurd (true≢false (sym e))
 
-      by : (closing : Bool) → v.closing ≡ closing → (leaves (near.wants v) ≡ true) ⊎ (is_under_way v.job ≡ false) → is_near_held w.link ≡ false
+      by : (closing : Bool) → v.closing ≡ closing → (leaves (near.wants v) ≡ true) ⊎ (is_operation_under_way v.job ≡ false) → is_near_held w.link ≡ false
       by true is may = t.keeping.shut is
       by false is may = elim may [
         | inl leaving ↦ dials is (near.wants v) refl (wants_rest v asks.sound asks.dials is) leaving
         | inr done ↦ idle done
       ]
 
-      by_fate : (fate : Fate) → old.owner.channel.fate ≡ fate → MayLeave (is_under_way v.job ≡ false) (near.wants v) fate → is_near_held w.link ≡ false
+      by_fate : (fate : Fate) → old.owner.channel.fate ≡ fate → MayLeave (is_operation_under_way v.job ≡ false) (near.wants v) fate → is_near_held w.link ≡ false
       by_fate Sound is may = by v.closing refl may
       by_fate Failed is may = by v.closing refl (inr may)
       by_fate Broken is may = t.keeping.over (ap is_sound is)

@@ -32,7 +32,7 @@ use Rattle.ftp_server_model.specs.declared.session.Transfer.TheVariants as Trans
 use Rattle.laws_world.specs.Agreement.{Order, Single, Tries}
 use Rattle.laws_world.specs.Events.{is_closed_by_far, is_closed_by_near}
 use Rattle.laws_world.specs.World.{ClosedByFar, ClosedByNear, Link, Mark, Opened, World}
-use Rattle.laws_dialogues.specs.Dialogue.{is_aside}
+use Rattle.laws_dialogues.specs.Dialogue.{is_set_aside}
 use Rattle.laws_dialogues.specs.Fetches.{Ask, Direction, Down, IsAsk, Rise, Up, busy, carrying, giving_of, linked}
 use Rattle.laws_dialogues.specs.Stage.{Answering, Way}
 use Rattle.laws_dialogues.proofs.Fetching.{own_host}
@@ -173,7 +173,7 @@ calm_known w says calm none lines idle unclosed empty ungiven flat = record {
 }
 
 -- a server that stands aside takes none, and has none open
-pub aside_rests : (link : ServerLink Transfer) → is_aside link ≡ true → (is_upload link ≡ false) × (is_ready link ≡ false) × (is_giving link ≡ false)
+pub aside_rests : (link : ServerLink Transfer) → is_set_aside link ≡ true → (is_upload link ≡ false) × (is_ready link ≡ false) × (is_giving link ≡ false)
 aside_rests FarData.Free is = (refl, refl, refl)
 aside_rests (FarData.Active endpoint) is = (refl, refl, refl)
 aside_rests FarData.Passive is = (refl, refl, refl)
@@ -255,7 +255,7 @@ module _ (read : Reading) (state : State) (ask : Ask) (good : IsAsk ask) (own : 
       quiet : (job : Job) (connection : NearConnection) → s.base.near ≡ busy job connection s.base.near
           → is_calm (near.wants (busy job connection w.near)) ≡ true
           → (link : ServerLink Transfer) (closing : Bool) (pending : Pending Names) → s.base.far.session ≡ linked link closing pending s.base.far.session
-          → is_aside link ≡ true → (tie : Link) → s.base.link ≡ tie → is_closed_by_near tie ≡ false → s.base.data_to_server ≡ []
+          → is_set_aside link ≡ true → (tie : Link) → s.base.link ≡ tie → is_closed_by_near tie ≡ false → s.base.data_to_server ≡ []
           → s.base.data_to_client ≡ [] → Known w
       quiet job connection near_is wants link closing pending far_is aside tie tied unclosed empty flat =
           calm job connection near_is wants link closing pending far_is (aside_rests link aside).0

@@ -24,7 +24,7 @@ use Rattle.laws_server.specs.one.Links.{Aims, Asks, Begins, Forgets, Stays, Turn
 use Rattle.laws_server.proofs.one.LineTurns.{lines_go_beside}
 use Rattle.laws_drivers.specs.world.Ahead.{accepts, is_open}
 use Rattle.laws_drivers.proofs.world.Hearing.{at_link}
-use Rattle.laws_transfers.specs.Ahead.{freed}
+use Rattle.laws_transfers.specs.Ahead.{without_connection}
 
 -- ---- what is made of such a data connection
 
@@ -210,9 +210,9 @@ octet_goes read octet v =
 -- ---- the end of one that is open is told
 
 -- it is gone
-pub end_freed : (f : Far) → f.session.closing ≡ false → f.session.connection ≡ Data.Ready → f.waiting ≡ None → far.data_end f ≡ freed f
+pub end_freed : (f : Far) → f.session.closing ≡ false → f.session.connection ≡ Data.Ready → f.waiting ≡ None → far.data_end f ≡ without_connection f
 unfolding far.data_end
 end_freed f unclosed ready none =
-    let is : far.end_step f ≡ freed f =
+    let is : far.end_step f ≡ without_connection f =
     ap (λ (v : Session). far.ends (far.connection_of v) f) (λ i. record f.session { connection = ready i; closing = unclosed i }) in
-    ap later is ∙ ap (λ q. waited q (freed f)) none
+    ap later is ∙ ap (λ q. waited q (without_connection f)) none

@@ -1,7 +1,7 @@
 -- What lies between two drives, and what is there as a world sees it: octets that the server gave, and dropped as it reset its data connection, are on their
 -- way to the client still.
 use Rattle.std.proofs.Common.{◌≡◌, ◌⊎◌, inl, inr, ℕ, Bool, true, false, List, [], ◌++◌, Some, None, refl, sym, ap, subst, ◌∙◌, append_assoc}
-use Rattle.laws_drivers.specs.control.Between.{Awaits, Between, Can, Far, Has, Has_ended, Has_lost, Hold, IsOver, IsStanding, Is_called, Near, Who, coming, dialled, sent, with_coming, with_hold}
+use Rattle.laws_drivers.specs.control.Between.{Awaits, Between, Can, Far, Has, Has_ended, Has_lost, Hold, IsOver, IsStanding, Is_called, Near, Who, coming_to, dialled, sent, with_coming, with_hold}
 use Rattle.laws_drivers.specs.control.Touches.{Accepts, Dials, Ends, IsDenied, IsMissed, Listens, None_of_it, Parts, Reads, Resets, Says, Takes, ToldBreak, ToldEnd, Touch, Writes}
 use Rattle.laws_drivers.proofs.events.Holding.{both, is_had}
 
@@ -98,9 +98,9 @@ module _ (p q s : Between) (seen : IsSeen p s) where
   reads_there who octets can = record {
     after = record s { control = q.control };
     can = (
-      ap (coming who) seen.control ∙ can.0,
+      ap (coming_to who) seen.control ∙ can.0,
       λ i. record s {
-        control = (ap (λ (m : Between). m.control) can.1 ∙ ap (with_coming who (coming who q.control)) (sym seen.control)) i;
+        control = (ap (λ (m : Between). m.control) can.1 ∙ ap (with_coming who (coming_to who q.control)) (sym seen.control)) i;
       },
     );
     is_seen = record {

@@ -25,7 +25,7 @@ use Rattle.laws_drivers.proofs.world.Known.{beside}
 use Rattle.laws_drivers.proofs.world.Moves.{Rested}
 use Rattle.laws_drivers.proofs.world.Rising.{far_ends}
 use Rattle.laws_drivers.proofs.world.Served.{settled}
-use Rattle.laws_transfers.specs.Ahead.{Listened, far_ahead, freed}
+use Rattle.laws_transfers.specs.Ahead.{Listened, far_ahead, without_connection}
 use Rattle.laws_transfers.specs.Actions.{AreGranted}
 use Rattle.laws_transfers.proofs.Ahead.{FarSettles, far_settles, next_ahead}
 use Rattle.laws_transfers.proofs.Halting.{halt_unclosed}
@@ -103,7 +103,7 @@ module _ (read : Reading) (reads : IsReading read) (from : State) (begun : List 
     pub new : World
     pub leads : LeadsOn read [] x new
     pub near : new.near ≡ x.near
-    pub far : new.far ≡ close_step (freed x.far)
+    pub far : new.far ≡ close_step (without_connection x.far)
     pub to_server : new.control_to_server ≡ x.control_to_server
     pub to_client : new.control_to_client ≡ x.control_to_client
     pub rising : new.data_to_server ≡ []
@@ -143,7 +143,7 @@ module _ (read : Reading) (reads : IsReading read) (from : State) (begun : List 
         (over_lead read reads from begun leads.events [] x (settled now) leads.timed runs leads.leads));
   }
     where
-      end : far.data_end x.far ≡ freed x.far
+      end : far.data_end x.far ≡ without_connection x.far
       end = end_freed x.far r.far_open (ready_is x.far.session.connection ready) r.runs.none_waits
 
       now : World

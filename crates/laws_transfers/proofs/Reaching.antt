@@ -18,7 +18,7 @@ use Rattle.ftp_server_model.specs.Machine.{IsReading, Reading}
 use Rattle.laws_world.specs.Agreement.{Order}
 use Rattle.laws_world.specs.Claims.{Beginning, IsFair, state_of, world_of}
 use Rattle.laws_world.specs.World.{Mark, World}
-use Rattle.laws_drivers.specs.control.Alone.{reported_by, reports_in}
+use Rattle.laws_drivers.specs.control.Alone.{reports_of, reports_in}
 use Rattle.laws_drivers.specs.events.Moments.{AreMoments, AreToldAt, IsToldAt, begun_at, begun_by, last_of, number_in}
 use Rattle.laws_drivers.specs.control.Between.{Between, CanTurn, Client, Far as TheServer, Happened, Has_lost, IsStanding, Near as TheClient, Server, Turn, client_actions, nothing_yet, server_actions, with_hold}
 use Rattle.laws_drivers.specs.control.Claims.{Begins}
@@ -32,7 +32,7 @@ use Rattle.laws_drivers.proofs.events.Holding.{both, is_called, is_false, is_had
 use Rattle.laws_drivers.proofs.events.Plain.{IsPlainly, Whatever, ended_plain, whatever_kept}
 use Rattle.laws_drivers.proofs.events.Serves.{action_serves}
 use Rattle.laws_drivers.proofs.events.Stands.{ServerServes, portless}
-use Rattle.laws_transfers.specs.Ahead.{Level, far_ahead, is_parted}
+use Rattle.laws_transfers.specs.Ahead.{Level, far_ahead, is_parted_ahead}
 use Rattle.laws_transfers.specs.Claims.{IsNear}
 use Rattle.laws_transfers.specs.Actions.{AreResets, IsServing, ServerTransfers, ServesAlong}
 use Rattle.laws_transfers.specs.Refusals.{ClientTries, TriesAlong, TriesAreOfWorlds, marked_by, marks_in}
@@ -246,7 +246,7 @@ module _ (read : Reading) (reads : IsReading read) (moments : ℕ → ℕ) (time
   client_goes_on : (action : Action client_side) → BreaksNone action → (old new : Stand client_side) → ClientTries action old.owner new.owner
       → (actions : List (Action client_side)) → AreCarried (begun_at moments actions) → (s q : Between) → CanTurn (Client action) s q
       → (told : ℕ) (server : Stand server_side) (reports : List Said) → (o : At (begun_at moments actions) s told server old reports) → Done action old new
-      → (next : At (begun_at moments (action ∷ actions)) q told server new (reports ++ reported_by action)) × (next.world.marks ≡ marked_by action o.world.marks)
+      → (next : At (begun_at moments (action ∷ actions)) q told server new (reports ++ reports_of action)) × (next.world.marks ≡ marked_by action o.world.marks)
   client_goes_on action unbroken old new is actions puts s q can told server reports o did =
       let begun : List Order = begun_at moments actions in
       let plain = client_plain read reads moments timed b fair action unbroken old new is actions puts s told server reports o did in
@@ -256,7 +256,7 @@ module _ (read : Reading) (reads : IsReading read) (moments : ℕ → ℕ) (time
           leads = leads_then read begun (begun_by (moments (number_in actions)) action) (world_of b) o.world went.0.world o.leads went.0.leads;
           last = went.0.moment;
           ahead = went.0.ahead;
-          together = subst (λ l. Together read l went.0.moment went.0.ahead q told server new (reports ++ reported_by action) went.0.world)
+          together = subst (λ l. Together read l went.0.moment went.0.ahead q told server new (reports ++ reports_of action) went.0.world)
               (orders_are (moments (number_in actions)) action begun) went.0.together;
           serves = o.serves;
           plain = plain;
@@ -270,10 +270,10 @@ module _ (read : Reading) (reads : IsReading read) (moments : ℕ → ℕ) (time
   client_sees_on : (action : Action client_side) → BreaksNone action → (old new : Stand client_side) → ClientTries action old.owner new.owner
       → (actions : List (Action client_side)) → AreCarried (begun_at moments actions) → (p q : Between) → CanTurn (Client action) p q → (told : ℕ)
       (server : Stand server_side) (reports : List Said) (marks : List (List Mark)) → Seen marks (begun_at moments actions) p told server old reports
-      → Done action old new → Seen (marked_by action marks) (begun_at moments (action ∷ actions)) q told server new (reports ++ reported_by action)
+      → Done action old new → Seen (marked_by action marks) (begun_at moments (action ∷ actions)) q told server new (reports ++ reports_of action)
   client_sees_on action unbroken old new is actions puts p q can told server reports marks at did = by at.shows
     where
-      by : IsShown p old at.shown → Seen (marked_by action marks) (begun_at moments (action ∷ actions)) q told server new (reports ++ reported_by action)
+      by : IsShown p old at.shown → Seen (marked_by action marks) (begun_at moments (action ∷ actions)) q told server new (reports ++ reports_of action)
       by (inl same) =
           let there = near_done p q at.seen at.is_seen (touch_in action) can in
           let o = subst (λ c. (o : At (begun_at moments actions) at.seen told server c reports) × (o.world.marks ≡ marks)) same (at.reached, at.marked) in
@@ -305,7 +305,7 @@ module _ (read : Reading) (reads : IsReading read) (moments : ℕ → ℕ) (time
   client_sees : (action : Action client_side) (old new : Stand client_side) → ClientTries action old.owner new.owner → (actions : List (Action client_side))
       → AreCarried (begun_at moments actions) → (p q : Between) → CanTurn (Client action) p q → IsResetFor action p → (told : ℕ) (server : Stand server_side)
       (reports : List Said) (marks : List (List Mark)) → Seen marks (begun_at moments actions) p told server old reports → Done action old new
-      → Seen (marked_by action marks) (begun_at moments (action ∷ actions)) q told server new (reports ++ reported_by action)
+      → Seen (marked_by action marks) (begun_at moments (action ∷ actions)) q told server new (reports ++ reports_of action)
   client_sees (Other Break) old new is actions puts p q can reset told server reports marks at did = by at.shows
     where
       by : IsShown p old at.shown → Seen marks (begun_at moments (Other Break ∷ actions)) q told server new (reports ++ [])
@@ -445,5 +445,5 @@ tries_are_of_worlds read reads b fair moments timed turns between server client 
         marked = at.marked;
         cutoff = s.cutoff;
       };
-      granted = λ g. is_false (is_parted o.ahead) (λ e. (o.together.twin e).refused g);
+      granted = λ g. is_false (is_parted_ahead o.ahead) (λ e. (o.together.twin e).refused g);
     }

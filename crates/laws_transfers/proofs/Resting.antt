@@ -7,7 +7,7 @@ use Rattle.ftp_server_model.specs.View.{Session}
 use Rattle.laws_world.specs.Agreement.{Order, Single}
 use Rattle.laws_world.specs.Events.{is_closed_by_near}
 use Rattle.laws_world.specs.World.{World}
-use Rattle.laws_dialogues.specs.Dialogue.{is_aside}
+use Rattle.laws_dialogues.specs.Dialogue.{is_set_aside}
 use Rattle.laws_dialogues.specs.Login.{AtFree}
 use Rattle.laws_agreement.specs.Follows.{IsFree, Phase}
 use Rattle.laws_agreement.specs.Over.{OverRuns}
@@ -51,7 +51,7 @@ module _ (read : Reading) (reads : IsReading read) (from : State) (begun : List 
             far = record {
               ear = ap (λ (u : World). u.far.ear) is;
               owed = ap (λ (u : World). u.far.owed) is;
-              aside = ap (λ (s : Session). is_aside s.connection) (seen (AtFree f.now) w f.stands).session ∙ stands.far.aside;
+              aside = ap (λ (s : Session). is_set_aside s.connection) (seen (AtFree f.now) w f.stands).session ∙ stands.far.aside;
             };
           }
 

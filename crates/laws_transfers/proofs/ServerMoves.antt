@@ -25,7 +25,7 @@ use Rattle.laws_drivers.proofs.control.Moments.{octet_moment}
 use Rattle.laws_drivers.proofs.control.ServerSteps.{HearsAt, hears_at}
 use Rattle.laws_drivers.specs.world.Ahead.{accepts, is_asked, is_open}
 use Rattle.laws_drivers.specs.world.Unaborted.{is_unaborted}
-use Rattle.laws_transfers.specs.Ahead.{Ahead, Fits, Level, Listened, Listens, Opens, Parted, ahead_of, far_ahead, is_left, is_parted}
+use Rattle.laws_transfers.specs.Ahead.{Ahead, Fits, Level, Listened, Listens, Opens, Parted, ahead_of, far_ahead, is_left, is_parted_ahead}
 use Rattle.laws_drivers.proofs.world.Ahead.{closed_is}
 use Rattle.laws_drivers.proofs.world.Hearing.{Turns, at_link, is_aimed, is_dialled, octet_opened, octet_turns}
 use Rattle.laws_drivers.proofs.world.Moves.{Rested, far_hears, far_says, far_saying}
@@ -173,7 +173,7 @@ module _ (read : Reading) (reads : IsReading read) (orders : List Order) (old ne
         → ((f : FarSettles now (settled now)) → (settled now).far ≡ clock_step moment (far_ahead onward u)) → Fits onward u.session.connection
         → ((f : FarSettles now (settled now)) → Listened onward told (settled now).listens)
         → (is_called between.far ≡ true → accepts u.session.connection ≡ true → is_ahead onward ≡ true)
-        → (is_ahead onward ≡ true → is_called between.far ≡ true) → (is_parted onward ≡ true → HasTwin read orders (settled now))
+        → (is_ahead onward ≡ true → is_called between.far ≡ true) → (is_parted_ahead onward ≡ true → HasTwin read orders (settled now))
         → Goes read [] orders between told new client reports w
     finish ahead onward t h may runs far fits listens called opened twin =
         let b = t.beside in

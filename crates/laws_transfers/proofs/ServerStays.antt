@@ -29,7 +29,7 @@ use Rattle.laws_drivers.specs.control.Between.{Awaits, Between, Can, Far as TheS
 use Rattle.laws_drivers.specs.control.Touches.{Accepts, Ends, Listens as ListensAt, Takes as TakesOctets, Writes as WritesOctets}
 use Rattle.laws_drivers.proofs.control.Worlds.{leads_none}
 use Rattle.laws_drivers.specs.world.Ahead.{accepts, is_asked, is_open}
-use Rattle.laws_transfers.specs.Ahead.{Ahead, Fits, Level, Listened, Listens, Opens, Parted, ahead_of, far_ahead, is_left, is_parted}
+use Rattle.laws_transfers.specs.Ahead.{Ahead, Fits, Level, Listened, Listens, Opens, Parted, ahead_of, far_ahead, is_left, is_parted_ahead}
 use Rattle.laws_drivers.proofs.world.Ahead.{listened_level, opened_level}
 use Rattle.laws_transfers.proofs.Ahead.{Holds, far_is, is_ahead, keeps, left_is, left_rests}
 use Rattle.laws_drivers.proofs.world.Hearing.{at_link}
@@ -74,7 +74,7 @@ module _ (read : Reading) (orders : List Order) (old new : Stand server_side) (c
   pub server_stays : (moment : ℕ) (ahead onward : Ahead) (between next : Between) (told count : ℕ)
       → Together read orders moment ahead between told old client reports w
       → Fits onward u.session.connection → clock_step moment (far_ahead ahead v) ≡ clock_step moment (far_ahead onward u)
-      → (Listened ahead told w.listens → Listened onward count w.listens) → (is_parted onward ≡ true → is_parted ahead ≡ true)
+      → (Listened ahead told w.listens → Listened onward count w.listens) → (is_parted_ahead onward ≡ true → is_parted_ahead ahead ≡ true)
       → old.unheard ++ between.control.to_server ≡ new.unheard ++ next.control.to_server → next.control.to_client ≡ between.control.to_client
       → Climbs between next → Falls between next → next.near ≡ between.near → Holds onward next.far u.session → Comes next.far u.session new.owner.channel
       → Writes next.far new.owner.channel → Goes read [] orders next count new client reports w
@@ -424,7 +424,7 @@ module _ (read : Reading) (orders : List Order) (old new : Stand server_side) (c
       -- a world that was ahead so is no more
       level : (ahead onward : Ahead) → Together read orders moment ahead between told old client reports w → Fits onward u.session.connection
           → clock_step moment (far_ahead ahead v) ≡ clock_step moment (far_ahead onward u) → (Listened ahead told w.listens → Listened onward told w.listens)
-          → (is_parted onward ≡ true → is_parted ahead ≡ true) → is_ahead onward ≡ false → Goes read [] orders next told new client reports w
+          → (is_parted_ahead onward ≡ true → is_parted_ahead ahead ≡ true) → is_ahead onward ≡ false → Goes read [] orders next told new client reports w
       level ahead onward t fits far listens parts none =
           server_stays moment ahead onward between next told told t fits far listens parts
           (ap₂ (λ (s : Stand server_side) (m : Between). s.unheard ++ m.control.to_server) (sym did.1) (sym can.1))

@@ -17,7 +17,7 @@ use Rattle.laws_world.specs.Agreement.{Order, Single}
 use Rattle.laws_world.specs.Claims.{Beginning, IsFair, state_of, world_of}
 use Rattle.laws_world.specs.World.{Link, Refused as WasRefused, World, marked_last}
 use Rattle.laws_agreement.specs.Over.{OverRuns}
-use Rattle.laws_drivers.specs.control.Alone.{ClientIsCalm, reported_by}
+use Rattle.laws_drivers.specs.control.Alone.{ClientIsCalm, reports_of}
 use Rattle.laws_drivers.specs.events.Moments.{AreMoments, IsToldAt, begun_at, begun_by, last_of, number_in}
 use Rattle.laws_drivers.specs.control.Between.{Between, CanTurn, Client, Server}
 use Rattle.laws_drivers.proofs.control.Simulating.{reported_is}
@@ -275,7 +275,7 @@ module _ (read : Reading) (reads : IsReading read) (moments : ℕ → ℕ) (time
       → AreCarried (begun_at moments actions) → (p q : Between) → CanTurn (Client action) p q → (told : ℕ) (server : Stand server_side) (reports : List Said)
       → (o : Reached (begun_at moments actions) p told server old reports) → IsPlainly new.owner.end.view → Done action old new
       → GoesTo read (begun_by (moments (number_in actions)) action) (orders_after (moments (number_in actions)) action (begun_at moments actions)) q told server new
-      (reports ++ reported_by action) (marked_by action o.world.marks) o.world
+      (reports ++ reports_of action) (marked_by action o.world.marks) o.world
       × (is_sound new.owner.end.view.standing ≡ true)
   client_goes (Heard octets) unbroken old new is actions puts p q can told server reports o plain did =
       subst (λ (m : Between). Goes read [] (begun_at moments actions) m told server new (reports ++ []) o.world × (is_sound new.owner.end.view.standing ≡ true))

@@ -12,13 +12,13 @@ use Rattle.laws_drivers.specs.control.Between.{Between, Turn, client_actions}
 use Rattle.laws_drivers.proofs.events.Within.{did_within}
 use Rattle.laws_transfers.specs.Claims.{DidTransfer, TransfersAreOfWorlds, no_faults}
 use Rattle.laws_transfers.specs.Actions.{AsksAlong, IsAsking}
-use Rattle.laws_transfers.specs.Refusals.{DidTry, IsTrying, dial_faults, marked_by, marks_in}
+use Rattle.laws_transfers.specs.Refusals.{DidTry, IsAskingOrRefused, dial_faults, marked_by, marks_in}
 use Rattle.laws_transfers.proofs.Reaching.{tries_are_of_worlds}
 
 -- ---- the actions
 
 -- one of which no dial fails is such an action
-asking_tries : (action : Action client_side) (at : Held Client) → IsAsking action at → IsTrying action at
+asking_tries : (action : Action client_side) (at : Held Client) → IsAsking action at → IsAskingOrRefused action at
 asking_tries (Other (Refused (NotConnected endpoint ∷ []))) at is = tt
 asking_tries action at is = is
 

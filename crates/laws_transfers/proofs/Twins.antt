@@ -30,7 +30,7 @@ use Rattle.laws_world.specs.Agreement.{Order, Single}
 use Rattle.laws_world.specs.Events.{ControlToServer, is_asked_for, is_closed_by_near, is_gone, pushed}
 use Rattle.laws_world.specs.Serving.{link_closed_by_near, near_closes}
 use Rattle.laws_world.specs.World.{Gone, Mark, Stands, World}
-use Rattle.laws_dialogues.specs.Dialogue.{Stands as StandsSo, is_aside}
+use Rattle.laws_dialogues.specs.Dialogue.{Stands as StandsSo, is_set_aside}
 use Rattle.laws_dialogues.specs.Fetches.{Ask, IsAsk, Rise, linked}
 use Rattle.laws_dialogues.specs.Login.{AtFree, AtOperation}
 use Rattle.laws_dialogues.specs.Stage.{Way, rest}
@@ -191,7 +191,7 @@ abbrev is_awaited : ServerLink Transfer → Bool
 is_awaited (Data.Opening transfer Ways.Accept) = true
 is_awaited link = false
 
-aside_unawaited : (link : ServerLink Transfer) → is_aside link ≡ true → is_awaited link ≡ false
+aside_unawaited : (link : ServerLink Transfer) → is_set_aside link ≡ true → is_awaited link ≡ false
 aside_unawaited Data.Free is = refl
 aside_unawaited (Data.Active endpoint) is = refl
 aside_unawaited Data.Passive is = refl

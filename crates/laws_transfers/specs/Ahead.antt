@@ -15,9 +15,9 @@ pub data Ahead : Type 0 where
   Parted : (accepted : Bool) → Ahead
 
 -- it was told of such an end
-abbrev pub is_parted : Ahead → Bool
-is_parted (Parted accepted) = true
-is_parted ahead = false
+abbrev pub is_parted_ahead : Ahead → Bool
+is_parted_ahead (Parted accepted) = true
+is_parted_ahead ahead = false
 
 -- it was accepted, or is still to be, and nothing was asked for over it
 abbrev pub is_left : Bool → ServerLink Transfer → Bool
@@ -32,19 +32,19 @@ Fits (Listens port) link = plainly.Fits (plainly.Listens port) link
 Fits (Parted accepted) link = is_left accepted link ≡ true
 
 -- without its data connection
-abbrev pub freed : Far → Far
-freed v = record v { session = record v.session { connection = Data.Free } }
+abbrev pub without_connection : Far → Far
+without_connection v = record v { session = record v.session { connection = Data.Free } }
 
 abbrev pub ahead_of : Ahead → Far → Far
 ahead_of Level v = v
 ahead_of Opens v = plainly.ahead_of plainly.Opens v
 ahead_of (Listens port) v = plainly.ahead_of (plainly.Listens port) v
-ahead_of (Parted accepted) v = freed v
+ahead_of (Parted accepted) v = without_connection v
 
 abbrev pub far_ahead : Ahead → Far → Far
 far_ahead ahead v = close_step (ahead_of ahead (close_step v))
 
 -- how many ports were told there, where so many were told here, and which
 abbrev pub Listened : Ahead → (here there : ℕ) → Type 0
-Listened (Listens port) here there = plainly.Listened (plainly.Listens port) here there
+Listened (Listens port) here there = plainly.ListenedAhead (plainly.Listens port) here there
 Listened ahead here there = there ≡ here

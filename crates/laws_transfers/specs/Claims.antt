@@ -15,7 +15,7 @@ use Rattle.laws_drivers.specs.events.Actions.{ArePorts}
 use Rattle.laws_drivers.specs.events.Answers.{IsAnswerBy}
 use Rattle.laws_drivers.specs.events.Faults.{Agree, AreTheDirectRun, Did, Faults, PartingAgree}
 use Rattle.laws_drivers.specs.events.Moments.{AreMoments, begun_at}
-use Rattle.laws_transfers.specs.Ahead.{Ahead, Fits, far_ahead, is_parted}
+use Rattle.laws_transfers.specs.Ahead.{Ahead, Fits, far_ahead, is_parted_ahead}
 use Rattle.laws_transfers.specs.Actions.{AreGranted, AreResets, ClientTransfers, IsAsking, IsServing, IsTransferred}
 use Rattle.laws_world.specs.Agreement.{Leads}
 use Rattle.laws_world.specs.Claims.{AreTimed, AreUnmarked, Beginning, IsFair, world_of}
@@ -74,7 +74,7 @@ pub record TransferIsOfWorld (read : Reading) (b : Beginning) (moments : ℕ →
   pub world : World
   pub leads : Leads read (world_of b) events (begun_at moments (client_actions turns)) world
   pub both : HoldsBoth server client (reports_in (client_actions turns)) world
-  pub granted : AreGranted (begun_at moments (client_actions turns)) → is_parted both.ahead ≡ false
+  pub granted : AreGranted (begun_at moments (client_actions turns)) → is_parted_ahead both.ahead ≡ false
 
 -- so it is of any such actions
 abbrev pub TransfersAreOfWorlds : Type 0

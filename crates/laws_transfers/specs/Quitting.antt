@@ -11,8 +11,8 @@ use Rattle.laws_transfers.specs.Claims.{no_faults}
 use Rattle.laws_world.specs.Claims.{Beginning}
 
 -- after all actions of the client, which is logged in, QUIT was written, and the server's last actions came after that: then its drive was over
-abbrev pub HaveQuit : (b : Beginning) (moments : ℕ → ℕ) (asked : List (Op (List ℕ) × Said)) (server : Stand server_side) → Type 0
-HaveQuit b moments asked server = drives.HaveQuit no_faults b moments asked server
+abbrev pub QuitAfterAll : (b : Beginning) (moments : ℕ → ℕ) (asked : List (Op (List ℕ) × Said)) (server : Stand server_side) → Type 0
+QuitAfterAll b moments asked server = drives.HaveQuit no_faults b moments asked server
 
 -- the answers that a client's drives gave, and the map that the server's drive left, are those of the operations run directly
 abbrev pub TransfersThatQuitAreTheDirectRun : Type 0

@@ -14,7 +14,7 @@ use Rattle.laws_drivers.specs.events.Actions.{Along}
 use Rattle.laws_drivers.specs.events.Answers.{IsAnswerBy}
 use Rattle.laws_drivers.specs.events.Faults.{Did, Faults}
 use Rattle.laws_drivers.specs.events.Moments.{AreMoments, begun_at}
-use Rattle.laws_transfers.specs.Ahead.{Ahead, Fits, far_ahead, is_parted}
+use Rattle.laws_transfers.specs.Ahead.{Ahead, Fits, far_ahead, is_parted_ahead}
 use Rattle.laws_transfers.specs.Claims.{IsNear, no_faults}
 use Rattle.laws_transfers.specs.Actions.{AreGranted, IsAsking, IsTransferred}
 use Rattle.laws_world.specs.Agreement.{Agrees, Leads}
@@ -28,13 +28,13 @@ use Rattle.ftp_server_model.specs.Machine.{IsReading, Reading}
 -- ---- the client
 
 -- a dial of it fails, or it does what it does where none fails
-abbrev pub IsTrying : Action client_side → Held Client → Type 0
-IsTrying (Other (Refused (NotConnected endpoint ∷ []))) at = ⊤
-IsTrying action at = IsAsking action at
+abbrev pub IsAskingOrRefused : Action client_side → Held Client → Type 0
+IsAskingOrRefused (Other (Refused (NotConnected endpoint ∷ []))) at = ⊤
+IsAskingOrRefused action at = IsAsking action at
 
 -- so it does, and it was not refused memory
 abbrev pub ClientTries : Action client_side → (old new : Held Client) → Type 0
-ClientTries action old new = IsTrying action old × ClientIsCalm old new
+ClientTries action old new = IsAskingOrRefused action old × ClientIsCalm old new
 
 abbrev pub TriesAlong : (actions : List (Action client_side)) (start now : Stand client_side) → Led actions start now → Type 0
 TriesAlong actions start now led = Along ClientTries actions start now led
@@ -57,7 +57,7 @@ marks_in (action ∷ before) = marked_by action (marks_in before)
 -- dials of the client may fail
 abbrev pub dial_faults : Faults
 dial_faults = record no_faults {
-  Asks = IsTrying;
+  Asks = IsAskingOrRefused;
   IsAnswer = IsAnswerBy IsTransferred ClientTries;
   AreMarks = λ turns start now led client_start client client_led marks. marks ≡ marks_in (client_actions turns);
 }
@@ -87,7 +87,7 @@ pub record TryIsOfWorld (read : Reading) (b : Beginning) (moments : ℕ → ℕ)
   pub world : World
   pub leads : Leads read (world_of b) events (begun_at moments (client_actions turns)) world
   pub both : HoldsMarked (marks_in (client_actions turns)) server client (reports_in (client_actions turns)) world
-  pub granted : AreGranted (begun_at moments (client_actions turns)) → is_parted both.ahead ≡ false
+  pub granted : AreGranted (begun_at moments (client_actions turns)) → is_parted_ahead both.ahead ≡ false
 
 -- so it is of any such actions
 abbrev pub TriesAreOfWorlds : Type 0

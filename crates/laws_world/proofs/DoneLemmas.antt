@@ -17,7 +17,7 @@ use Rattle.ftp_operation.specs.declared.op.How.{How}
 use Rattle.ftp_operation.specs.declared.op.Op.{Op}
 use Rattle.ftp_operation.specs.declared.op.Op.TheVariants as Ops
 use Rattle.ftp_path.specs.Path.{Names, path_cmp}
-use Rattle.ftp_repr.specs.Skipping.{IsPlace}
+use Rattle.ftp_repr.specs.Skipping.{IsPlaceOfOffset}
 use Rattle.ftp_settings.specs.Representation.{form_of, has_markers, same_kind, same_structure}
 use Rattle.ftp_settings.specs.declared.representation.Kind.{Kind}
 use Rattle.ftp_settings.specs.declared.representation.Kind.TheVariants as Kinds
@@ -35,7 +35,7 @@ use Rattle.ftp_tree.proofs.LeafLemmas.{itself}
 use Rattle.ftp_tree.proofs.PartLemmas.{as-part, part-comes, part-limits, part-stays, part-taken, same-nodes}
 use Rattle.ftp_direct.specs.declared.refusal.Refusal.{Refusal}
 use Rattle.ftp_direct.specs.declared.refusal.Refusal.TheVariants as Refusals
-use Rattle.ftp_direct.specs.Direct.{State, answer, barred_put, changed, chosen, done as does, file_of, first_refusal, limited, named, offset_refusal, or_refused, part, place_at, place_in, place_refusal, put_refusal, refusal, refused_name, refused_octets, refused_room, size_in, skipped}
+use Rattle.ftp_direct.specs.Direct.{State, answer, barred_put, changed, chosen, done as does, file_of, first_refusal, limited, named, offset_refusal, or_refused, part, place_at, place_in, no_place_refusal, put_refusal, refusal, refused_name, refused_octets, refused_room, size_in, skipped}
 use Rattle.ftp_direct.specs.Refusal.{code_of}
 use Rattle.ftp_direct.proofs.PlaceLemmas.{leads, led}
 use Rattle.ftp_direct.proofs.SizeLemmas.{size_piece}
@@ -198,7 +198,7 @@ place_known kind file count image long =
 -- and to nothing else
 place_found : (kind : Kind) (file : List ℕ) (count place : ℕ) → kind ≡ Kinds.Image → place_in kind file count ≡ Some place → place ≡ count
 place_found kind file count place image is =
-    let lies : IsPlace kind file count place = led kind file count place is in
+    let lies : IsPlaceOfOffset kind file count place = led kind file count place is in
     let short : length (take place file) ≡ min place (length file) = length-take place file in
     let sized : size_in kind (take place file) ≡ length (take place file) = ap (λ k. size_in k (take place file)) image in
     let counted : size_in kind (take place file) ≡ count = sym (size_piece kind (take place file)) ∙ lies.goes in
@@ -305,11 +305,11 @@ module _ (state : State) (u : OverBreaks) (moment : ℕ) (image : u.how.represen
       let path : Names = named now u.path in
       let why = known_refusal now.known (refusal now (rest_put u count)) none in
       let offset = both_none (offset_refusal count u.how)
-      (or_refused (barred_put now path) (or_refused (refused_name (place_refusal now path u.how count)) (put_refusal now path (skipped now path u.how count + length (drop count u.octets))))) why in
+      (or_refused (barred_put now path) (or_refused (refused_name (no_place_refusal now path u.how count)) (put_refusal now path (skipped now path u.how count + length (drop count u.octets))))) why in
       let may = both_none (barred_put now path)
-      (or_refused (refused_name (place_refusal now path u.how count)) (put_refusal now path (skipped now path u.how count + length (drop count u.octets)))) offset.1 in
-      let place = both_none (refused_name (place_refusal now path u.how count)) (put_refusal now path (skipped now path u.how count + length (drop count u.octets))) may.1 in
-      let leads_on = not_held (is_some (place_at now path u.how count)) Faults.BadOffset (none_mapped (λ fault. Refusals.BadName) (place_refusal now path u.how count) place.0) in
+      (or_refused (refused_name (no_place_refusal now path u.how count)) (put_refusal now path (skipped now path u.how count + length (drop count u.octets)))) offset.1 in
+      let place = both_none (refused_name (no_place_refusal now path u.how count)) (put_refusal now path (skipped now path u.how count + length (drop count u.octets))) may.1 in
+      let leads_on = not_held (is_some (place_at now path u.how count)) Faults.BadOffset (none_mapped (λ fault. Refusals.BadName) (no_place_refusal now path u.how count) place.0) in
       let skip : skipped now path u.how count ≡ count = skips_found now count (place_at now path u.how count) refl leads_on in
       let short = short_put now path (skipped now path u.how count + length (drop count u.octets)) place.1 in
       omega (arith, within, skip, short, length-drop count u.octets)

@@ -18,7 +18,7 @@ use Rattle.ftp_tree.specs.Tree.{Table, node_at}
 use Rattle.ftp_client_model.specs.declared.client.Standing.{Standing}
 use Rattle.ftp_client_model.specs.declared.client.Standing.TheVariants as Stands
 use Rattle.laws_world.specs.World.{World}
-use Rattle.laws_world.specs.Rows.{session, acted, moves, reading, PeekReports, SessionLogsIn, DownloadBreaks, WholeDownload, CutUpload}
+use Rattle.laws_world.specs.Rows.{session, acted, moves, row_reading, PeekReports, SessionLogsIn, DownloadBreaks, WholeDownload, CutUpload}
 
 -- the client has PASS to give
 abbrev needed : Table → World
@@ -39,13 +39,13 @@ passed table is_there = record (asked table) { far = entering is_there (guest []
 abbrev pass_line : List ℕ
 pass_line = codes "PASS secret"
 
-pass_is_done : (table : Table) → heard_line (reading pass_line) (asked table).far ≡ entering (is_directory (node_at table [])) (guest []) (asked table).far
+pass_is_done : (table : Table) → heard_line (row_reading pass_line) (asked table).far ≡ entering (is_directory (node_at table [])) (guest []) (asked table).far
 unfolding answered line_heard wants obeyed hears_octet gives_control login_account
 pass_is_done table = refl
 
-pass_is_heard : (table : Table) → hears reading (asked table).far (written_line pass_line) ≡ entering (is_directory (node_at table [])) (guest []) (asked table).far
+pass_is_heard : (table : Table) → hears row_reading (asked table).far (written_line pass_line) ≡ entering (is_directory (node_at table [])) (guest []) (asked table).far
 unfolding answered line_heard wants obeyed hears_octet gives_control
-pass_is_heard table = (line_is_heard reading pass_line (asked table).far (refl, omega arith) refl).whole ∙ pass_is_done table
+pass_is_heard table = (line_is_heard row_reading pass_line (asked table).far (refl, omega arith) refl).whole ∙ pass_is_done table
 
 pass_comes : (table : Table) → (asked table).control_to_server ≡ written_line pass_line
 unfolding answered line_heard wants obeyed hears_octet gives_control
@@ -55,10 +55,10 @@ pass_count : (table : Table) → count table ≡ 13
 unfolding answered line_heard wants obeyed hears_octet gives_control
 pass_count table = refl
 
-hears_pass : (table : Table) → pushed reading ControlToServer (count table) (asked table) ≡ passed table (is_directory (node_at table []))
+hears_pass : (table : Table) → pushed row_reading ControlToServer (count table) (asked table) ≡ passed table (is_directory (node_at table []))
 hears_pass table =
-    ap (λ octets. record (asked table) { far = hears reading (asked table).far (take (count table) octets); control_to_server = drop (count table) octets }) (pass_comes table)
-    ∙ ap (λ n. record (asked table) { far = hears reading (asked table).far (take n (written_line pass_line)); control_to_server = drop n (written_line pass_line) }) (pass_count table)
+    ap (λ octets. record (asked table) { far = hears row_reading (asked table).far (take (count table) octets); control_to_server = drop (count table) octets }) (pass_comes table)
+    ∙ ap (λ n. record (asked table) { far = hears row_reading (asked table).far (take n (written_line pass_line)); control_to_server = drop n (written_line pass_line) }) (pass_count table)
     ∙ ap (λ far. record (asked table) { far = far; control_to_server = [] }) (pass_is_heard table)
 
 -- the 230 goes to the client

@@ -205,17 +205,17 @@ pub record IsDirect (from : State) (begun : List Order) (w : World) : Type 0 whe
 -- ---- runs of a world
 
 -- what an event began, where it was possible
-abbrev pub begun_by : Event → Bool → List Order
-begun_by (Next op moment) true = Single op moment ∷ []
-begun_by (Upload upload moment) true = Tries upload moment ∷ []
-begun_by event possible = []
+abbrev pub begun_by_event : Event → Bool → List Order
+begun_by_event (Next op moment) true = Single op moment ∷ []
+begun_by_event (Upload upload moment) true = Tries upload moment ∷ []
+begun_by_event event possible = []
 
 -- a list of events leads from a world to another, and began these operations
 abbrev pub Leads : Reading → World → List Event → List Order → World → Type 0
 Leads read w [] begun new = (begun ≡ []) × (new ≡ w)
 Leads read w (event ∷ events) begun new =
     (possible : Bool) × (next : World) × (later : List Order)
-    × Happens read event w possible next × (begun ≡ begun_by event possible ++ later) × Leads read next events later new
+    × Happens read event w possible next × (begun ≡ begun_by_event event possible ++ later) × Leads read next events later new
 
 -- no break, refusal or end of the control connection
 abbrev pub IsHonest : Event → Type 0

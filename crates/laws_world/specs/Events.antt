@@ -222,16 +222,16 @@ abbrev pub can_begin : World → Bool
 can_begin w = not (near.is_busy w.near) && is_gone w.link && not (is_asked_for w)
 
 -- the server's clock is set, the client has begun, and what it began has no mark yet
-abbrev pub begun_at : ℕ → Near → World → World
-begun_at moment begun w = record w { far = far.clocked moment w.far; near = begun; marks = w.marks ++ [] ∷ [] }
+abbrev pub begins_at_moment : ℕ → Near → World → World
+begins_at_moment moment begun w = record w { far = far.clocked moment w.far; near = begun; marks = w.marks ++ [] ∷ [] }
 
 -- the client begins an operation
 abbrev pub operation_begins : Op (List ℕ) → ℕ → World → World
-operation_begins op moment w = begun_at moment (near.starts op w.near) w
+operation_begins op moment w = begins_at_moment moment (near.starts op w.near) w
 
 -- it begins an upload over breaks: all its tries have the one moment (own choice)
 abbrev pub upload_begins : OverBreaks → ℕ → World → World
-upload_begins upload moment w = begun_at moment (near.uploads upload w.near) w
+upload_begins upload moment w = begins_at_moment moment (near.uploads upload w.near) w
 
 -- ---- all events
 

@@ -62,8 +62,8 @@ pub record Fetched : Type 0 where
   pub asked : Option ℕ
 
 -- the file that a command sends as a listing, MLSD where all facts are in force
-abbrev pub text_by : ListVerb → State → List ℕ → List ℕ
-text_by verb state text = listing_file verb (part state) (named_or_here state text) text
+abbrev pub listing_text_by : ListVerb → State → List ℕ → List ℕ
+listing_text_by verb state text = listing_file verb (part state) (named_or_here state text) text
 
 -- octets that all are asked for
 abbrev pub fetched : Representation → ℕ → List ℕ → Fetched
@@ -75,9 +75,9 @@ download_of state (Ops.Get text how) = Some (fetched (settings_of how) 0 (file_o
 download_of state (Ops.GetFrom text offset how) =
     Some (fetched (settings_of how) offset (drop (skipped state (named state text) how offset) (file_of state text)))
 download_of state (Ops.Peek text count how) = Some (record (fetched (settings_of how) 0 (file_of state text)) { asked = Some count })
-download_of state (Ops.List text how) = Some (fetched (listing_settings how.representation.mode) 0 (text_by Verbs.Mlsd state text))
-download_of state (Ops.Names text how) = Some (fetched (listing_settings how.representation.mode) 0 (text_by Verbs.Nlst state text))
-download_of state (Ops.Text verb text how) = Some (fetched (listing_settings how.representation.mode) 0 (text_by verb state text))
+download_of state (Ops.List text how) = Some (fetched (listing_settings how.representation.mode) 0 (listing_text_by Verbs.Mlsd state text))
+download_of state (Ops.Names text how) = Some (fetched (listing_settings how.representation.mode) 0 (listing_text_by Verbs.Nlst state text))
+download_of state (Ops.Text verb text how) = Some (fetched (listing_settings how.representation.mode) 0 (listing_text_by verb state text))
 download_of state other = None
 
 -- its one written text; the server sends own markers wherever the settings allow them

@@ -36,15 +36,15 @@ use Rattle.ftp_server_model.specs.declared.heard.HeardLine.TheVariants.{Bad, Ask
 -- ---- how a row is written
 
 -- the lines of the rows, as a server reads them
-abbrev pub or_else : List ℕ → List ℕ → Command (List ℕ) → HeardLine (List ℕ) → HeardLine (List ℕ)
-or_else line text command other = if pointwise nat_eq line text then Asks command else other
+abbrev pub command_or_else : List ℕ → List ℕ → Command (List ℕ) → HeardLine (List ℕ) → HeardLine (List ℕ)
+command_or_else line text command other = if pointwise nat_eq line text then Asks command else other
 
 -- three lines say commands, and all others none
-abbrev pub reading : Reading
-reading line =
-    or_else line (codes "USER guest") (command.User (codes "guest"))
-    (or_else line (codes "PASS secret") (command.Pass (codes "secret"))
-    (or_else line (codes "ABOR") command.Abor
+abbrev pub row_reading : Reading
+row_reading line =
+    command_or_else line (codes "USER guest") (command.User (codes "guest"))
+    (command_or_else line (codes "PASS secret") (command.Pass (codes "secret"))
+    (command_or_else line (codes "ABOR") command.Abor
     (Bad Faults.Unknown)))
 
 -- all that is due is moved and taken; only so many octets are; a link opens; an end is told; the link breaks; an operation begins
@@ -58,21 +58,21 @@ pub data Act : Type 0 where
 
 -- the sender gives so many octets, and the receiver takes as many
 abbrev pub moved : Queue → ℕ → World → World
-moved queue count w = after_event (pushed reading queue count (pulled queue w count))
+moved queue count w = after_event (pushed row_reading queue count (pulled queue w count))
 
 -- each act is an event, and what the world does for its ends behind it
-abbrev pub does : Act → World → World
-does (moves queue) w = moved queue (length (due queue w)) w
-does (moves_some queue count) w = moved queue count w
-does links w = after_event (link_opens w)
-does (tells queue) w = after_event (told queue w)
-does cuts w = after_event (link_breaks w)
-does (asks op) w = after_event (operation_begins op 7 w)
+abbrev pub does_act : Act → World → World
+does_act (moves queue) w = moved queue (length (due queue w)) w
+does_act (moves_some queue count) w = moved queue count w
+does_act links w = after_event (link_opens w)
+does_act (tells queue) w = after_event (told queue w)
+does_act cuts w = after_event (link_breaks w)
+does_act (asks op) w = after_event (operation_begins op 7 w)
 
 -- acts, one after another
 abbrev pub acted : List Act → World → World
 acted [] w = w
-acted (act ∷ acts) w = acted acts (does act w)
+acted (act ∷ acts) w = acted acts (does_act act w)
 
 -- `guest` logs in, over a map
 abbrev pub beginning : Table → Beginning

@@ -15,7 +15,7 @@ pub record IsStill (w : World) : Type 0 where
   pub ended : (queue : Queue) → can_happen (End queue) w ≡ false
 
 -- what a call that takes no memory finds of a queue: no octet is moved into its room, and none of it may be taken
-pub record IsAtRest (queue : Queue) (w : World) : Type 0 where
+pub record IsQueueAtRest (queue : Queue) (w : World) : Type 0 where
   pub moved : (has_octets (due queue w) && nat_lt (length (in_queue queue w)) queue_room) ≡ false
   pub taken : (has_octets (in_queue queue w) && may_take queue w) ≡ false
 
@@ -40,4 +40,4 @@ QuietIsStill = (w : World) → IsQuiet w → IsStill w
 -- where every queue is at rest, no link is asked for and nobody is to be told of an end, a world is still: so settling can test it
 abbrev pub RestingIsStill : Type 0
 RestingIsStill =
-    (w : World) → ((queue : Queue) → IsAtRest queue w) → can_happen Open w ≡ false → ((queue : Queue) → can_happen (End queue) w ≡ false) → IsStill w
+    (w : World) → ((queue : Queue) → IsQueueAtRest queue w) → can_happen Open w ≡ false → ((queue : Queue) → can_happen (End queue) w ≡ false) → IsStill w

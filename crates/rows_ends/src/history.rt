@@ -1,6 +1,6 @@
 // What was asked of the other side of data connections, and what it answered, in order (RFC 959, section 3.2).
 ghost use Rattle.std.specs.Prelude.{◌≡◌, ◌∷◌, [], false};
-ghost use Rattle.rows_ends.specs.History.{IsSaid, asked_by, asked_in};
+ghost use Rattle.rows_ends.specs.History.{ListsActions, asked_by_call, asked_in};
 
 use ftp_endpoint::{Endpoint, Host, write_extended};
 use http_server::Log;
@@ -34,7 +34,7 @@ pub struct History {
     is_short: bool,
     /// Each action, with the octets that were written to its data connection by then.
     pub(crate) log: Log<PortCall, Vec<u8>>,
-    ghost said: { IsSaid is_short actions.items log.items },
+    ghost said: { ListsActions is_short actions.items log.items },
 }
 
 impl History {
@@ -53,7 +53,7 @@ impl History {
     /// This was asked too, of no data connection that stands.
     pub fn note(&mut self, action: PortCall)
         // Witness: as of `new`.
-        ensures { asked_in self.new.log.items ≡ asked_by action [] ∷ asked_in self.old.log.items }
+        ensures { asked_in self.new.log.items ≡ asked_by_call action [] ∷ asked_in self.old.log.items }
     {
         let none = Vec::new(self.alloc);
         self.note_of(action, &none);
@@ -62,7 +62,7 @@ impl History {
     /// This was asked too, of a data connection to which these octets were written by then.
     pub fn note_of(&mut self, action: PortCall, written: &Vec<u8>)
         // Witness: as of `new`.
-        ensures { asked_in self.new.log.items ≡ asked_by action written.now.items ∷ asked_in self.old.log.items }
+        ensures { asked_in self.new.log.items ≡ asked_by_call action written.now.items ∷ asked_in self.old.log.items }
     {
         let log = self.log.and(&action, written);
         if self.actions.push(action).is_err() {

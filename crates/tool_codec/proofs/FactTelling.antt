@@ -4,7 +4,7 @@ use Rattle.std.specs.Prelude.{IsErr}
 use Rattle.std.specs.Str.Lines.{lines}
 use Rattle.std.specs.Io.KnownBytes.{Consumes, IsAtEnd, Keeps}
 use Rattle.std.proofs.KnownBytes.{Consumes-trans, Consumes-kept}
-use Rattle.tool_codec.specs.FactLines.{AnswersFront, TellsFront, TellsTo}
+use Rattle.tool_codec.specs.FactLines.{AnswersFront, TellsFront, TellsLinesTo}
 use Rattle.tool_codec.specs.FactHearing.{Told, StandsAfter}
 use Rattle.tool_codec.specs.declared.fact_lines.FactLines.{FactLines}
 use Rattle.ftp_ports.specs.declared.pieces.Failed.{Failed}
@@ -28,7 +28,7 @@ facts_go_on before mid after old now later xs kept next follows read stands = re
 -- the input ended, and the last line is answered, or its answer broke off
 pub facts_end : {A : Type 0} (before mid after old now later : Option (List ℕ)) (xs : List ℕ) (kept : FactLines A) (outcome : Result Bool Failed)
     → (follows : FactsFollow before mid old now kept) → Consumes mid after xs → xs ≡ [] → IsAtEnd after
-    → Told A (lines follows.octets) old later outcome → TellsTo A before after old later outcome
+    → Told A (lines follows.octets) old later outcome → TellsLinesTo A before after old later outcome
 facts_end before mid after old now later xs kept (Ok faulty) follows read none ended told = record {
   octets = follows.octets;
   read = subst (λ l. Consumes before after l) (ap (λ l. follows.octets ++ l) none ∙ append-nil follows.octets)
@@ -47,7 +47,7 @@ facts_end before mid after old now later xs kept (Err failed) follows read none 
   wrote = told;
 }
 
-pub facts_failed : (A : Type 0) (before after old new : Option (List ℕ)) (outcome : Result Bool Failed) → IsErr outcome → TellsFront A before after old new → TellsTo A before after old new outcome
+pub facts_failed : (A : Type 0) (before after old new : Option (List ℕ)) (outcome : Result Bool Failed) → IsErr outcome → TellsFront A before after old new → TellsLinesTo A before after old new outcome
 facts_failed A before after old new (Ok faulty) failed front = absurd (let e : false ≡ true = failed in cc)
 facts_failed A before after old new (Err e) failed front = front
 

@@ -22,7 +22,7 @@ use Rattle.ftp_settings.specs.declared.representation.Mode.TheVariants.{Stream, 
 use Rattle.ftp_mode.specs.Block.{marked_text}
 use Rattle.ftp_mode.specs.Wire.{wire}
 use Rattle.ftp_mode.specs.Framing.{still_to_write, owed_octets, writing}
-use Rattle.ftp_mode.specs.Writing.{writer, blank, with_marks}
+use Rattle.ftp_mode.specs.Writing.{writer, blank_writing, with_marks}
 use Rattle.ftp_mode.proofs.WrittenLemmas.{writes_wire, writes_marked}
 use Rattle.ftp_ports.proofs.Fronts.{Appends-front, AppendsFront-more, Appends-then-front}
 use Rattle.ftp_ports.specs.Beginning.{AppendsFront}
@@ -38,14 +38,14 @@ shape k s m = record { kind = k; structure = s; mode = m }
 
 -- own markers from the start, where they have an effect
 marks_in : (k : Kind) (s : Structure) (m : Mode) → has_markers (shape k s m) ≡ true → (b : List ℕ) → length b < 2 ^ 64
-    → gives writer (with_marks 0 (blank m s)) (signs_of (form_of (shape k s m)) b) ≡ frame_text (shape k s m) true b
+    → gives writer (with_marks 0 (blank_writing m s)) (signs_of (form_of (shape k s m)) b) ≡ frame_text (shape k s m) true b
 marks_in Image File Block has b fits = writes_marked 0 b (omega (arith, fits))
 marks_in Image File Stream has b fits = absurd (false≢true has)
 marks_in Image Record Stream has b fits = absurd (false≢true has)
 marks_in Image Record Block has b fits = absurd (false≢true has)
 marks_in Ascii s m has b fits = absurd (false≢true has)
 
-pub text_marked : (r : Representation) (marks : Bool) (f g : Framer) → writing f ≡ blank r.mode r.structure → writing g ≡ with_marks 0 (writing f)
+pub text_marked : (r : Representation) (marks : Bool) (f g : Framer) → writing f ≡ blank_writing r.mode r.structure → writing g ≡ with_marks 0 (writing f)
     → marks ≡ true → has_markers r ≡ true
     → (b : List ℕ) → length b < 2 ^ 64 → gives writer (writing g) (signs_of (form_of r) b) ≡ frame_text r marks b
 text_marked r marks f g state marked asked has b fits =
@@ -58,7 +58,7 @@ pub has_none : (asked has : Bool) → has ≡ false → (asked && has) ≡ false
 has_none true has none = none
 has_none false has none = refl
 
-pub text_plain : (r : Representation) (marks : Bool) (f : Framer) → writing f ≡ blank r.mode r.structure → (marks && has_markers r) ≡ false
+pub text_plain : (r : Representation) (marks : Bool) (f : Framer) → writing f ≡ blank_writing r.mode r.structure → (marks && has_markers r) ≡ false
     → (b : List ℕ) → gives writer (writing f) (signs_of (form_of r) b) ≡ frame_text r marks b
 text_plain r marks f state none b =
     ap (λ w. gives writer w (signs_of (form_of r) b)) state

@@ -6,7 +6,7 @@ use Rattle.ftp_pieces.specs.Machine.{after, gives}
 use Rattle.ftp_repr.specs.Signs.{octet}
 use Rattle.ftp_repr.specs.Content.{content}
 use Rattle.ftp_repr.specs.Receiving.{fresh, receiving}
-use Rattle.ftp_repr.specs.Received.{Receives, receiver_form, taking}
+use Rattle.ftp_repr.specs.Received.{ReceivesSigns, receiver_form, taking_at_stage}
 use Rattle.ftp_repr.proofs.ContentLemmas.{gives-receiving}
 use Rattle.ftp_pieces.proofs.MachineLemmas.{after-append, gives-append}
 use Rattle.ftp_mode.specs.declared.deframer.Deframer.{Deframer}
@@ -49,7 +49,7 @@ pub record Hearing {A : Type 0} (r : Representation) (wire written : List ℕ) (
   pub state : reading now.deframer ≡ read_by r wire
   pub says : said ++ owed now.deframer ≡ said_by r wire
   pub form : receiver_form now.receiver ≡ form_of r
-  pub taken : taking now.receiver ≡ after (receiving (form_of r)) fresh (file_signs said)
+  pub taken : taking_at_stage now.receiver ≡ after (receiving (form_of r)) fresh (file_signs said)
   pub settled : written ++ now.settled.items ≡ gives (receiving (form_of r)) fresh (file_signs said)
 
 pub hearing_of : {A : Type 0} (r : Representation) (wire written : List ℕ) (now : Receiving A) → StandsAfter r wire written now → Hearing r wire written now
@@ -79,7 +79,7 @@ stands_of r wire written now hearing owes going =
 -- a step takes octets, and what they say is received
 pub hear_step : {A : Type 0} (r : Representation) (wire written piece : List ℕ) (old new : Receiving A) (mid : Deframer) (step : Step)
     → Hearing r wire written old → Hears old.deframer piece step mid → new.deframer ≡ mid
-    → Receives old.receiver (file_signs (part_said step.part (last_marker mid))) new.receiver old.settled.items new.settled.items
+    → ReceivesSigns old.receiver (file_signs (part_said step.part (last_marker mid))) new.receiver old.settled.items new.settled.items
     → Hearing r (wire ++ take step.taken piece) written new
 hear_step r wire written piece old new mid step hearing hears same receives =
     let s = start r.mode r.structure in
@@ -100,14 +100,14 @@ hear_step r wire written piece old new mid step hearing hears same receives =
           ∙ sym (gives-append reader s wire xs);
       form = receives.form ∙ hearing.form;
       taken = receives.state
-          ∙ ap (λ g. after (receiving g) (taking old.receiver) more) hearing.form
+          ∙ ap (λ g. after (receiving g) (taking_at_stage old.receiver) more) hearing.form
           ∙ ap (λ t. after (receiving f) t more) hearing.taken
           ∙ sym (after-append (receiving f) fresh (file_signs hearing.said) more)
           ∙ ap (after (receiving f) fresh) (sym (file-append hearing.said part));
       settled = ap (λ l. written ++ l) receives.added
-          ∙ sym (append_assoc written old.settled.items (gives (receiving (receiver_form old.receiver)) (taking old.receiver) more))
-          ∙ ap (λ l. l ++ gives (receiving (receiver_form old.receiver)) (taking old.receiver) more) hearing.settled
-          ∙ ap (λ g. before ++ gives (receiving g) (taking old.receiver) more) hearing.form
+          ∙ sym (append_assoc written old.settled.items (gives (receiving (receiver_form old.receiver)) (taking_at_stage old.receiver) more))
+          ∙ ap (λ l. l ++ gives (receiving (receiver_form old.receiver)) (taking_at_stage old.receiver) more) hearing.settled
+          ∙ ap (λ g. before ++ gives (receiving g) (taking_at_stage old.receiver) more) hearing.form
           ∙ ap (λ t. before ++ gives (receiving f) t more) hearing.taken
           ∙ sym (gives-append (receiving f) fresh (file_signs hearing.said) more)
           ∙ ap (gives (receiving f) fresh) (sym (file-append hearing.said part));
@@ -123,7 +123,7 @@ need_all piece old mid step hears need = elim hears.some [
 -- the whole piece was taken
 pub hear_all : {A : Type 0} (r : Representation) (wire written piece : List ℕ) (old new : Receiving A) (mid : Deframer) (step : Step)
     → Hearing r wire written old → Hears old.deframer piece step mid → new.deframer ≡ mid
-    → Receives old.receiver (file_signs (part_said step.part (last_marker mid))) new.receiver old.settled.items new.settled.items
+    → ReceivesSigns old.receiver (file_signs (part_said step.part (last_marker mid))) new.receiver old.settled.items new.settled.items
     → step.part ≡ Need → StandsAfter r (wire ++ piece) written new
 hear_all {A} r wire written piece old new mid step hearing hears same receives need =
     let next = hear_step r wire written piece old new mid step hearing hears same receives in

@@ -7,7 +7,7 @@ use Rattle.ftp_repr.specs.Signs.{end_record, end_file}
 use Rattle.ftp_settings.specs.Representation.{Form, form_of}
 use Rattle.ftp_repr.specs.Content.{content}
 use Rattle.ftp_repr.specs.Receiving.{Taking, fresh, receiving}
-use Rattle.ftp_repr.specs.Received.{Receives, receiver_form, taking}
+use Rattle.ftp_repr.specs.Received.{ReceivesSigns, receiver_form, taking_at_stage}
 use Rattle.ftp_settings.specs.declared.representation.Kind.{Kind}
 use Rattle.ftp_settings.specs.declared.representation.Structure.{Structure}
 use Rattle.ftp_settings.specs.declared.representation.Structure.TheVariants.{File, Record}
@@ -21,13 +21,13 @@ use Rattle.ftp_mode.specs.Said.{Said, says, file_signs}
 use Rattle.ftp_mode.specs.Stream.{code_said}
 use Rattle.ftp_mode.specs.Block.{has, ends_of, octets_of}
 use Rattle.ftp_mode.specs.Units.{WireUnit, one, escape, whole, unit_said, unit_ends, units_said, IsText}
-use Rattle.ftp_mode.specs.Reading.{Reading, Place, going, failed, is_complete, is_complete_at, at_end, reader, start}
+use Rattle.ftp_mode.specs.Reading.{Reading, Place, going, failed, is_complete, is_complete_at, at_wire_end, reader, start}
 use Rattle.ftp_mode.specs.Deframing.{reading}
 use Rattle.ftp_mode.specs.Laws.{unsaid_end, ended_content, settled_content}
 use Rattle.ftp_mode.proofs.ExactLemmas.{to_reads, says_front, fails_fault, early_reads, early_faults}
 use Rattle.tool_codec.proofs.Hearing.{file-append}
 use Rattle.tool_codec.specs.Receiving.{read_by, said_by, StandsAfter, WholeAfter}
-use Rattle.tool_codec.specs.WireReading.{ReadsAs, Settles, Stops}
+use Rattle.tool_codec.specs.WireReading.{ReadsAs, SettlesFile, ReadsNoFile}
 use Rattle.ftp_settings.specs.declared.representation.Representation.{Representation}
 use Rattle.tool_codec.specs.declared.receiving.Receiving.{Receiving}
 
@@ -107,25 +107,25 @@ done_by : (n : ℕ) (p : Place) (b : Bool) → is_complete_at p ≡ b → is_com
 done_by n p true e done = e
 done_by n p false e done = absurd done
 
-at_end_done : (t : Reading) → is_complete (at_end t) → is_complete t
+at_end_done : (t : Reading) → is_complete (at_wire_end t) → is_complete t
 at_end_done (going n p) done = done_by n p (is_complete_at p) refl done
 at_end_done (failed fault) done = absurd done
 
 pub end_whole : {A : Type 0} (r : Representation) (wire written : List ℕ) (ended : Bool) (old new : Receiving A) (state : Reading)
-    → length wire < 2 ^ 64 → StandsAfter r wire written old → ended ≡ true → state ≡ at_end (reading old.deframer) → is_complete state
-    → Receives old.receiver (end_file ∷ []) new.receiver old.settled.items new.settled.items → WholeAfter r wire written ended new
+    → length wire < 2 ^ 64 → StandsAfter r wire written old → ended ≡ true → state ≡ at_wire_end (reading old.deframer) → is_complete state
+    → ReceivesSigns old.receiver (end_file ∷ []) new.receiver old.settled.items new.settled.items → WholeAfter r wire written ended new
 end_whole r wire written ended old new state fits stands done is complete receives =
     let f = form_of r in
     let said = file_signs (said_by r wire) in
     let P : Reading → Type 0 = λ t. is_complete t in
-    let ends : is_complete (read_by r wire) = at_end_done (read_by r wire) (subst P (is ∙ ap at_end stands.state) complete) in
-    let last = gives (receiving (receiver_form old.receiver)) (taking old.receiver) (end_file ∷ []) in
+    let ends : is_complete (read_by r wire) = at_end_done (read_by r wire) (subst P (is ∙ ap at_wire_end stands.state) complete) in
+    let last = gives (receiving (receiver_form old.receiver)) (taking_at_stage old.receiver) (end_file ∷ []) in
     record {
       whole = done;
       complete = ends;
       settled = ap (λ l. written ++ l) receives.added ∙ sym (append_assoc written old.settled.items last)
           ∙ ap (λ l. l ++ last) (stands.settled ∙ sym (gives-receiving f said))
-          ∙ ap (λ g. gives (receiving f) fresh said ++ gives (receiving g) (taking old.receiver) (end_file ∷ [])) stands.form
+          ∙ ap (λ g. gives (receiving f) fresh said ++ gives (receiving g) (taking_at_stage old.receiver) (end_file ∷ [])) stands.form
           ∙ ap (λ t. gives (receiving f) fresh said ++ gives (receiving f) t (end_file ∷ [])) stands.taken
           ∙ sym (gives-append (receiving f) fresh said (end_file ∷ []))
           ∙ end_content r.mode f wire fits ends;
@@ -133,7 +133,7 @@ end_whole r wire written ended old new state fits stands done is complete receiv
 
 -- WHAT A WIRE SAYS
 
-pub settles_of : (r : Representation) (w : List ℕ) → length w < 2 ^ 64 → Settles r w (settled_content r.mode (form_of r) w)
+pub settles_of : (r : Representation) (w : List ℕ) → length w < 2 ^ 64 → SettlesFile r w (settled_content r.mode (form_of r) w)
 settles_of r w fits = (said_by r w, says_front r.mode r.structure w (said_by r w) fits refl, refl)
 
 pub reads_of : (r : Representation) (w : List ℕ) → length w < 2 ^ 64 → is_complete (read_by r w) → ReadsAs r w (ended_content r.mode (form_of r) w)
@@ -142,7 +142,7 @@ reads_of r w fits done =
     (said, to_reads r.mode r.structure w said fits (record { complete = done; says = refl }), refl)
 
 pub stops_of : (r : Representation) (w : List ℕ) (ended : Bool) (end : Type 0) (fault : FrameFault) → length w < 2 ^ 64 → (ended ≡ true → end)
-    → ((read_by r w ≡ failed fault) ⊎ ((fault ≡ EndedEarly) × (ended ≡ true) × (at_end (read_by r w) ≡ failed EndedEarly))) → Stops r w end fault
+    → ((read_by r w ≡ failed fault) ⊎ ((fault ≡ EndedEarly) × (ended ≡ true) × (at_wire_end (read_by r w) ≡ failed EndedEarly))) → ReadsNoFile r w end fault
 stops_of r w ended end fault fits done stops = elim stops [
   | inl fails ↦ inl (fails_fault r.mode r.structure w fault fits fails)
   | inr early ↦ inr (

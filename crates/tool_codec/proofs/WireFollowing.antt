@@ -4,7 +4,7 @@ use Rattle.std.specs.Prelude.{Bool, IsErr, false, true}
 use Rattle.std.proofs.KnownBytes.{Appends-trans, Consumes-trans, Consumes-kept}
 use Rattle.std.specs.Io.KnownBytes.{Appends, Consumes, IsAtEnd, Keeps}
 use Rattle.ftp_pieces.specs.Machine.{IsFront, after}
-use Rattle.ftp_repr.specs.Received.{receiver_form, taking}
+use Rattle.ftp_repr.specs.Received.{receiver_form, taking_at_stage}
 use Rattle.ftp_repr.proofs.ContentLemmas.{content_front}
 use Rattle.ftp_pieces.proofs.MachineLemmas.{gives-front}
 use Rattle.ftp_mode.specs.declared.fault.FrameFault.{FrameFault}
@@ -18,7 +18,7 @@ use Rattle.tool_codec.proofs.WireEnding.{settles_of, reads_of, stops_of}
 use Rattle.ftp_ports.specs.Beginning.{AppendsFront}
 use Rattle.ftp_settings.specs.Representation.{form_of}
 use Rattle.tool_codec.specs.Receiving.{said_by, StandsAfter, FaultyAfter, WholeAfter, HearsAfter}
-use Rattle.tool_codec.specs.WireReading.{ReadsFile, ReadsFault, ReadsFront, ReadsTo}
+use Rattle.tool_codec.specs.WireReading.{ReadsFile, ReadsFault, ReadsFront, ReadsWireTo}
 use Rattle.ftp_settings.specs.declared.representation.Representation.{Representation}
 use Rattle.ftp_ports.specs.declared.pieces.Failed.{Failed}
 use Rattle.tool_codec.specs.declared.receiving.WireState.{WireState}
@@ -43,7 +43,7 @@ written_out r wire written old new stands deframer receiver empty = record {
   state = ap reading deframer ∙ stands.state;
   owes = ap owed deframer ∙ stands.owes;
   form = ap receiver_form receiver ∙ stands.form;
-  taken = ap taking receiver ∙ stands.taken;
+  taken = ap taking_at_stage receiver ∙ stands.taken;
   settled = ap (λ l. (written ++ old.settled.items) ++ l) empty ∙ append-nil (written ++ old.settled.items) ∙ stands.settled;
 }
 
@@ -168,6 +168,6 @@ wire_faulty r before mid after old now later turn xs ended receiving next fault 
     }
 
 pub reads_failed : (r : Representation) (before after old new : Option (List ℕ)) (outcome : Result (Option FrameFault) Failed) → IsErr outcome
-    → ReadsFront r before after old new → ReadsTo r before after old new outcome
+    → ReadsFront r before after old new → ReadsWireTo r before after old new outcome
 reads_failed r before after old new (Ok fault) failed front = absurd (let e : false ≡ true = failed in cc)
 reads_failed r before after old new (Err e) failed front = front

@@ -11,9 +11,9 @@ use Rattle.ftp_settings.specs.declared.representation.Representation.{Representa
 -- the second writer held (untold, told).
 
 -- it was done: a file was written as its wire and nothing was told, or a wire was read
-abbrev pub Goes : Representation → Direction → (before after old new untold told : Option (List ℕ)) → ℕ → Type 0
-Goes r (ToWire marks) before after old new untold told status = Frames r marks before after old new status × Appends untold told []
-Goes r ToFile before after old new untold told status = Tells r before after old new untold told status
+abbrev pub GoesInDirection : Representation → Direction → (before after old new untold told : Option (List ℕ)) → ℕ → Type 0
+GoesInDirection r (ToWire marks) before after old new untold told status = Frames r marks before after old new status × Appends untold told []
+GoesInDirection r ToFile before after old new untold told status = Tells r before after old new untold told status
 
 -- it broke off
 abbrev pub GoesFront : Representation → Direction → (before after old new untold told : Option (List ℕ)) → Type 0

@@ -7,7 +7,7 @@ use Rattle.std.specs.declared.result.Result.{Result}
 use Rattle.std.specs.declared.result.Result.TheVariants.{Ok, Err}
 use Rattle.std.specs.Io.KnownBytes.{Appends, Consumes, IsAtEnd}
 use Rattle.ftp_facts.specs.Entry.{SaysEntry, Refuses, entry_line}
-use Rattle.ftp_facts.specs.Fault.{fault_text}
+use Rattle.ftp_facts.specs.Fault.{fact_fault_text}
 use Rattle.ftp_facts.specs.declared.entry.Entry.{Entry}
 use Rattle.ftp_facts.specs.declared.fault.FactFault.{FactFault}
 use Rattle.ftp_facts.specs.declared.fault.FactFault.TheVariants.{Memory}
@@ -24,7 +24,7 @@ line_feed = 10
 -- the name of its fault. A is the type of an entry's allocator, and says nothing.
 abbrev pub Answers : Type 0 → List ℕ → Bool → List ℕ → Type 0
 Answers A line false answer = (entry : Entry A) × SaysEntry line entry × (answer ≡ entry_line entry)
-Answers A line true answer = (fault : FactFault) × (fault ≢ Memory) × Refuses line fault × (answer ≡ fault_text fault)
+Answers A line true answer = (fault : FactFault) × (fault ≢ Memory) × Refuses line fault × (answer ≡ fact_fault_text fault)
 
 -- the answers of lines, each ended by LF, and whether one of them is a fault
 abbrev pub AnswersAll : Type 0 → List (List ℕ) → Bool → List ℕ → Type 0
@@ -64,6 +64,6 @@ pub record TellsFront (A : Type 0) (before after : Option (List ℕ)) (old new :
   pub wrote : AnswersFront A (lines octets) old new
 
 -- how it ended: well, with whether a line was faulty, or by breaking off
-abbrev pub TellsTo : Type 0 → (before after old new : Option (List ℕ)) → Result Bool Failed → Type 0
-TellsTo A before after old new (Ok faulty) = TellsAll A before after old new (if faulty then 1 else 0)
-TellsTo A before after old new (Err failed) = TellsFront A before after old new
+abbrev pub TellsLinesTo : Type 0 → (before after old new : Option (List ℕ)) → Result Bool Failed → Type 0
+TellsLinesTo A before after old new (Ok faulty) = TellsAll A before after old new (if faulty then 1 else 0)
+TellsLinesTo A before after old new (Err failed) = TellsFront A before after old new

@@ -2,11 +2,11 @@
 use Rattle.std.specs.Prelude.{◌≡◌, ℕ, List, [], ◌++◌, ◌⊎◌, Bool, true}
 use Rattle.ftp_pieces.specs.Machine.{after, gives}
 use Rattle.ftp_repr.specs.Receiving.{fresh, receiving}
-use Rattle.ftp_repr.specs.Received.{receiver_form, taking}
+use Rattle.ftp_repr.specs.Received.{receiver_form, taking_at_stage}
 use Rattle.ftp_mode.specs.declared.fault.FrameFault.{FrameFault}
 use Rattle.ftp_mode.specs.declared.fault.FrameFault.TheVariants.{EndedEarly}
 use Rattle.ftp_mode.specs.Said.{Said, file_signs}
-use Rattle.ftp_mode.specs.Reading.{Reading, IsGoing, reader, start, failed, at_end, is_complete}
+use Rattle.ftp_mode.specs.Reading.{Reading, IsGoing, reader, start, failed, at_wire_end, is_complete}
 use Rattle.ftp_mode.specs.Deframing.{reading, owed}
 use Rattle.ftp_mode.specs.Laws.{settled_content, ended_content}
 use Rattle.ftp_settings.specs.Representation.{form_of}
@@ -28,12 +28,12 @@ pub record StandsAfter {A : Type 0} (r : Representation) (wire written : List �
   pub state : reading now.deframer ≡ read_by r wire
   pub owes : owed now.deframer ≡ []
   pub form : receiver_form now.receiver ≡ form_of r
-  pub taken : taking now.receiver ≡ after (receiving (form_of r)) fresh (file_signs (said_by r wire))
+  pub taken : taking_at_stage now.receiver ≡ after (receiving (form_of r)) fresh (file_signs (said_by r wire))
   pub settled : written ++ now.settled.items ≡ settled_content r.mode (form_of r) wire
 
 -- a fault is met in these octets, or at their end, and the rest of what they settle is kept
 pub record FaultyAfter {A : Type 0} (r : Representation) (wire written : List ℕ) (ended : Bool) (fault : FrameFault) (now : Receiving A) : Type 0 where
-  pub stops : (read_by r wire ≡ failed fault) ⊎ ((fault ≡ EndedEarly) × (ended ≡ true) × (at_end (read_by r wire) ≡ failed EndedEarly))
+  pub stops : (read_by r wire ≡ failed fault) ⊎ ((fault ≡ EndedEarly) × (ended ≡ true) × (at_wire_end (read_by r wire) ≡ failed EndedEarly))
   pub settled : written ++ now.settled.items ≡ settled_content r.mode (form_of r) wire
 
 -- these octets, which have ended, read as a file, and the rest of it is kept

@@ -1,7 +1,7 @@
 // The entries of lines between a reader and a writer.
 ghost use Rattle.std.specs.Prelude.{◌≡◌, ◌≢◌, ◌≤◌, ◌<◌, ◌++◌, ◌∷◌, [], ℕ, List, Option, IfOk, IfSome, IfNone, OnOk, length, false, ◌||◌};
 ghost use Rattle.std.specs.Str.Lines.{lines, strip_carriage_return};
-ghost use Rattle.tool_codec.specs.FactLines.{Answers, AnswersAll, TellsAll, TellsFront, TellsTo, line_feed};
+ghost use Rattle.tool_codec.specs.FactLines.{Answers, AnswersAll, TellsAll, TellsFront, TellsLinesTo, line_feed};
 ghost use Rattle.tool_codec.specs.FactHearing.{LacksFeed, Told};
 
 use ftp_facts::{FactFault, read_entry, write_entry};
@@ -135,7 +135,7 @@ where
     A: Allocator + Copy,
     R: Read,
     W: Write,
-    ensures { TellsTo A (R.remaining reader.old) (R.remaining reader.new) (W.contents writer.old) (W.contents writer.new) result }
+    ensures { TellsLinesTo A (R.remaining reader.old) (R.remaining reader.new) (W.contents writer.old) (W.contents writer.new) result }
 {
     let mut kept = FactLines::new(alloc);
     let mut buffer = [0u8; PIECE_LIMIT];

@@ -9,8 +9,8 @@ ghost use Rattle.ftp_repr.specs.Signs.{signs_of};
 ghost use Rattle.ftp_mode.specs.Framing.{owed_octets, writing};
 ghost use Rattle.ftp_mode.specs.Writing.{writer};
 ghost use Rattle.ftp_ports.specs.Beginning.{AppendsFront};
-ghost use Rattle.tool_codec.specs.Direction.{Goes, GoesFront};
-ghost use Rattle.tool_codec.specs.Writes.{Writes};
+ghost use Rattle.tool_codec.specs.Direction.{GoesInDirection, GoesFront};
+ghost use Rattle.tool_codec.specs.Writes.{WritesSigns};
 ghost use Rattle.tool_codec.specs.declared.frames.Direction.TheVariants.{ToWire, ToFile};
 ghost use Rattle.tool_codec.specs.Frame.{Frames, FramesFront, frame_text};
 ghost use Rattle.ftp_settings.specs.Representation.{form_of};
@@ -154,7 +154,7 @@ impl<A: Allocator + Copy> FramedFile<A> {
 fn put_at(framer: &mut Framer, item: Item<'_>, room: &mut [u8], at: usize) -> Moved
     requires { at ≤ length room.old }
     ensures within { (result.taken ≤ length (signs item.entry)) × (at + result.made ≤ length room.old) }
-    ensures writes { Writes framer.old (signs item.entry) framer.new (drop result.taken (signs item.entry)) (take at room.old) (take (at + result.made) room.new) }
+    ensures writes { WritesSigns framer.old (signs item.entry) framer.new (drop result.taken (signs item.entry)) (take at room.old) (take (at + result.made) room.new) }
     ensures out { item.entry ≡ EndFile → result.taken ≡ 1 → owed_octets framer.new ≡ [] }
 {
     let (_, back) = room.split_at_mut(at);
@@ -196,7 +196,7 @@ where
     F: Write,
     // Witness of done: to a wire `a_file_that_broke_off_is_status_0`, from one `what_was_read_before_a_fault_is_not_written`.
     // Witness: `markers_are_written_unasked`.
-    ensures done { result ≢ 3 → Goes form direction (R.remaining reader.old) (R.remaining reader.new) (W.contents writer.old) (W.contents writer.new)
+    ensures done { result ≢ 3 → GoesInDirection form direction (R.remaining reader.old) (R.remaining reader.new) (W.contents writer.old) (W.contents writer.new)
         (F.contents faults.old) (F.contents faults.new) result }
     ensures failed { result ≡ 3 → GoesFront form direction (R.remaining reader.old) (R.remaining reader.new) (W.contents writer.old) (W.contents writer.new)
         (F.contents faults.old) (F.contents faults.new) }

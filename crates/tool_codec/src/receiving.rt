@@ -3,11 +3,11 @@ ghost use Rattle.std.specs.Prelude.{◌≡◌, ◌≢◌, ◌==◌, ◌++◌, �
 ghost use Rattle.std.specs.String.{string_bytes};
 ghost use Rattle.std.specs.Io.KnownBytes.{Appends, IsAtEnd};
 ghost use Rattle.ftp_repr.specs.Items.{signs, given_signs};
-ghost use Rattle.ftp_repr.specs.Received.{Receives};
+ghost use Rattle.ftp_repr.specs.Received.{ReceivesSigns};
 ghost use Rattle.ftp_mode.specs.Said.{file_signs};
 ghost use Rattle.ftp_mode.specs.Deframing.{part_said};
 ghost use Rattle.ftp_ports.specs.Beginning.{AppendsFront};
-ghost use Rattle.tool_codec.specs.WireReading.{fault_line, ReadsTo, Tells, TellsFront};
+ghost use Rattle.tool_codec.specs.WireReading.{fault_line, ReadsWireTo, Tells, TellsFront};
 
 use ftp_mode::{Deframer, FrameFault, Part};
 use ftp_ports::{Failed, PIECE_LIMIT, TURNS};
@@ -83,7 +83,7 @@ impl<A: Allocator + Copy> Receiving<A> {
     /// Settles what a part says.
     fn receive(&mut self, part: Part<'_>) -> Result<(), Failed>
         ensures ok { OnOk result ((text : List ℕ) →
-            Receives self.old.receiver (file_signs (part_said part.entry text)) self.new.receiver self.old.settled.items self.new.settled.items) }
+            ReceivesSigns self.old.receiver (file_signs (part_said part.entry text)) self.new.receiver self.old.settled.items self.new.settled.items) }
         ensures deframer { self.new.deframer ≡ self.old.deframer }
     {
         let Some(item) = item_of(part) else {
@@ -180,7 +180,7 @@ where
     A: Allocator + Copy,
     R: Read,
     W: Write,
-    ensures { ReadsTo form (R.remaining reader.old) (R.remaining reader.new) (W.contents writer.old) (W.contents writer.new) result }
+    ensures { ReadsWireTo form (R.remaining reader.old) (R.remaining reader.new) (W.contents writer.old) (W.contents writer.new) result }
 {
     let mut receiving = Receiving::new(alloc, form);
     let mut buffer = [0u8; PIECE_LIMIT];

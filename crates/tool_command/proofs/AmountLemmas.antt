@@ -3,7 +3,7 @@ use Rattle.std.proofs.Common.{◌≡◌, ◌≢◌, ◌<◌, ◌++◌, ◌∷◌
 use Rattle.std.specs.Prelude.{codes}
 use Rattle.std.specs.Char.{digit_value}
 use Rattle.std.specs.Str.Parse.{AllDigits, IsNumeral}
-use Rattle.tool_command.specs.Amount.{EndsIn, IsUnit, SaysAmount, SaysMost, SaysTimes}
+use Rattle.tool_command.specs.Amount.{EndsInUnit, IsUnitLetter, SaysAmount, SaysMost, SaysTimes}
 
 -- words with one letter more are the same in one way
 snoc_same : (xs ys : List ℕ) (a b : ℕ) → xs ++ (a ∷ []) ≡ ys ++ (b ∷ []) → (xs ≡ ys) × (a ≡ b)
@@ -21,29 +21,29 @@ last_digit [] c h = h.0
 last_digit (x ∷ xs) c h = last_digit xs c h.1
 
 -- which no letter is
-no_digit : (letter unit : ℕ) → IsUnit letter unit → digit_value letter < 10 → ⊥
+no_digit : (letter unit : ℕ) → IsUnitLetter letter unit → digit_value letter < 10 → ⊥
 no_digit letter unit (inl e) h = let k : digit_value 75 < 10 = subst (λ n. digit_value n < 10) e.0 h in omega (arith, k)
 no_digit letter unit (inr (inl e)) h = let k : digit_value 77 < 10 = subst (λ n. digit_value n < 10) e.0 h in omega (arith, k)
 no_digit letter unit (inr (inr (inl e))) h = let k : digit_value 71 < 10 = subst (λ n. digit_value n < 10) e.0 h in omega (arith, k)
 no_digit letter unit (inr (inr (inr e))) h = let k : digit_value 84 < 10 = subst (λ n. digit_value n < 10) e.0 h in omega (arith, k)
 
 -- so no number ends in one
-no_number : (word digits : List ℕ) (unit : ℕ) → EndsIn word digits unit → IsNumeral 10 word → ⊥
+no_number : (word digits : List ℕ) (unit : ℕ) → EndsInUnit word digits unit → IsNumeral 10 word → ⊥
 no_number word digits unit ends numeral =
     no_digit ends.0 unit ends.1 (last_digit digits ends.0 (subst (AllDigits 10) ends.2 numeral.1))
 
 -- a letter stands for one power
-one_unit : (letter unit other : ℕ) → IsUnit letter unit → IsUnit letter other → unit ≡ other
+one_unit : (letter unit other : ℕ) → IsUnitLetter letter unit → IsUnitLetter letter other → unit ≡ other
 one_unit letter unit other h k = grind arith
 
 -- so a word ends in one way
-ends_once : (word digits other : List ℕ) (unit more : ℕ) → EndsIn word digits unit → EndsIn word other more → (digits ≡ other) × (unit ≡ more)
+ends_once : (word digits other : List ℕ) (unit more : ℕ) → EndsInUnit word digits unit → EndsInUnit word other more → (digits ≡ other) × (unit ≡ more)
 ends_once word digits other unit more h k =
     let same : (digits ≡ other) × (h.0 ≡ k.0) = snoc_same digits other h.0 k.0 (sym h.2 ∙ k.2) in
-    (same.0, one_unit k.0 unit more (subst (λ letter. IsUnit letter unit) same.1 h.1) k.1)
+    (same.0, one_unit k.0 unit more (subst (λ letter. IsUnitLetter letter unit) same.1 h.1) k.1)
 
 -- a word that ends in a letter says nothing where its digits, so many times, do not
-pub none_behind : (word digits : List ℕ) (unit : ℕ) (r : Option ℕ) → EndsIn word digits unit → IfNone r ((n : ℕ) → ¬ SaysTimes unit digits n)
+pub none_behind : (word digits : List ℕ) (unit : ℕ) (r : Option ℕ) → EndsInUnit word digits unit → IfNone r ((n : ℕ) → ¬ SaysTimes unit digits n)
     → IfNone r ((n : ℕ) → ¬ SaysAmount word n)
 none_behind word digits unit (Some n) ends none = tt
 none_behind word digits unit None ends none =
@@ -56,7 +56,7 @@ none_behind word digits unit None ends none =
         none n (subst (λ d. SaysTimes unit d n) same.0 (subst (λ u. SaysTimes u h.0 n) same.1 h.3))
 
 -- one that ends in none, where it is no number
-pub none_alone : (word : List ℕ) (r : Option ℕ) → ((digits : List ℕ) (unit : ℕ) → ¬ EndsIn word digits unit) → IfNone r ((n : ℕ) → ¬ SaysTimes 1 word n)
+pub none_alone : (word : List ℕ) (r : Option ℕ) → ((digits : List ℕ) (unit : ℕ) → ¬ EndsInUnit word digits unit) → IfNone r ((n : ℕ) → ¬ SaysTimes 1 word n)
     → IfNone r ((n : ℕ) → ¬ SaysAmount word n)
 none_alone word (Some n) never none = tt
 none_alone word None never none = λ n. λ h. by n h
@@ -88,7 +88,7 @@ amount_once word m n (inr h) (inr k) =
     times_once k.1 k.0 m n (subst (λ d. SaysTimes k.1 d m) same.0 (subst (λ u. SaysTimes u h.0 m) same.1 h.3)) k.3
 
 -- no letter of a power is `y`
-no_letter : (letter unit : ℕ) → IsUnit letter unit → letter ≡ 121 → ⊥
+no_letter : (letter unit : ℕ) → IsUnitLetter letter unit → letter ≡ 121 → ⊥
 no_letter letter unit h e = grind arith
 
 -- so `any` is no amount, since it begins in no digit

@@ -10,12 +10,12 @@ abbrev pub SaysBelow : ℕ → List ℕ → ℕ → Type 0
 SaysBelow limit word n = IsNumeral 10 word × (n ≡ digits_value 10 word) × (n < limit)
 
 -- a port, where 0 stands for one that the system chooses
-abbrev pub SaysPort : List ℕ → ℕ → Type 0
-SaysPort word port = SaysBelow (2 ^ 16) word port
+abbrev pub SaysPortOrZero : List ℕ → ℕ → Type 0
+SaysPortOrZero word port = SaysBelow (2 ^ 16) word port
 
 -- the port of a server, from 1 on
 abbrev pub SaysServerPort : List ℕ → ℕ → Type 0
-SaysServerPort word port = SaysPort word port × (1 ≤ port)
+SaysServerPort word port = SaysPortOrZero word port × (1 ≤ port)
 
 abbrev pub is_hyphen : ℕ → Bool
 is_hyphen octet = octet == 45

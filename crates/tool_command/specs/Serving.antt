@@ -11,7 +11,7 @@ use Rattle.tool_command.specs.declared.serving.ServeWords.{ServeWords}
 use Rattle.tool_command.specs.declared.serving.WaitWords.{WaitWords}
 use Rattle.tool_serve.specs.declared.serving.Serving.{Serving}
 use Rattle.tool_polling.specs.declared.session_timeouts.TimeLimits.{TimeLimits as Waits}
-use Rattle.tool_command.specs.Numbers.{SaysBelow, SaysPort, SaysPorts, SaysSessions}
+use Rattle.tool_command.specs.Numbers.{SaysBelow, SaysPortOrZero, SaysPorts, SaysSessions}
 use Rattle.tool_serve.specs.declared.sessions.SessionCount.{SessionCount}
 use Rattle.tool_serve.specs.declared.sessions.SessionCount.TheVariants.{Count, Forever}
 use Rattle.ftp_tree.specs.Tree.{default_limits}
@@ -69,9 +69,9 @@ SaysAddress (Some text) None = ⊥
 SaysAddress (Some text) (Some address) = IsIpText text address
 
 -- each value is what its word says, and the folder and the file of accounts are their words
-pub record Asks (words : ServeWords) (serving : Serving) : Type 0 where
+pub record AsksServing (words : ServeWords) (serving : Serving) : Type 0 where
   pub host : IsIpText words.host.now serving.host
-  pub port : SaysPort words.port.now serving.port
+  pub port : SaysPortOrZero words.port.now serving.port
   pub dir : serving.dir ≡ words.dir
   pub sessions : SaysSessions words.sessions.now serving.sessions
   pub at_once : SaysAtOnce (option_map (λ word. word.now) words.at_once) serving.sessions serving.at_once

@@ -2,7 +2,7 @@
 ghost use Rattle.std.specs.Prelude.{◌≡◌, ◌≢◌, ◌<◌, ◌^◌, ◌++◌, ◌∷◌, [], ℕ, List, IfSome, IfNone, MatchOption};
 ghost use Rattle.std.specs.Option.{SomeIff};
 ghost use Rattle.std.specs.Str.Parse.{IsNumeral, digits_value};
-ghost use Rattle.tool_command.specs.Amount.{EndsIn, SaysAmount, SaysMost, SaysTimes};
+ghost use Rattle.tool_command.specs.Amount.{EndsInUnit, SaysAmount, SaysMost, SaysTimes};
 
 /// A decimal number below 2^64, as it is written: digits alone, leading zeros read, no sign.
 pub(crate) fn octets_of(text: &str) -> Option<u64>
@@ -36,9 +36,9 @@ fn before(word: &str, letter: char) -> Option<&str>
 
 /// The digits before the letter of a power of 1,024 at the end of a word, and that power.
 fn parted(word: &str) -> Option<(&str, u64)>
-    ensures some { IfSome result (λ parts. EndsIn word.now parts.0.now parts.1) }
+    ensures some { IfSome result (λ parts. EndsInUnit word.now parts.0.now parts.1) }
     ensures above { IfSome result (λ parts. 0 < parts.1) }
-    ensures none { IfNone result ((digits : List ℕ) (unit : ℕ) → ¬ EndsIn word.now digits unit) }
+    ensures none { IfNone result ((digits : List ℕ) (unit : ℕ) → ¬ EndsInUnit word.now digits unit) }
 {
     if let Some(digits) = before(word, 'K') {
         return Some((digits, 1_024));

@@ -1,7 +1,7 @@
 //! What words say is one. The calls do nothing that a caller needs: their contracts are the laws.
 ghost use Rattle.std.specs.Prelude.{◌≡◌, ℕ, List};
 ghost use Rattle.tool_command.specs.Amount.{SaysMost};
-ghost use Rattle.tool_command.specs.Numbers.{SaysPort, SaysPorts, SaysSessions};
+ghost use Rattle.tool_command.specs.Numbers.{SaysPortOrZero, SaysPorts, SaysSessions};
 ghost use Rattle.tool_serve.specs.declared.sessions.SessionCount.{SessionCount};
 
 /// A word says one limit at most.
@@ -13,7 +13,7 @@ pub fn one_most()
 /// A word says one port at most.
 pub fn one_port()
     // Witness: a law, proved of an empty body: a word says one port, range or count at most.
-    ensures { (word : List ℕ) (port other : ℕ) → SaysPort word port → SaysPort word other → port ≡ other }
+    ensures { (word : List ℕ) (port other : ℕ) → SaysPortOrZero word port → SaysPortOrZero word other → port ≡ other }
 {}
 
 /// A word says one range of ports at most.

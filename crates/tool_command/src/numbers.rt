@@ -1,6 +1,6 @@
 // Ports, and how many sessions, as words of a command line say them.
 ghost use Rattle.std.specs.Prelude.{◌≡◌, ℕ, List, IfSome, IfNone};
-ghost use Rattle.tool_command.specs.Numbers.{SaysPort, SaysPorts, SaysServerPort, SaysSessions};
+ghost use Rattle.tool_command.specs.Numbers.{SaysPortOrZero, SaysPorts, SaysServerPort, SaysSessions};
 ghost use Rattle.tool_serve.specs.declared.sessions.SessionCount.{SessionCount};
 
 use tool_codec::number_of;
@@ -8,8 +8,8 @@ use tool_serve::SessionCount;
 
 /// A port, or 0 for one that the system chooses.
 pub(crate) fn port_of(word: &str) -> Option<u16>
-    ensures some { IfSome result (λ port. SaysPort word.now port) }
-    ensures none { IfNone result ((port : ℕ) → ¬ SaysPort word.now port) }
+    ensures some { IfSome result (λ port. SaysPortOrZero word.now port) }
+    ensures none { IfNone result ((port : ℕ) → ¬ SaysPortOrZero word.now port) }
 {
     let number = number_of(word)?;
     u16::try_from(number).ok()

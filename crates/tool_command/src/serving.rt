@@ -7,7 +7,7 @@ ghost use Rattle.tool_polling.specs.declared.session_timeouts.TimeLimits.{TimeLi
 ghost use Rattle.tool_command.specs.Numbers.{SaysPorts, SaysSessions};
 ghost use Rattle.tool_serve.specs.declared.sessions.SessionCount.{SessionCount};
 ghost use Rattle.ftp_tree.specs.declared.limits.Limits.{Limits};
-ghost use Rattle.tool_command.specs.Serving.{AreLimits, AreWaits, Asks, SaysAddress, SaysLimit, SaysSeconds, odd_of, unsaid_limits, unsaid_waits};
+ghost use Rattle.tool_command.specs.Serving.{AreLimits, AreWaits, AsksServing, SaysAddress, SaysLimit, SaysSeconds, odd_of, unsaid_limits, unsaid_waits};
 
 use crate::amount::most_of;
 use crate::crowd::{StopCause, at_once_by, input_by, per_host_by};
@@ -256,8 +256,8 @@ fn limit_words<'a>(words: &'a ArgMatches<'_>) -> LimitWords<'a> {
 
 /// What these values ask to be served; refused where one is none of its option.
 fn serving_by<'a>(words: ServeWords<'a>) -> Result<Serving<'a>, UsageError<'a>>
-    ensures asked { IfOk result (λ serving. Asks words.entry serving) }
-    ensures refused { OnErr result ((serving : Serving) → ¬ Asks words.entry serving) }
+    ensures asked { IfOk result (λ serving. AsksServing words.entry serving) }
+    ensures refused { OnErr result ((serving : Serving) → ¬ AsksServing words.entry serving) }
 {
     let host = host_by(words.host)?;
     let sessions = sessions_by(words.sessions)?;

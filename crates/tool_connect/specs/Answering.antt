@@ -4,7 +4,7 @@ use Rattle.std.specs.Option.{unwrap_or}
 use Rattle.ftp_ports.specs.Actions.{Stand, with_owner}
 use Rattle.ftp_ports.specs.Machine.{held}
 use Rattle.ftp_ports.specs.declared.cause.Cause.{Cause}
-use Rattle.ftp_client_driver.specs.Driving.{Drives}
+use Rattle.ftp_client_driver.specs.Driving.{ClientDrives}
 use Rattle.ftp_client_driver.specs.Side.{client_side}
 use Rattle.ftp_client_model.specs.Failing.{Client}
 use Rattle.ftp_operation.specs.Answer.{Said, Lost}
@@ -17,5 +17,5 @@ pub record Answers (request : Request) (answer : Said) (failed : Bool) (old new 
   pub begins : Begins request old.owner.end begun
   pub off : Option Cause
   pub report : Option Said
-  pub drives : Drives failed (with_owner (held begun old.owner.channel) old) new off report
+  pub drives : ClientDrives failed (with_owner (held begun old.owner.channel) old) new off report
   pub told : answer ≡ unwrap_or report Lost

@@ -3,7 +3,7 @@ ghost use Rattle.std.specs.Global.{Global};
 ghost use Rattle.std.specs.Prelude.{◌≡◌, ℕ, List, None};
 ghost use Rattle.ftp_ports.specs.Channel.{no_channel};
 ghost use Rattle.ftp_ports.specs.Machine.{held};
-ghost use Rattle.ftp_client_driver.specs.Side.{beside};
+ghost use Rattle.ftp_client_driver.specs.Side.{client_beside};
 ghost use Rattle.ftp_driver.specs.Standing.{HasNone};
 ghost use Rattle.ftp_operation.specs.Answer.{said_of};
 ghost use Rattle.ftp_operation.specs.declared.answer.Answer.{Answer};
@@ -50,13 +50,13 @@ where
 {
     // (where no data connection stands, and then none does)
     ghost answers = { λ request answer old new. (HasNone S.remaining S.contents old.data.now → Answers request (said_of answer) new.control.now.failed
-        (beside C.remaining W.contents (held (N.client old.client) (no_channel (P.history old.ports.now))) old.control.now)
-        (beside C.remaining W.contents (held (N.client new.client) (no_channel (P.history new.ports.now))) new.control.now))
+        (client_beside C.remaining W.contents (held (N.client old.client) (no_channel (P.history old.ports.now))) old.control.now)
+        (client_beside C.remaining W.contents (held (N.client new.client) (no_channel (P.history new.ports.now))) new.control.now))
         × HasNone S.remaining S.contents new.data.now };
 
     ghost carried = { λ request answer old new. Answers request (said_of answer) new.control.now.failed
-        (beside C.remaining W.contents (held (N.client old.client) (no_channel None)) old.control.now)
-        (beside C.remaining W.contents (held (N.client new.client) (no_channel None)) new.control.now) };
+        (client_beside C.remaining W.contents (held (N.client old.client) (no_channel None)) old.control.now)
+        (client_beside C.remaining W.contents (held (N.client new.client) (no_channel None)) new.control.now) };
 
     ghost keeps = { λ came session. came ≡ (N.told session.client).came };
 

@@ -6,13 +6,13 @@ use Rattle.ftp_server_model.specs.Machine.{IsReading, Reading}
 use Rattle.ftp_server_model.specs.View.{View}
 use Rattle.tool_dialogue.proofs.FreeLemmas.{Reached, free_again}
 use Rattle.tool_dialogue.proofs.TalkLemmas.{talks-grow}
-use Rattle.tool_dialogue.specs.Dialogue.{said, served, talk_of, talks}
-use Rattle.tool_dialogue.specs.Exchange.{BreaksIn, IsAnswered}
-use Rattle.tool_dialogue.specs.Free.{IsFree}
+use Rattle.tool_dialogue.specs.Dialogue.{said, served_twice, talk_of, talks}
+use Rattle.tool_dialogue.specs.Exchange.{BreaksIn, OctetsAreAnswered}
+use Rattle.tool_dialogue.specs.Free.{IsReadyForLine}
 
 -- behind what was heard, served and said the server is free
-pub free_behind : (w mid new : View) → Reached w → mid ≡ served w → new ≡ said mid → IsFree new
-free_behind w mid new reached serves says = subst IsFree (sym (says ∙ ap said serves)) (free_again w reached)
+pub free_behind : (w mid new : View) → Reached w → mid ≡ served_twice w → new ≡ said mid → IsReadyForLine new
+free_behind w mid new reached serves says = subst IsReadyForLine (sym (says ∙ ap said serves)) (free_again w reached)
 
 pub take_whole : (i : ℕ) (xs : List ℕ) → length xs ≤ i → take i xs ≡ xs
 take_whole zero [] e = refl
@@ -31,7 +31,7 @@ on_failed (Err e) p = p
 -- answers to a piece are gathered from nothing, where no memory was refused
 pub answered_by : (piece text cleared : List ℕ) (v w : View) (was is calm : Bool) → cleared ≡ []
     → (calm ≡ true → (read : Reading) → IsReading read → (before : List ℕ) → talk_of w (before ++ text) is ≡ talks read (talk_of v (before ++ cleared) was) piece)
-    → calm ≡ true → IsAnswered piece v was text w is
+    → calm ≡ true → OctetsAreAnswered piece v was text w is
 answered_by piece text cleared v w was is calm none heard still = λ read reading before.
     heard still read reading before ∙ ap (λ l. talks read (talk_of v l was) piece) (ap (λ l. before ++ l) none ∙ append-nil before)
 
@@ -43,7 +43,7 @@ breaks_unwritten read piece v was before held =
 
 -- a beginning of them was written
 pub breaks_written : (read : Reading) (piece text : List ℕ) (v w : View) (was is : Bool) (before : List ℕ) (held holds : Option (List ℕ)) → IsReading read
-    → IsAnswered piece v was text w is → AppendsFront held holds text → BreaksIn read piece v was before held holds
+    → OctetsAreAnswered piece v was text w is → AppendsFront held holds text → BreaksIn read piece v was before held holds
 breaks_written read piece text v w was is before held holds reading answered front =
     record { rest = text; whole = sym (ap (λ t. t.text) (answered read reading before)); wrote = front }
 

@@ -10,9 +10,9 @@ use Rattle.ftp_server_model.specs.View.{View}
 use Rattle.tool_dialogue.proofs.FreeLemmas.{said_is}
 use Rattle.tool_dialogue.proofs.TalkLemmas.{talks-append}
 use Rattle.tool_dialogue.specs.Converses.{BreaksBy, BreaksOff, Converses, Ends, EndsOff, EndsWell, Reads}
-use Rattle.tool_dialogue.specs.Dialogue.{begun, dialogue, greeted, is_over, is_refusal, runs, said, status_of, talk_of, talks, transcript}
-use Rattle.tool_dialogue.specs.Exchange.{BreaksIn, IsAnswered}
-use Rattle.tool_dialogue.specs.Free.{IsFree}
+use Rattle.tool_dialogue.specs.Dialogue.{begun, dialogue, greeted_talk, is_over, is_refusal, runs, said, dialogue_status, talk_of, talks, dialogue_transcript}
+use Rattle.tool_dialogue.specs.Exchange.{BreaksIn, OctetsAreAnswered}
+use Rattle.tool_dialogue.specs.Free.{IsReadyForLine}
 use Rattle.tool_dialogue.specs.Short.{BreaksInShort, BreaksShort, ConversesShort, IsAnsweredShort, ReadsShort, Talks}
 use Rattle.tool_dialogue.proofs.ShortLemmas.{Talks-append}
 
@@ -22,19 +22,19 @@ pub record Follows (before after old new : Option (List ℕ)) (v : View) (refuse
   pub read : Consumes before after octets
   pub text : List ℕ
   pub wrote : Appends old new text
-  pub free : IsFree v
+  pub free : IsReadyForLine v
   pub running : runs v ≡ true
   pub stands : calm ≡ true → (read : Reading) → IsReading read → talk_of v text refused ≡ dialogue read octets
-  pub talks : (read : Reading) → IsReading read → Talks read greeted octets (talk_of v text refused)
+  pub talks : (read : Reading) → IsReading read → Talks read greeted_talk octets (talk_of v text refused)
 
 -- what was written is the transcript
-text_is : (read : Reading) (octets text : List ℕ) (v : View) (refused : Bool) → talk_of v text refused ≡ dialogue read octets → transcript read octets ≡ text
+text_is : (read : Reading) (octets text : List ℕ) (v : View) (refused : Bool) → talk_of v text refused ≡ dialogue read octets → dialogue_transcript read octets ≡ text
 text_is read octets text v refused stands = ap (λ t. t.text) (sym stands)
 
 goes_on : (read : Reading) (octets text : List ℕ) (v : View) (refused : Bool) → talk_of v text refused ≡ dialogue read octets → is_over read octets ≡ not (runs v)
 goes_on read octets text v refused stands = ap (λ t. not (runs t.view)) (sym stands)
 
-status_is : (read : Reading) (octets text : List ℕ) (v : View) (refused : Bool) → talk_of v text refused ≡ dialogue read octets → (if refused then 1 else 0) ≡ status_of read octets
+status_is : (read : Reading) (octets text : List ℕ) (v : View) (refused : Bool) → talk_of v text refused ≡ dialogue read octets → (if refused then 1 else 0) ≡ dialogue_status read octets
 status_is read octets text v refused stands = ap (λ t. if t.refused then 1 else 0) stands
 
 -- it broke off
@@ -44,7 +44,7 @@ ends_failed most before after old new (Err e) failed off = off
 
 -- where nothing was read or written
 pub ends_unread : (most : ℕ) (before old : Option (List ℕ)) → EndsOff most before before old old
-ends_unread most before old = inl (λ read reading. inl (Keeps-refl before, AppendsFront-none old (transcript read [])))
+ends_unread most before old = inl (λ read reading. inl (Keeps-refl before, AppendsFront-none old (dialogue_transcript read [])))
 
 -- as ever where no memory was refused, and else as `Short` says
 off_by : (most : ℕ) (before after old new : Option (List ℕ)) (calm : Bool) → (calm ≡ true → BreaksOff most before after old new) → BreaksShort most before after old new
@@ -73,18 +73,18 @@ well_by most before after old new refused false told is as_ever short =
 
 -- ---- the greeting
 
-pub greeting : (read : Reading) → transcript read [] ≡ begun.owed
-unfolding greeted
+pub greeting : (read : Reading) → dialogue_transcript read [] ≡ begun.owed
+unfolding greeted_talk
 greeting read = refl
 
-begun_free : IsFree (said begun)
-begun_free = subst IsFree (sym (said_is begun refl)) (record { waiting = refl; owed = refl; rests = λ running. refl })
+begun_free : IsReadyForLine (said begun)
+begun_free = subst IsReadyForLine (sym (said_is begun refl)) (record { waiting = refl; owed = refl; rests = λ running. refl })
 
 begun_runs : runs (said begun) ≡ true
 begun_runs = ap runs (said_is begun refl)
 
-greeted_is : talk_of (said begun) begun.owed (is_refusal begun.owed) ≡ greeted
-unfolding greeted
+greeted_is : talk_of (said begun) begun.owed (is_refusal begun.owed) ≡ greeted_talk
+unfolding greeted_talk
 greeted_is = refl
 
 -- behind the greeting
@@ -99,7 +99,7 @@ begins input old new v w text refused from says texts refuses wrote calm =
       read = Consumes-nil input;
       text = text;
       wrote = wrote;
-      free = subst IsFree (sym is) begun_free;
+      free = subst IsReadyForLine (sym is) begun_free;
       running = ap runs is ∙ begun_runs;
       stands = λ still read reading. rw is (rw all (rw refusal greeted_is));
       talks = λ read reading. rw is (rw all (rw refusal greeted_is));
@@ -111,12 +111,12 @@ begins input old new v w text refused from says texts refuses wrote calm =
 more_is : (read : Reading) (octets piece text more : List ℕ) (v w : View) (was is : Bool) → talk_of v text was ≡ dialogue read octets
     → talk_of w (text ++ more) is ≡ talks read (talk_of v text was) piece → talk_of w (text ++ more) is ≡ dialogue read (octets ++ piece)
 more_is read octets piece text more v w was is stands answers =
-    answers ∙ ap (λ t. talks read t piece) stands ∙ sym (talks-append read greeted octets piece)
+    answers ∙ ap (λ t. talks read t piece) stands ∙ sym (talks-append read greeted_talk octets piece)
 
 -- a piece more was read and answered
 pub follows_on : (before mid after old now later : Option (List ℕ)) (piece more : List ℕ) (v w : View) (was is calm still : Bool) → Follows before mid old now v was calm
-    → Consumes mid after piece → (still ≡ true → IsAnswered piece v was more w is) → IsAnsweredShort piece v was more w is → (still ≡ true → calm ≡ true)
-    → Appends now later more → IsFree w → runs w ≡ true → Follows before after old later w is still
+    → Consumes mid after piece → (still ≡ true → OctetsAreAnswered piece v was more w is) → IsAnsweredShort piece v was more w is → (still ≡ true → calm ≡ true)
+    → Appends now later more → IsReadyForLine w → runs w ≡ true → Follows before after old later w is still
 follows_on before mid after old now later piece more v w was is calm still follows given answers short kept wrote free running = record {
   octets = follows.octets ++ piece;
   read = Consumes-trans before mid after follows.octets piece follows.read given;
@@ -127,7 +127,7 @@ follows_on before mid after old now later piece more v w was is calm still follo
   stands = λ so read reading.
       more_is read follows.octets piece follows.text more v w was is (follows.stands (kept so) read reading) (answers so read reading follows.text);
   talks = λ read reading.
-      Talks-append read greeted (talk_of v follows.text was) (talk_of w (follows.text ++ more) is) follows.octets piece (follows.talks read reading)
+      Talks-append read greeted_talk (talk_of v follows.text was) (talk_of w (follows.text ++ more) is) follows.octets piece (follows.talks read reading)
       (short read reading follows.text);
 }
 
@@ -157,7 +157,7 @@ reads_short read most before mid after old now piece v was calm reading follows 
 
 -- QUIT was heard, and no memory was refused
 over_calm : (most : ℕ) (before mid after old now later : Option (List ℕ)) (piece more : List ℕ) (v w : View) (was is calm : Bool) → calm ≡ true
-    → Follows before mid old now v was calm → Consumes mid after piece → length piece ≤ most → IsAnswered piece v was more w is → Appends now later more → runs w ≡ false
+    → Follows before mid old now v was calm → Consumes mid after piece → length piece ≤ most → OctetsAreAnswered piece v was more w is → Appends now later more → runs w ≡ false
     → Converses most before after old later (if is then 1 else 0)
 unfolding reads_on
 over_calm most before mid after old now later piece more v w was is calm so follows given few answers wrote over = λ read reading.
@@ -173,7 +173,7 @@ over_calm most before mid after old now later piece more v w was is calm so foll
 
 -- QUIT was heard
 pub ends_over : (most : ℕ) (before mid after old now later : Option (List ℕ)) (piece more : List ℕ) (v w : View) (was is calm still told : Bool)
-    → Follows before mid old now v was calm → Consumes mid after piece → length piece ≤ most → (still ≡ true → IsAnswered piece v was more w is)
+    → Follows before mid old now v was calm → Consumes mid after piece → length piece ≤ most → (still ≡ true → OctetsAreAnswered piece v was more w is)
     → IsAnsweredShort piece v was more w is → (still ≡ true → calm ≡ true) → Appends now later more → runs w ≡ false → told ≡ (is || not still)
     → EndsWell most before after old later (if told then 1 else 0)
 unfolding reads_short
@@ -235,7 +235,7 @@ between_calm most before mid after old now v was calm so follows kept = λ read 
       mid = now;
       answered = subst (λ l. Appends old now l) (sym text) follows.wrote;
       rest = [];
-      whole = ap (transcript read) (append-nil follows.octets) ∙ sym (append-nil (transcript read follows.octets));
+      whole = ap (dialogue_transcript read) (append-nil follows.octets) ∙ sym (append-nil (dialogue_transcript read follows.octets));
       wrote = AppendsFront-none now [];
     })
 
@@ -277,7 +277,7 @@ in_calm read most before mid after old now later piece v was calm so reading fol
       answered = subst (λ l. Appends old now l) (sym text) follows.wrote;
       rest = breaks.rest;
       whole =
-          ap (λ t. t.text) (talks-append read greeted follows.octets piece) ∙ ap (λ t. (talks read t piece).text) (sym stands)
+          ap (λ t. t.text) (talks-append read greeted_talk follows.octets piece) ∙ ap (λ t. (talks read t piece).text) (sym stands)
           ∙ breaks.whole ∙ ap (λ l. l ++ breaks.rest) (sym text);
       wrote = breaks.wrote;
     })

@@ -20,8 +20,8 @@ use Rattle.ftp_server_model.specs.declared.session.Life.TheVariants as Lives
 use Rattle.ftp_server_model.specs.declared.session.Pending.TheVariants as Pendings
 use Rattle.ftp_server_model.specs.declared.session.Way.TheVariants as Ways
 use Rattle.ftp_server.specs.Busy.{is_opening}
-use Rattle.tool_dialogue.specs.Dialogue.{does, runs, said, served, serves}
-use Rattle.tool_dialogue.specs.Free.{IsFree, is_at_rest, is_unopened}
+use Rattle.tool_dialogue.specs.Dialogue.{does, runs, said, served_twice, serves}
+use Rattle.tool_dialogue.specs.Free.{IsReadyForLine, is_at_rest, is_unopened}
 use Rattle.ftp_ends.proofs.EventLemmas.{SaysOne, out_one}
 use Rattle.tool_dialogue.proofs.UnopenedLemmas.{Leads, Rests, Servable, calm, leads_decided}
 
@@ -83,7 +83,7 @@ pub serves_stays : (v : View) → v.waiting ≡ None → Stays v (serves v)
 unfolding serves
 serves_stays v none = does_stays (wants v) v none
 
-pub served_stays : (v : View) → v.waiting ≡ None → Stays v (served v)
+pub served_stays : (v : View) → v.waiting ≡ None → Stays v (served_twice v)
 served_stays v none =
     let one = serves_stays v none in
     let two = serves_stays (serves v) one.waiting in
@@ -95,7 +95,7 @@ served_stays v none =
 abbrev with_link : ServerLink Transfer → Bool → View → View
 with_link c closing v = record v { session = record v.session { connection = c; closing = closing; life = Lives.Running }; waiting = None }
 
-link_rests : (c : ServerLink Transfer) (closing : Bool) (v : View) → Servable c closing → is_at_rest (served (with_link c closing v)).session ≡ true
+link_rests : (c : ServerLink Transfer) (closing : Bool) (v : View) → Servable c closing → is_at_rest (served_twice (with_link c closing v)).session ≡ true
 unfolding serves listening data_closed data_refused
 link_rests Data.Free true v is = refl
 link_rests Data.Free false v is = refl
@@ -125,9 +125,9 @@ link_is v none is = by v.waiting v.session.life none (running v.session.life is)
         → with_link v.session.connection v.session.closing v ≡ record v { session = record v.session { life = life }; waiting = waiting }
     by waiting life none is = rw none (rw is refl)
 
-served_rests : (v : View) → v.waiting ≡ None → Servable v.session.connection v.session.closing → runs v ≡ true → is_at_rest (served v).session ≡ true
+served_rests : (v : View) → v.waiting ≡ None → Servable v.session.connection v.session.closing → runs v ≡ true → is_at_rest (served_twice v).session ≡ true
 served_rests v none can is =
-    subst (λ w. is_at_rest (served w).session ≡ true) (link_is v none is) (link_rests v.session.connection v.session.closing v can)
+    subst (λ w. is_at_rest (served_twice w).session ≡ true) (link_is v none is) (link_rests v.session.connection v.session.closing v can)
 
 -- ---- an octet
 
@@ -196,7 +196,7 @@ events_reach read events v (inl none) rests waits silent =
 events_reach read events v (inr one) rests waits silent =
     subst (λ l. Reached (heard_events read l v)) (sym one.1) (event_reaches read one.0 v rests waits silent)
 
-pub octet_reaches : (read : Reading) (v : View) (octet : ℕ) → IsFree v → runs v ≡ true → Reached (hears_octet read v octet)
+pub octet_reaches : (read : Reading) (v : View) (octet : ℕ) → IsReadyForLine v → runs v ≡ true → Reached (hears_octet read v octet)
 unfolding hears_octet
 octet_reaches read v octet free is =
     events_reach read (ear_out line_limit v.ear octet) (record v { ear = ear_step line_limit v.ear octet }) (out_one line_limit v.ear octet)
@@ -217,17 +217,17 @@ pub silent_said : (v : View) → v.waiting ≡ None → v.owed ≡ [] → said v
 silent_said v none silent = said_is v none ∙ ap (λ l. record v { owed = l }) (sym silent)
 
 -- behind an octet, with what is then wanted done and what is owed said, the server is free again
-pub free_again : (v : View) → Reached v → IsFree (said (served v))
+pub free_again : (v : View) → Reached v → IsReadyForLine (said (served_twice v))
 free_again v reached =
     let stays = served_stays v reached.waiting in
-    subst IsFree (sym (said_is (served v) stays.waiting)) (record {
+    subst IsReadyForLine (sym (said_is (served_twice v) stays.waiting)) (record {
       waiting = stays.waiting;
       owed = refl;
       rests = λ is. served_rests v reached.waiting reached.can (ap is_running (sym stays.life) ∙ is);
     })
 
 -- an octet may be taken
-pub free_hears : (v : View) → IsFree v → runs v ≡ true → may_hear v ≡ true
+pub free_hears : (v : View) → IsReadyForLine v → runs v ≡ true → may_hear v ≡ true
 free_hears v free is = by v.waiting v.owed free.waiting free.owed
   where
     by : (waiting : Option (HeardLine (List ℕ))) (octets : List ℕ) → waiting ≡ None → octets ≡ [] → may_hear (record v { waiting = waiting; owed = octets }) ≡ true

@@ -6,7 +6,7 @@ use Rattle.ftp_server_model.proofs.LinesDecided.{reading_exists}
 use Rattle.ftp_server_model.specs.Machine.{Reading}
 use Rattle.tool_dialogue.proofs.TalkLemmas.{talks-append, talks-over}
 use Rattle.tool_dialogue.specs.Converses.{ConversesBy}
-use Rattle.tool_dialogue.specs.Dialogue.{dialogue, greeted, is_over, runs}
+use Rattle.tool_dialogue.specs.Dialogue.{dialogue, greeted_talk, is_over, runs}
 use Rattle.tool_dialogue.specs.Laws.{ConversesOnce}
 
 -- of two fronts of one list, one is a front of the other
@@ -49,7 +49,7 @@ longer read input xs ys more same one other = by one.ends
   where
     by : (is_over read xs ≡ true) ⊎ (one.left ≡ []) → dialogue read ys ≡ dialogue read xs
     by (inl quit) =
-        ap (dialogue read) same ∙ talks-append read greeted xs more
+        ap (dialogue read) same ∙ talks-append read greeted_talk xs more
         ∙ talks-over read (dialogue read xs) more (over (runs (dialogue read xs).view) quit)
     by (inr none) =
         let all : xs ++ (more ++ other.left) ≡ xs =

@@ -24,8 +24,8 @@ use Rattle.ftp_server_model.specs.declared.session.Pending.TheVariants as Pendin
 use Rattle.tool_dialogue.proofs.FreeLemmas.{Reached, and_false, line_reaches, obeyed_reaches, room_is, unbusy}
 use Rattle.tool_dialogue.proofs.TalkLemmas.{talks-grow}
 use Rattle.tool_dialogue.proofs.UnopenedLemmas.{Rests, Servable, calm}
-use Rattle.tool_dialogue.specs.Dialogue.{Talk, is_refusal, runs, said, served, talk_of, talks, told, turn}
-use Rattle.tool_dialogue.specs.Free.{IsFree}
+use Rattle.tool_dialogue.specs.Dialogue.{Talk, is_refusal, runs, said, served_twice, talk_of, talks, told, turn}
+use Rattle.tool_dialogue.specs.Free.{IsReadyForLine}
 use Rattle.tool_dialogue.specs.Short.{BreaksInShort, IsAnsweredShort, Talks, Turns}
 
 -- ---- what an octet leaves
@@ -104,7 +104,7 @@ events_heard_reach read events v w (inr one) rests waits silent is =
     subst Reached (sym so.2) (event_heard_reaches read one.0 v so.0 rests waits silent so.1)
 
 -- behind an octet that may have failed what is left to be done can be served
-pub heard_short_reaches : (v w : View) (octet : ℕ) → IsFree v → runs v ≡ true → ((read : Reading) → IsReading read → OctetIsHeard read v octet w) → Reached w
+pub heard_short_reaches : (v w : View) (octet : ℕ) → IsReadyForLine v → runs v ≡ true → ((read : Reading) → IsReading read → OctetIsHeard read v octet w) → Reached w
 heard_short_reaches v w octet free is heard =
     events_heard_reach reading_exists.0 (ear_out line_limit v.ear octet) (record v { ear = ear_step line_limit v.ear octet }) w (out_one line_limit v.ear octet)
     (free.rests is) free.waiting free.owed (heard reading_exists.0 reading_exists.1)
@@ -139,7 +139,7 @@ told_differ told now old new was are differ same =
 
 -- what was heard, served and said is a turn
 pub turned_short : (read : Reading) (v heard mid new : View) (text more : List ℕ) (was is : Bool) (octet : ℕ) → runs v ≡ true → OctetIsHeard read v octet heard
-    → mid ≡ served heard → new ≡ said mid → more ≡ text ++ mid.owed → is ≡ (was || is_refusal mid.owed)
+    → mid ≡ served_twice heard → new ≡ said mid → more ≡ text ++ mid.owed → is ≡ (was || is_refusal mid.owed)
     → (before : List ℕ) → Turns read (talk_of v (before ++ text) was) octet (talk_of new (before ++ more) is)
 turned_short read v heard mid new text more was is octet running hears serves says texts refuses before =
     inl (
@@ -157,7 +157,7 @@ turns_as_ever : (read : Reading) (talk : Talk) (octet : ℕ) → Turns read talk
 unfolding turn
 turns_as_ever read talk octet = by (runs talk.view) refl
   where
-    by : (b : Bool) → runs talk.view ≡ b → Turns read talk octet (if b then told (served (hears_octet read talk.view octet)) talk else talk)
+    by : (b : Bool) → runs talk.view ≡ b → Turns read talk octet (if b then told (served_twice (hears_octet read talk.view octet)) talk else talk)
     by true is = inl (is, hears_octet read talk.view octet, octet_as_ever read talk.view octet, refl)
     by false is = inr (is, refl)
 

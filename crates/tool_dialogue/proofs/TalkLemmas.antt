@@ -4,17 +4,17 @@ use Rattle.std.specs.Prelude.{if◌then◌else◌}
 use Rattle.std.proofs.lemmas.List.{take_more}
 use Rattle.ftp_server_model.specs.Machine.{Reading, hears_octet}
 use Rattle.ftp_server_model.specs.View.{View}
-use Rattle.tool_dialogue.specs.Dialogue.{Talk, is_refusal, runs, said, served, talk_of, talks, told, turn}
+use Rattle.tool_dialogue.specs.Dialogue.{Talk, is_refusal, runs, said, served_twice, talk_of, talks, told, turn}
 
 -- ---- one octet
 
 -- what was heard, served and said is a turn
 pub turned_by : (read : Reading) (v heard mid new : View) (text more : List ℕ) (was is : Bool) (octet : ℕ) → runs v ≡ true
-    → heard ≡ hears_octet read v octet → mid ≡ served heard → new ≡ said mid → more ≡ text ++ mid.owed → is ≡ (was || is_refusal mid.owed)
+    → heard ≡ hears_octet read v octet → mid ≡ served_twice heard → new ≡ said mid → more ≡ text ++ mid.owed → is ≡ (was || is_refusal mid.owed)
     → (before : List ℕ) → talk_of new (before ++ more) is ≡ turn read (talk_of v (before ++ text) was) octet
 unfolding turn
 turned_by read v heard mid new text more was is octet running hears serves says texts refuses before =
-    let from : mid ≡ served (hears_octet read v octet) = serves ∙ ap served hears in
+    let from : mid ≡ served_twice (hears_octet read v octet) = serves ∙ ap served_twice hears in
     rw running (
     ap (λ w. talk_of w (before ++ more) is) says
     ∙ ap (λ l. talk_of (said mid) l is) (ap (λ l. before ++ l) texts ∙ sym (append_assoc before text mid.owed))
@@ -41,8 +41,8 @@ pub turn-grows : (read : Reading) (talk : Talk) (octet : ℕ) → (rest : List �
 unfolding turn
 turn-grows read talk octet = by (runs talk.view)
   where
-    by : (b : Bool) → (rest : List ℕ) × ((if b then told (served (hears_octet read talk.view octet)) talk else talk).text ≡ talk.text ++ rest)
-    by true = ((served (hears_octet read talk.view octet)).owed, refl)
+    by : (b : Bool) → (rest : List ℕ) × ((if b then told (served_twice (hears_octet read talk.view octet)) talk else talk).text ≡ talk.text ++ rest)
+    by true = ((served_twice (hears_octet read talk.view octet)).owed, refl)
     by false = ([], sym (append-nil talk.text))
 
 pub talks-grow : (read : Reading) (talk : Talk) (octets : List ℕ) → (rest : List ℕ) × ((talks read talk octets).text ≡ talk.text ++ rest)

@@ -6,7 +6,7 @@ use Rattle.std.specs.Io.KnownBytes.{Appends, Consumes, IsAtEnd, Keeps}
 use Rattle.ftp_ports.specs.Beginning.{AppendsFront}
 use Rattle.ftp_ports.specs.declared.pieces.Failed.{Failed}
 use Rattle.ftp_server_model.specs.Machine.{IsReading, Reading}
-use Rattle.tool_dialogue.specs.Dialogue.{is_over, status_of, transcript}
+use Rattle.tool_dialogue.specs.Dialogue.{is_over, dialogue_status, dialogue_transcript}
 use Rattle.tool_dialogue.specs.Short.{BreaksShort, ConversesShort}
 
 -- these octets were read, the last of them by one read of at most so many; nothing was read behind the piece that ended QUIT's line
@@ -21,21 +21,21 @@ pub record Reads (read : Reading) (most : ℕ) (before after : Option (List ℕ)
 pub record ConversesBy (read : Reading) (most : ℕ) (before after old new : Option (List ℕ)) (status : ℕ) : Type 0 where
   pub reads : Reads read most before after
   pub whole : (is_over read (reads.front ++ reads.piece) ≡ true) ⊎ IsAtEnd after
-  pub wrote : Appends old new (transcript read (reads.front ++ reads.piece))
-  pub says : status ≡ status_of read (reads.front ++ reads.piece)
+  pub wrote : Appends old new (dialogue_transcript read (reads.front ++ reads.piece))
+  pub says : status ≡ dialogue_status read (reads.front ++ reads.piece)
 
 -- it broke off: all before the last piece was answered, and a beginning of the answers to that piece was written
 pub record BreaksAmid (read : Reading) (most : ℕ) (before after old new : Option (List ℕ)) : Type 0 where
   pub reads : Reads read most before after
   pub mid : Option (List ℕ)
-  pub answered : Appends old mid (transcript read reads.front)
+  pub answered : Appends old mid (dialogue_transcript read reads.front)
   pub rest : List ℕ
-  pub whole : transcript read (reads.front ++ reads.piece) ≡ transcript read reads.front ++ rest
+  pub whole : dialogue_transcript read (reads.front ++ reads.piece) ≡ dialogue_transcript read reads.front ++ rest
   pub wrote : AppendsFront mid new rest
 
 -- it broke off before anything was read, with a beginning of the greeting
 abbrev pub BreaksAtStart : (read : Reading) (before after old new : Option (List ℕ)) → Type 0
-BreaksAtStart read before after old new = Keeps before after × AppendsFront old new (transcript read [])
+BreaksAtStart read before after old new = Keeps before after × AppendsFront old new (dialogue_transcript read [])
 
 -- either of the two
 abbrev pub BreaksBy : (read : Reading) (most : ℕ) (before after old new : Option (List ℕ)) → Type 0

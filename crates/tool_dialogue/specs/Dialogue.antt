@@ -30,8 +30,8 @@ unfoldable pub serves : View → View
 serves v = does (wants v) v
 
 -- twice, which is as often as there is something: behind one octet a close and a port, or a refused opening and a close
-abbrev pub served : View → View
-served v = serves (serves v)
+abbrev pub served_twice : View → View
+served_twice v = serves (serves v)
 
 -- ---- what is said
 
@@ -40,13 +40,13 @@ abbrev pub said : View → View
 said v = gives_control (length v.owed) v
 
 -- a line of these octets begins with 4 or 5; whether the first of them begins a line
-abbrev pub refuses : (begins : Bool) → List ℕ → Bool
-refuses begins [] = false
-refuses begins (octet ∷ octets) = (begins && ((octet == 52) || (octet == 53))) || refuses (octet == 10) octets
+abbrev pub has_refusal_line : (begins : Bool) → List ℕ → Bool
+has_refusal_line begins [] = false
+has_refusal_line begins (octet ∷ octets) = (begins && ((octet == 52) || (octet == 53))) || has_refusal_line (octet == 10) octets
 
 -- a reply of 4yz or 5yz (RFC 959, section 4.2.1)
 abbrev pub is_refusal : List ℕ → Bool
-is_refusal octets = refuses true octets
+is_refusal octets = has_refusal_line true octets
 
 -- ---- octets
 
@@ -70,7 +70,7 @@ runs v = is_running v.session.life
 
 -- an octet is heard, what is wanted is done, and what is owed is said; after QUIT no octet is heard
 unfoldable pub turn : Reading → Talk → ℕ → Talk
-turn read talk octet = if runs talk.view then told (served (hears_octet read talk.view octet)) talk else talk
+turn read talk octet = if runs talk.view then told (served_twice (hears_octet read talk.view octet)) talk else talk
 
 -- octets in order
 abbrev pub talks : Reading → Talk → List ℕ → Talk
@@ -88,21 +88,21 @@ abbrev pub begun : View
 begun = start root_alone two_accounts here here
 
 -- its greeting is said
-unfoldable pub greeted : Talk
-greeted = told begun (talk_of begun [] false)
+unfoldable pub greeted_talk : Talk
+greeted_talk = told begun (talk_of begun [] false)
 
 -- the dialogue after these octets
 abbrev pub dialogue : Reading → List ℕ → Talk
-dialogue read octets = talks read greeted octets
+dialogue read octets = talks read greeted_talk octets
 
 -- all that is written for these octets: the greeting, and the answers
-abbrev pub transcript : Reading → List ℕ → List ℕ
-transcript read octets = (dialogue read octets).text
+abbrev pub dialogue_transcript : Reading → List ℕ → List ℕ
+dialogue_transcript read octets = (dialogue read octets).text
 
 -- QUIT was among them
 abbrev pub is_over : Reading → List ℕ → Bool
 is_over read octets = not (runs (dialogue read octets).view)
 
 -- the exit status: whether something was refused
-abbrev pub status_of : Reading → List ℕ → ℕ
-status_of read octets = if (dialogue read octets).refused then 1 else 0
+abbrev pub dialogue_status : Reading → List ℕ → ℕ
+dialogue_status read octets = if (dialogue read octets).refused then 1 else 0

@@ -6,8 +6,8 @@ use Rattle.ftp_server_model.specs.View.{View}
 use Rattle.tool_dialogue.specs.Dialogue.{talk_of, talks}
 
 -- octets are heard from one view to another, and answered by these, whatever was said before and however lines are read
-abbrev pub IsAnswered : (octets : List ℕ) (old : View) (was : Bool) (text : List ℕ) (new : View) (is : Bool) → Type 0
-IsAnswered octets old was text new is =
+abbrev pub OctetsAreAnswered : (octets : List ℕ) (old : View) (was : Bool) (text : List ℕ) (new : View) (is : Bool) → Type 0
+OctetsAreAnswered octets old was text new is =
     (read : Reading) → IsReading read → (before : List ℕ) → talk_of new (before ++ text) is ≡ talks read (talk_of old before was) octets
 
 -- a beginning of the answers was written, whatever was said before and however lines are read

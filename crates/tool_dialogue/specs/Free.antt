@@ -20,7 +20,7 @@ abbrev pub is_at_rest : Session → Bool
 is_at_rest s = is_unopened s.connection && not s.closing
 
 -- no line waits, nothing is owed, and while it runs nothing is left to be done
-pub record IsFree (v : View) : Type 0 where
+pub record IsReadyForLine (v : View) : Type 0 where
   pub waiting : v.waiting ≡ None
   pub owed : v.owed ≡ []
   pub rests : runs v ≡ true → is_at_rest v.session ≡ true

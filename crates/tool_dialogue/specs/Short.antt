@@ -6,12 +6,12 @@ use Rattle.ftp_ports.specs.Beginning.{AppendsFront}
 use Rattle.ftp_server_model.specs.Failing.{OctetIsHeard}
 use Rattle.ftp_server_model.specs.Machine.{IsReading, Reading}
 use Rattle.ftp_server_model.specs.View.{View}
-use Rattle.tool_dialogue.specs.Dialogue.{Talk, greeted, runs, served, talk_of, told}
+use Rattle.tool_dialogue.specs.Dialogue.{Talk, greeted_talk, runs, served_twice, talk_of, told}
 
 -- an octet is heard, or its line fails; what is wanted is done, and what is owed is said; after QUIT no octet is heard
 abbrev pub Turns : Reading → Talk → ℕ → Talk → Type 0
 Turns read talk octet next =
-    ((runs talk.view ≡ true) × (heard : View) × OctetIsHeard read talk.view octet heard × (next ≡ told (served heard) talk))
+    ((runs talk.view ≡ true) × (heard : View) × OctetIsHeard read talk.view octet heard × (next ≡ told (served_twice heard) talk))
     ⊎ ((runs talk.view ≡ false) × (next ≡ talk))
 
 -- octets in order
@@ -38,7 +38,7 @@ pub record ReadsShort (read : Reading) (most : ℕ) (before after : Option (List
   pub piece : List ℕ
   pub few : length piece ≤ most
   pub talk : Talk
-  pub talks : Talks read greeted front talk
+  pub talks : Talks read greeted_talk front talk
   pub running : runs talk.view ≡ true
   pub given : Consumes before after (front ++ piece)
 

@@ -4,8 +4,8 @@ ghost use Rattle.std.specs.Io.KnownBytes.{Appends};
 ghost use Rattle.ftp_server_model.specs.Machine.{IsReading, Reading};
 ghost use Rattle.ftp_server.specs.Server.{view_of};
 ghost use Rattle.tool_dialogue.specs.Dialogue.{is_refusal, said, talk_of, talks, turn};
-ghost use Rattle.tool_dialogue.specs.Exchange.{BreaksIn, IsAnswered};
-ghost use Rattle.tool_dialogue.specs.Free.{IsFree};
+ghost use Rattle.tool_dialogue.specs.Exchange.{BreaksIn, OctetsAreAnswered};
+ghost use Rattle.tool_dialogue.specs.Free.{IsReadyForLine};
 ghost use Rattle.tool_dialogue.specs.Short.{BreaksInShort, IsAnsweredShort, Talks, Turns};
 
 use crate::refusal::is_refusal;
@@ -55,11 +55,11 @@ impl<A: Allocator + Copy> Answers<A> {
         piece: &[u8],
         writer: &mut W,
     ) -> Result<(), Failed>
-        requires free { IsFree (view_of T.table J.view server.old) }
+        requires free { IsReadyForLine (view_of T.table J.view server.old) }
         // Witness of free, answers, short, calm, wrote: `dialogue`, done.
-        ensures free { OnOk result (IsFree (view_of T.table J.view server.new)) }
+        ensures free { OnOk result (IsReadyForLine (view_of T.table J.view server.new)) }
         ensures answers { OnOk result (self.new.calm ≡ true
-            → IsAnswered piece.now (view_of T.table J.view server.old) self.old.refused self.new.text.items (view_of T.table J.view server.new) self.new.refused) }
+            → OctetsAreAnswered piece.now (view_of T.table J.view server.old) self.old.refused self.new.text.items (view_of T.table J.view server.new) self.new.refused) }
         ensures short { OnOk result (IsAnsweredShort piece.now (view_of T.table J.view server.old) self.old.refused self.new.text.items (view_of T.table J.view server.new) self.new.refused) }
         ensures calm { self.new.calm ≡ true → self.old.calm ≡ true }
         ensures wrote { OnOk result (Appends (W.contents writer.old) (W.contents writer.new) self.new.text.items) }
@@ -80,8 +80,8 @@ impl<A: Allocator + Copy> Answers<A> {
         server: &mut Server<A, T, J>,
         piece: &[u8],
     ) -> Result<(), Failed>
-        requires free { IsFree (view_of T.table J.view server.old) }
-        ensures free { OnOk result (IsFree (view_of T.table J.view server.new)) }
+        requires free { IsReadyForLine (view_of T.table J.view server.old) }
+        ensures free { OnOk result (IsReadyForLine (view_of T.table J.view server.new)) }
         ensures talks { OnOk result (self.new.calm ≡ true → (read : Reading) → IsReading read → (before : List ℕ)
             → talk_of (view_of T.table J.view server.new) (before ++ self.new.text.items) self.new.refused
             ≡ talks read (talk_of (view_of T.table J.view server.old) (before ++ self.old.text.items) self.old.refused) piece.now) }
@@ -102,8 +102,8 @@ impl<A: Allocator + Copy> Answers<A> {
         server: &mut Server<A, T, J>,
         octet: u8,
     ) -> Result<(), Failed>
-        requires free { IsFree (view_of T.table J.view server.old) }
-        ensures free { OnOk result (IsFree (view_of T.table J.view server.new)) }
+        requires free { IsReadyForLine (view_of T.table J.view server.old) }
+        ensures free { OnOk result (IsReadyForLine (view_of T.table J.view server.new)) }
         ensures turn { OnOk result (self.new.calm ≡ true → (read : Reading) → IsReading read → (before : List ℕ)
             → talk_of (view_of T.table J.view server.new) (before ++ self.new.text.items) self.new.refused
             ≡ turn read (talk_of (view_of T.table J.view server.old) (before ++ self.old.text.items) self.old.refused) octet) }

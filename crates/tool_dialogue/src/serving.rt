@@ -4,7 +4,7 @@ ghost use Rattle.std.specs.Prelude.{◌≡◌, ◌≢◌, None, false, length, t
 ghost use Rattle.ftp_server_model.specs.Failing.{OctetIsHeard};
 ghost use Rattle.ftp_server_model.specs.Machine.{IsReading, Reading, hears_octet, may_hear};
 ghost use Rattle.ftp_server.specs.Server.{counts_of, view_of};
-ghost use Rattle.tool_dialogue.specs.Dialogue.{said, served, serves};
+ghost use Rattle.tool_dialogue.specs.Dialogue.{said, served_twice, serves};
 
 use ftp_ends::Wants;
 use ftp_server::Server;
@@ -42,7 +42,7 @@ where
     T: SureTree<A>,
     J: ServerTransfer<A, T>,
     requires none { (view_of T.table J.view server.old).waiting ≡ None }
-    ensures served { view_of T.table J.view server.new ≡ served (view_of T.table J.view server.old) }
+    ensures served { view_of T.table J.view server.new ≡ served_twice (view_of T.table J.view server.old) }
     ensures none { (view_of T.table J.view server.new).waiting ≡ None }
 {
     serve_one(server);

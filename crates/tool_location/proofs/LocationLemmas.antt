@@ -3,7 +3,7 @@ use Rattle.std.proofs.Common.{◌≡◌, ◌≢◌, inl, inr, ℕ, List, [], ◌
 use Rattle.std.proofs.lemmas.List.Elements.{All-head, All-tail}
 use Rattle.ftp_endpoint.specs.Number.{IsPort, colon}
 use Rattle.ftp_facts.specs.Fact.{Lacks}
-use Rattle.tool_location.specs.Location.{BeginsInBrackets, IsBare, IsBracketed, IsHostAndPort, Names, SaysPortBehind, SaysServer, left_bracket, right_bracket, slash}
+use Rattle.tool_location.specs.Location.{BeginsInBrackets, IsBareHost, IsBracketed, IsHostAndPort, Names, SaysPortBehind, SaysServer, left_bracket, right_bracket, slash}
 
 -- no octet stands where it lacks
 pub Lacks-middle : (c : ℕ) (xs ys : List ℕ) → ¬ (Lacks (xs ++ c ∷ ys) c)
@@ -66,7 +66,7 @@ bracketed-same text h k p q a b =
     (same.0, port-along a.0 b.0 p q same.1 a.3 b.3)
 
 -- and one without
-bare-same : (text h k : List ℕ) (p q : ℕ) → IsBare text h p → IsBare text k q → (h ≡ k) × (p ≡ q)
+bare-same : (text h k : List ℕ) (p q : ℕ) → IsBareHost text h p → IsBareHost text k q → (h ≡ k) × (p ≡ q)
 bare-same text h k p q a b =
     let same = bare-ends h k a.0 b.0 (sym a.1 ∙ b.1) a.2 b.2 (behind a.0 p a.3) (behind b.0 q b.3) in
     (same.0, port-along a.0 b.0 p q same.1 a.3 b.3)
@@ -122,7 +122,7 @@ no_port_behind inside h b is lacks none host port a =
     none port (subst (λ t. SaysPortBehind t port) same.1 a.3)
 
 -- no port behind the colon
-pub no_port : (text h digits : List ℕ) → text ≡ h ++ colon ∷ digits → Lacks h colon → ¬ (IsPort digits) → (host : List ℕ) (port : ℕ) → ¬ (IsBare text host port)
+pub no_port : (text h digits : List ℕ) → text ≡ h ++ colon ∷ digits → Lacks h colon → ¬ (IsPort digits) → (host : List ℕ) (port : ℕ) → ¬ (IsBareHost text host port)
 no_port text h digits is lacks none host port a =
     let same = bare-ends host h a.0 (colon ∷ digits) (sym a.1 ∙ is) a.2 lacks (behind a.0 port a.3) refl in
     let says : SaysPortBehind (colon ∷ digits) port = subst (λ t. SaysPortBehind t port) same.1 a.3 in
@@ -135,7 +135,7 @@ no_bracketed text inside is none host port (inl a) = none host port (subst (λ t
 no_bracketed text inside is none host port (inr a) = a.0 (inside, is)
 
 -- a text without brackets that says nothing
-pub no_bare : (text : List ℕ) → ¬ (BeginsInBrackets text) → ((host : List ℕ) (port : ℕ) → ¬ (IsBare text host port))
+pub no_bare : (text : List ℕ) → ¬ (BeginsInBrackets text) → ((host : List ℕ) (port : ℕ) → ¬ (IsBareHost text host port))
     → (host : List ℕ) (port : ℕ) → ¬ (IsHostAndPort text host port)
 no_bare text not none host port (inl a) = not (begins text host port a)
 no_bare text not none host port (inr a) = none host port a.1

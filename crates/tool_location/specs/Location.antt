@@ -29,8 +29,8 @@ IsBracketed text host port =
     × SaysPortBehind behind port
 
 -- a host without a `:`, and a port behind it
-abbrev pub IsBare : List ℕ → List ℕ → ℕ → Type 0
-IsBare text host port = (behind : List ℕ) × (text ≡ host ++ behind) × Lacks host colon × SaysPortBehind behind port
+abbrev pub IsBareHost : List ℕ → List ℕ → ℕ → Type 0
+IsBareHost text host port = (behind : List ℕ) × (text ≡ host ++ behind) × Lacks host colon × SaysPortBehind behind port
 
 -- a text that begins with `[`
 abbrev pub BeginsInBrackets : List ℕ → Type 0
@@ -38,7 +38,7 @@ BeginsInBrackets text = (inside : List ℕ) × (text ≡ left_bracket ∷ inside
 
 -- a host, in brackets or not, and a port behind it
 abbrev pub IsHostAndPort : List ℕ → List ℕ → ℕ → Type 0
-IsHostAndPort text host port = IsBracketed text host port ⊎ (¬ BeginsInBrackets text × IsBare text host port)
+IsHostAndPort text host port = IsBracketed text host port ⊎ (¬ BeginsInBrackets text × IsBareHost text host port)
 
 -- a server's text says this host, which is not empty, and this port
 abbrev pub SaysServer : List ℕ → List ℕ → ℕ → Type 0

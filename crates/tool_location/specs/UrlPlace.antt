@@ -84,8 +84,8 @@ IsMisread url fault =
     ⊎ (IsUndecoded url.username fault ⊎ (IsUndecoded url.password fault ⊎ IsUndecoded (behind_slash url.path) fault))
 
 -- a text is no URL, or one that says no place, and why
-abbrev pub IsRefused : List ℕ → UrlFault → Type 0
-IsRefused text fault =
+abbrev pub IsUrlRefused : List ℕ → UrlFault → Type 0
+IsUrlRefused text fault =
     (fault ≡ Faults.Memory)
     ⊎ (((fault ≡ Faults.NoUrl) × ((error : ParseError) × (parse_url None text ≡ Err error)))
     ⊎ ((url : Parts) × (parse_url None text ≡ Ok url) × IsMisread url fault))

@@ -1,7 +1,7 @@
 // A text as a host, a port and a path.
 ghost use Rattle.std.specs.Prelude.{◌≡◌, ◌<◌, ◌∷◌, ◌++◌, ℕ, List, IfSome, IfNone};
 ghost use Rattle.ftp_facts.specs.Fact.{Lacks};
-ghost use Rattle.tool_location.specs.Location.{IsBare, IsBracketed, IsHostAndPort, Names, SaysPortBehind, SaysServer, left_bracket};
+ghost use Rattle.tool_location.specs.Location.{IsBareHost, IsBracketed, IsHostAndPort, Names, SaysPortBehind, SaysServer, left_bracket};
 ghost use Rattle.tool_location.specs.Placing.{last_part};
 
 use crate::placing::last_part;
@@ -86,8 +86,8 @@ fn port_behind(text: &str) -> Option<u16>
 
 /// The host that ends at the first colon, if there is one, and the port behind it.
 fn bare(text: &str) -> Option<(&str, u16)>
-    ensures some { IfSome result (λ server. IsBare text.now server.0.now server.1) }
-    ensures none { IfNone result ((host : List ℕ) (port : ℕ) → ¬ IsBare text.now host port) }
+    ensures some { IfSome result (λ server. IsBareHost text.now server.0.now server.1) }
+    ensures none { IfNone result ((host : List ℕ) (port : ℕ) → ¬ IsBareHost text.now host port) }
 {
     match cut_at(text, ':') {
         None => Some((text, CONTROL_PORT)),

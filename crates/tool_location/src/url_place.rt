@@ -1,7 +1,7 @@
 // A URL as a user, a password, a host, a port and a path.
 ghost use Rattle.std.specs.Prelude.{◌≡◌, IfOk, IfErr, string_bytes};
 ghost use Rattle.percent_encoding.specs.Percent.{percent_decode};
-ghost use Rattle.tool_location.specs.UrlPlace.{IsMisread, IsRefused, IsUndecoded, NamesByUrl, Says, behind_slash, is_url, without_brackets, wrong_part};
+ghost use Rattle.tool_location.specs.UrlPlace.{IsMisread, IsUrlRefused, IsUndecoded, NamesByUrl, Says, behind_slash, is_url, without_brackets, wrong_part};
 
 use crate::fault::UrlFault;
 use percent_encoding::{DecodeError, percent_decode};
@@ -53,7 +53,7 @@ pub fn url_place_of(alloc: Global, text: &str) -> Result<UrlPlace, UrlFault>
     // Witness of place: an equation for each field, of the one URL that the standard reads.
     ensures place { IfOk result (λ place. NamesByUrl text.now place) }
     // Witness of fault: `wrong_part`, an equation, beside memory.
-    ensures fault { IfErr result (λ fault. IsRefused text.now fault) }
+    ensures fault { IfErr result (λ fault. IsUrlRefused text.now fault) }
 {
     match Url::parse(alloc, text) {
         Ok(url) => place_in(alloc, &url),

@@ -95,12 +95,12 @@ abbrev pub took : (host user : List ℕ) → Search → List ℕ → Search
 took host user search word = took_at search.stage search.expects host user search word
 
 -- what was found
-abbrev pub entry_at : SearchStage → Option (List ℕ) → Option (List ℕ) → Option Entry
-entry_at Stages.Found (Some login) password = Some (record { login = login; password = password })
-entry_at stage login password = None
+abbrev pub entry_found : SearchStage → Option (List ℕ) → Option (List ℕ) → Option Entry
+entry_found Stages.Found (Some login) password = Some (record { login = login; password = password })
+entry_found stage login password = None
 
-abbrev pub entry_in : List ℕ → Search → Option Entry
-entry_in user search = let all = ended user search in entry_at all.stage all.login all.password
+abbrev pub entry_searched : List ℕ → Search → Option Entry
+entry_searched user search = let all = ended user search in entry_found all.stage all.login all.password
 
 -- a word that begins a macro
 abbrev pub is_macro : List ℕ → Bool

@@ -1,6 +1,6 @@
 // The words of a `.netrc` as entries, and the first that is looked for.
 ghost use Rattle.std.specs.Prelude.{◌≡◌, None, Some, bytes_eq};
-ghost use Rattle.tool_login.specs.Entry.{at_keyword, began, blank, ended, entry_in, is_host, is_macro, looked, named, suits, took, waiting, with_login, with_password};
+ghost use Rattle.tool_login.specs.Entry.{at_keyword, began, blank, ended, entry_searched, is_host, is_macro, looked, named, suits, took, waiting, with_login, with_password};
 
 use ftp_facts::Text;
 use std::alloc::Global;
@@ -162,7 +162,7 @@ impl EntrySearch<Text<Global>> {
 
     /// What was found, behind the last word of all.
     pub(crate) fn entry(self, user: &[u8]) -> Option<NetrcEntry<Text<Global>>>
-        ensures { result ≡ entry_in user.now self }
+        ensures { result ≡ entry_searched user.now self }
     {
         let EntrySearch {
             stage,

@@ -1,7 +1,7 @@
 // What a `.netrc` says of a host.
 ghost use Rattle.std.specs.Prelude.{◌≡◌, ◌++◌, ◌∷◌, [], OnOk, IfOk, IfErr};
 ghost use Rattle.std.specs.List.{fold};
-ghost use Rattle.tool_login.specs.Netrc.{IsNetrcFault, did, entry_said, is_torn, kept, read, start, step, word_ended};
+ghost use Rattle.tool_login.specs.Netrc.{IsNetrcFault, state_behind, entry_said, is_torn, kept, read, start, step, word_ended};
 
 use crate::entry::{EntrySearch, NetrcEntry, Wanted, is_macro};
 use crate::fault::NetrcFault;

@@ -41,8 +41,8 @@ abbrev pub taken_out : List RefusedLogin → Option ℕ → List RefusedLogin
 taken_out login_limiter None = login_limiter
 taken_out login_limiter (Some place) = remove login_limiter place
 
-abbrev pub without : List RefusedLogin → ℕ → List RefusedLogin
-without login_limiter address = taken_out login_limiter (place_of login_limiter address)
+abbrev pub without_address : List RefusedLogin → ℕ → List RefusedLogin
+without_address login_limiter address = taken_out login_limiter (place_of login_limiter address)
 
 -- where there is no room the address goes whose last refused login is the oldest
 abbrev pub make_room : List RefusedLogin → List RefusedLogin
@@ -61,7 +61,7 @@ held_of login_limiter address = unwrap_or (option_map answer_of (find (is_of add
 -- a login of an address was refused now
 abbrev pub after_refusal : List RefusedLogin → ℕ → ℕ → List RefusedLogin
 after_refusal login_limiter address now =
-    make_room (without login_limiter address)
+    make_room (without_address login_limiter address)
     ++ record { address = address; count = one_more (refused_of login_limiter address now); last = now; held = held_of login_limiter address } ∷ []
 
 -- answers to an address are slow

@@ -7,7 +7,7 @@ use Rattle.ftp_client_model.specs.Tries.{over_breaks}
 use Rattle.ftp_server_model.specs.Machine.{Reading}
 use Rattle.ftp_pair_events.specs.declared.queues.between.Queue.{Queue}
 use Rattle.laws_world.specs.Agreement as worlds
-use Rattle.laws_world.specs.Agreement.{AreHonest, IsHonest, Leads, begun_by}
+use Rattle.laws_world.specs.Agreement.{AreHonest, IsHonest, Leads, begun_by_event}
 use Rattle.laws_world.specs.Claims.{AreTimed, IsTimed}
 use Rattle.laws_world.specs.Events as events
 use Rattle.laws_world.specs.Events.{Event, Happens}
@@ -17,7 +17,7 @@ use Rattle.ftp_pair.specs.Session.{Seen}
 use Rattle.tool_script.specs.declared.order.Order.{Order}
 use Rattle.tool_script.specs.declared.order.Order.TheVariants.{Once, Tries}
 use Rattle.ftp_tree.specs.Sound.{last_second}
-use Rattle.tool_pair.specs.Leading.{LeadsTaking, LeadsTo, delivered_by, deliveries, first_second, order_at, orders_at}
+use Rattle.tool_pair.specs.Leading.{LeadsTaking, LeadsTo, delivered_by, deliveries, first_second, order_at, script_orders_at}
 use Rattle.tool_pair.specs.Telling.{HasTold, LeadsTelling, TellsMore}
 use Rattle.tool_pair.specs.Transcript.{Delivery, delivered}
 use Rattle.tool_pair.specs.declared.transcript.Transcript.{Transcript}
@@ -34,7 +34,7 @@ taking_on read (event ∷ front) given begun more took also old mid new one othe
     let run = one.0 in
     let behind = deliveries read run.1 front run.2 mid run.5 in
     let on = taking_on read front given run.2 more behind also run.1 mid new (run.5, refl) other in (
-      (run.0, run.1, run.2 ++ more, run.3, ap (λ b. b ++ more) run.4 ∙ append_assoc (begun_by event run.0) run.2 more, on.0),
+      (run.0, run.1, run.2 ++ more, run.3, ap (λ b. b ++ more) run.4 ∙ append_assoc (begun_by_event event run.0) run.2 more, on.0),
       ap (λ t. t ++ also) one.1 ∙ append_assoc (delivered_by event run.0 run.1) behind also ∙ ap (λ t. delivered_by event run.0 run.1 ++ t) on.1,
     )
 
@@ -77,19 +77,19 @@ four a b c d e first second third last = joined [] [] [] [] a d e (joined [] [] 
 -- it leads on
 one_leads : (event : Event) (possible : Bool) (old new : Seen) → IsHonest event → IsTimed event
     → Steps old.calm new.calm (λ read. Happens read event old.world possible new.world)
-    → LeadsTo (begun_by event possible ++ []) (delivered_by event possible new.world ++ []) old new
+    → LeadsTo (begun_by_event event possible ++ []) (delivered_by event possible new.world ++ []) old new
 one_leads event possible old new honest timed steps calm =
     let did = steps calm in
     (did.0, λ read reads. (event ∷ [], (honest, tt), (timed, tt), ((possible, new.world, [], did.1 read reads, refl, (refl, refl)), refl)))
 
 -- one that begins nothing and takes nothing
-quiet_leads : {E : Type 0} (event : Event) (r : Result Bool E) (old new : Seen) → IsHonest event → IsTimed event → ((possible : Bool) → begun_by event possible ≡ [])
+quiet_leads : {E : Type 0} (event : Event) (r : Result Bool E) (old new : Seen) → IsHonest event → IsTimed event → ((possible : Bool) → begun_by_event event possible ≡ [])
     → ((possible : Bool) (w : World) → delivered_by event possible w ≡ [])
     → IfOk r (λ possible. Steps old.calm new.calm (λ read. Happens read event old.world possible new.world)) → OnOk r (LeadsTo [] [] old new)
 quiet_leads event (Ok possible) old new honest timed none untaken did =
     subst (λ b. LeadsTo b [] old new) (none possible)
-    (subst (λ b. LeadsTo b [] old new) (append-nil (begun_by event possible))
-    (subst (λ t. LeadsTo (begun_by event possible ++ []) t old new) (append-nil (delivered_by event possible new.world) ∙ untaken possible new.world)
+    (subst (λ b. LeadsTo b [] old new) (append-nil (begun_by_event event possible))
+    (subst (λ t. LeadsTo (begun_by_event event possible ++ []) t old new) (append-nil (delivered_by event possible new.world) ∙ untaken possible new.world)
     (one_leads event possible old new honest timed did)))
 quiet_leads event (Err error) old new honest timed none untaken did = tt
 
@@ -186,18 +186,18 @@ round_told a b c d e f g h i j k l first second third last opened ended =
 
 -- behind others
 orders_more : (moment : ℕ) (orders : List (Order (List ℕ))) (order : Order (List ℕ))
-    → orders_at moment orders ++ order_at (moment + length orders) order ∷ [] ≡ orders_at moment (orders ++ order ∷ [])
+    → script_orders_at moment orders ++ order_at (moment + length orders) order ∷ [] ≡ script_orders_at moment (orders ++ order ∷ [])
 orders_more moment [] order = ap (λ m. order_at m order ∷ []) (omega (arith))
 orders_more moment (one ∷ orders) order =
-    ap (λ l. order_at moment one ∷ l) (ap (λ m. orders_at (moment + 1) orders ++ order_at m order ∷ []) (omega (arith)) ∙ orders_more (moment + 1) orders order)
+    ap (λ l. order_at moment one ∷ l) (ap (λ m. script_orders_at (moment + 1) orders ++ order_at m order ∷ []) (omega (arith)) ∙ orders_more (moment + 1) orders order)
 
 -- it leads on
 pub order_leads : {A : Type 0} (moment at : ℕ) (orders : List (Order (List ℕ))) (order : Order (List ℕ)) (old mid new : Seen) (notes later : Transcript A)
-    → LeadsTelling (orders_at moment orders) old mid notes later → at ≡ moment + length orders → LeadsTo (order_at at order ∷ []) [] mid new
-    → LeadsTelling (orders_at moment (orders ++ order ∷ [])) old new notes later
+    → LeadsTelling (script_orders_at moment orders) old mid notes later → at ≡ moment + length orders → LeadsTo (order_at at order ∷ []) [] mid new
+    → LeadsTelling (script_orders_at moment (orders ++ order ∷ [])) old new notes later
 order_leads moment at orders order old mid new notes later front is last =
     subst (λ b. LeadsTelling b old new notes later) (orders_more moment orders order)
-    (then_silent (orders_at moment orders) (order_at (moment + length orders) order ∷ []) old mid new notes later front
+    (then_silent (script_orders_at moment orders) (order_at (moment + length orders) order ∷ []) old mid new notes later front
     (subst (λ m. LeadsTo (order_at m order ∷ []) [] mid new) is last))
 
 -- the number of orders, one more
@@ -212,7 +212,7 @@ none_left (one ∷ l) none = absurd (omega (arith, none))
 
 -- orders that were all lead on, and what follows
 pub all_lead : {A : Type 0} (moment : ℕ) (all front rest : List (Order (List ℕ))) (old mid new : Seen) (notes later last : Transcript A) → all ≡ front ++ rest → length rest ≡ 0
-    → LeadsTelling (orders_at moment front) old mid notes later → LeadsTelling [] mid new later last → LeadsTelling (orders_at moment all) old new notes last
+    → LeadsTelling (script_orders_at moment front) old mid notes later → LeadsTelling [] mid new later last → LeadsTelling (script_orders_at moment all) old new notes last
 all_lead moment all front rest old mid new notes later last is none leads behind =
-    subst (λ l. LeadsTelling (orders_at moment l) old new notes last) (sym (is ∙ ap (λ l. front ++ l) (none_left rest none) ∙ append-nil front))
-    (telling_on (orders_at moment front) old mid new notes later last leads behind)
+    subst (λ l. LeadsTelling (script_orders_at moment l) old new notes last) (sym (is ∙ ap (λ l. front ++ l) (none_left rest none) ∙ append-nil front))
+    (telling_on (script_orders_at moment front) old mid new notes later last leads behind)

@@ -16,16 +16,16 @@ use Rattle.tool_script.specs.declared.reading.NoScript.{NoScript}
 use Rattle.tool_script.specs.declared.reading.NoScript.TheVariants as Nones
 use Rattle.tool_terminal.specs.declared.status.Status.{Status}
 use Rattle.tool_terminal.specs.declared.status.Status.TheVariants.{Refused}
-use Rattle.tool_pair.specs.Leading.{LeadsTaking, LeadsTo, Led, Rests, first_second, orders_at}
+use Rattle.tool_pair.specs.Leading.{LeadsTaking, LeadsTo, Led, Rests, first_second, script_orders_at}
 use Rattle.tool_pair.specs.Making.{own_beginning}
 use Rattle.tool_pair.specs.Played.{Plays, PlaysIn, Tells}
-use Rattle.tool_pair.specs.Telling.{HasTold, LeadsTelling, is_wanted, text_of}
+use Rattle.tool_pair.specs.Telling.{HasTold, LeadsTelling, is_transcript_wanted, text_of}
 use Rattle.tool_pair.specs.Transcript.{Delivery, transcript}
 use Rattle.tool_pair.specs.declared.transcript.Transcript.{Transcript}
 
 -- the text of a transcript and then reports, where orders led from one world to another
 pub reported : {A : Type 0} (B : Type 0) (wanted : Bool) (orders : List (Order (List ℕ))) (first last : Seen) (notes later : Transcript A) (old mid new : Option (List ℕ)) (text : List ℕ)
-    (answers : List (Answer B)) (status : Status) → LeadsTelling (orders_at first_second orders) first last notes later → is_wanted notes ≡ wanted → HasTold notes []
+    (answers : List (Answer B)) (status : Status) → LeadsTelling (script_orders_at first_second orders) first last notes later → is_transcript_wanted notes ≡ wanted → HasTold notes []
     → text ≡ text_of later → Appends old mid text → Appends mid new (flat_map report answers) → map said_of answers ≡ last.world.reports
     → length last.world.reports ≡ length first.world.reports + length orders → status ≡ (if last.calm then worst_of answers else Refused) → PlaysIn B wanted orders first last old new status
 reported B wanted orders first last notes later old mid new text answers status leads is none same one other said each worst =
@@ -63,11 +63,11 @@ on_ok (Err e) f p = tt
 
 -- what orders lead to, from two ends that begin fairly
 led : (from : Beginning) (orders : List (Order (List ℕ))) (took : List Delivery) (old new : Seen) → IsFair from → old.world ≡ world_of from
-    → LeadsTo (orders_at first_second orders) took old new → Rests (orders_at first_second orders) old new → new.calm ≡ true → Led from orders took new.world
+    → LeadsTo (script_orders_at first_second orders) took old new → Rests (script_orders_at first_second orders) old new → new.calm ≡ true → Led from orders took new.world
 led from orders took old new fair is leads rests calm = record {
   fair = fair;
   leads = λ read reads. let so = (leads calm).1 read reads in
-      (so.0, so.1, so.2, subst (λ w. LeadsTaking read w so.0 (orders_at first_second orders) took new.world) is so.3);
+      (so.0, so.1, so.2, subst (λ w. LeadsTaking read w so.0 (script_orders_at first_second orders) took new.world) is so.3);
   rests = rests calm from fair is;
 }
 
@@ -77,7 +77,7 @@ none_more none more is = omega (arith, is)
 
 -- the reports of a world that was reached so
 pub played : {E : Type 0} (A : Type 0) (wanted : Bool) (from : Beginning) (orders : List (Order (List ℕ))) (first w : Seen) (old new : Option (List ℕ)) (r : Result Status E)
-    → IsFair from → first.world ≡ world_of from → IfOk r (λ status. PlaysIn A wanted orders first w old new status) → OnOk r (Rests (orders_at first_second orders) first w)
+    → IsFair from → first.world ≡ world_of from → IfOk r (λ status. PlaysIn A wanted orders first w old new status) → OnOk r (Rests (script_orders_at first_second orders) first w)
     → IfOk r (λ status. Plays A wanted from orders old new status)
 played A wanted from orders first w old new (Ok status) fair is plays rests = record {
   took = plays.took;

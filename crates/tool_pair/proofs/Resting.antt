@@ -8,12 +8,12 @@ use Rattle.laws_world.specs.Claims.{Beginning, IsFair, world_of}
 use Rattle.laws_world.specs.Events.{IsQuiet}
 use Rattle.ftp_server_model.proofs.LinesDecided.{reading_exists}
 use Rattle.ftp_server_model.specs.Machine.{IsReading, Reading}
-use Rattle.tool_pair.specs.Leading.{IsAtRest, LeadsTo, Rests}
+use Rattle.tool_pair.specs.Leading.{HaveComeToRest, LeadsTo, Rests}
 use Rattle.tool_pair.specs.Transcript.{Delivery}
 
 -- with a reading of lines
 at_rest : (read : Reading) → IsReading read → (begun : List worlds.Order) (took : List Delivery) (old new : Seen) → LeadsTo begun took old new → IsQuiet new.world
-    → new.calm ≡ true → (from : Beginning) → IsFair from → old.world ≡ world_of from → IsAtRest from begun new.world
+    → new.calm ≡ true → (from : Beginning) → IsFair from → old.world ≡ world_of from → HaveComeToRest from begun new.world
 at_rest read reads begun took old new leads quiet calm from fair is =
     let so = (leads calm).1 read reads in
     let run : Leads read (world_of from) so.0 begun new.world = subst (λ w. Leads read w so.0 begun new.world) is so.3.0 in

@@ -13,14 +13,14 @@ use Rattle.ftp_pair_events.specs.declared.queues.between.Queue as channels
 use Rattle.ftp_pair_events.specs.declared.queues.between.Queue.TheVariants as Queues
 use Rattle.ftp_pair_events.specs.events.Shown.{queue_of}
 use Rattle.laws_world.specs.Events.{ControlToClient, ControlToServer, DataToClient, DataToServer}
-use Rattle.tool_pair.specs.Transcript.{Delivery, delivered, ended_by, lines_in, to_client, to_server, told_after, told_line, told_of, transcript}
+use Rattle.tool_pair.specs.Transcript.{Delivery, delivered, lines_ended_by, lines_in, to_client, to_server, told_after, told_line, told_of, transcript}
 use Rattle.tool_pair.specs.Telling.{Ends, HasTold, TellsMore}
 use Rattle.tool_pair.specs.declared.transcript.Transcript.{Transcript}
 
 -- ---- lines
 
 -- none of these octets is an LF, as cuts ask for it
-no_feed : (octets : List ℕ) → Lacks octets 10 → nvt.Lacks 10 octets
+no_feed : (octets : List ℕ) → Lacks octets 10 → nvt.IsNoneOf 10 octets
 no_feed [] lacks = tt
 no_feed (octet ∷ octets) lacks = (ne_eqb octet 10 (All-head (λ each. each ≢ 10) octet octets lacks), no_feed octets (All-tail (λ each. each ≢ 10) octet octets lacks))
 
@@ -120,7 +120,7 @@ told-append front (one ∷ before) next =
 
 -- the lines that octets end after others
 lines_more : (before octets : List ℕ) (ended : List (List ℕ)) (rest : List ℕ) → cut (before ++ octets) ≡ record { ended = (cut before).ended ++ ended; rest = rest }
-    → map without_return ended ≡ ended_by before octets
+    → map without_return ended ≡ lines_ended_by before octets
 lines_more before octets ended rest is =
     sym (ap (λ l. drop (length (lines_in before)) l) (ap (λ k. map without_return k.ended) is ∙ map-append without_return (cut before).ended ended)
     ∙ drop-append_seam (lines_in before) (map without_return ended))

@@ -22,9 +22,9 @@ order_at moment (Once op) = worlds.Single op moment
 order_at moment (Tries path octets how) = worlds.Tries (over_breaks path octets how) moment
 
 -- the orders of a script: the first at this moment, each other a second later (own choice)
-abbrev pub orders_at : ℕ → List (Order (List ℕ)) → List worlds.Order
-orders_at moment [] = []
-orders_at moment (order ∷ orders) = order_at moment order ∷ orders_at (moment + 1) orders
+abbrev pub script_orders_at : ℕ → List (Order (List ℕ)) → List worlds.Order
+script_orders_at moment [] = []
+script_orders_at moment (order ∷ orders) = order_at moment order ∷ script_orders_at (moment + 1) orders
 
 -- an event that was a delivery, where it was possible, took what the world after it lends
 abbrev pub delivered_by : Event → Bool → World → List Delivery
@@ -49,7 +49,7 @@ LeadsTo begun took old new =
 
 -- a world in which these operations have come to rest: reports and map agree with them, nothing is in flight, each has its report, and where none is
 -- an upload over breaks all is as in the direct run
-pub record IsAtRest (from : Beginning) (begun : List worlds.Order) (w : World) : Type 0 where
+pub record HaveComeToRest (from : Beginning) (begun : List worlds.Order) (w : World) : Type 0 where
   pub agrees : WorldAgrees (state_of from) begun w
   pub quiet : IsQuiet w
   pub answered : IsAnswered begun w
@@ -57,12 +57,12 @@ pub record IsAtRest (from : Beginning) (begun : List worlds.Order) (w : World) :
 
 -- so it is, where nothing failed, from any fair beginning
 abbrev pub Rests : List worlds.Order → Seen → Seen → Type 0
-Rests begun old new = new.calm ≡ true → (from : Beginning) → IsFair from → old.world ≡ world_of from → IsAtRest from begun new.world
+Rests begun old new = new.calm ≡ true → (from : Beginning) → IsFair from → old.world ≡ world_of from → HaveComeToRest from begun new.world
 
 -- two ends begin fairly; deliveries that took this, openings, ends and the orders of a script, each begun at its moment, lead from them to this world,
 -- in which they have come to rest
 pub record Led (from : Beginning) (orders : List (Order (List ℕ))) (took : List Delivery) (w : World) : Type 0 where
   pub fair : IsFair from
   pub leads : (read : Reading) → IsReading read
-      → (given : List Event) × AreHonest given × AreTimed given × LeadsTaking read (world_of from) given (orders_at first_second orders) took w
-  pub rests : IsAtRest from (orders_at first_second orders) w
+      → (given : List Event) × AreHonest given × AreTimed given × LeadsTaking read (world_of from) given (script_orders_at first_second orders) took w
+  pub rests : HaveComeToRest from (script_orders_at first_second orders) w

@@ -12,13 +12,13 @@ use Rattle.tool_script.specs.Reading.{GivesAll}
 use Rattle.tool_script.specs.Status.{worst_of}
 use Rattle.tool_terminal.specs.declared.status.Status.{Status}
 use Rattle.tool_terminal.specs.declared.status.Status.TheVariants.{BadWords, Failed, Refused}
-use Rattle.tool_pair.specs.Leading.{Led, LeadsTo, first_second, orders_at}
+use Rattle.tool_pair.specs.Leading.{Led, LeadsTo, first_second, script_orders_at}
 use Rattle.tool_pair.specs.Making.{own_beginning}
 use Rattle.tool_pair.specs.Transcript.{Delivery, transcript}
 
 -- this text was written, and after it the report of each answer in this world. The status is their worst, and 1 where an end was refused memory. A is the
 -- type of an allocator, and says nothing
-pub record Reports (A : Type 0) (front : List ℕ) (last : Seen) (old new : Option (List ℕ)) (status : Status) : Type 0 where
+pub record WritesReports (A : Type 0) (front : List ℕ) (last : Seen) (old new : Option (List ℕ)) (status : Status) : Type 0 where
   pub answers : List (Answer A)
   pub same : map said_of answers ≡ last.world.reports
   pub wrote : Appends old new (front ++ flat_map report answers)
@@ -28,9 +28,9 @@ pub record Reports (A : Type 0) (front : List ℕ) (last : Seen) (old new : Opti
 -- way was written, where it is wanted, and then all reports
 pub record PlaysIn (A : Type 0) (wanted : Bool) (orders : List (Order (List ℕ))) (first last : Seen) (old new : Option (List ℕ)) (status : Status) : Type 0 where
   pub took : List Delivery
-  pub leads : LeadsTo (orders_at first_second orders) took first last
+  pub leads : LeadsTo (script_orders_at first_second orders) took first last
   pub each : length last.world.reports ≡ length first.world.reports + length orders
-  pub reports : Reports A (transcript wanted took) last old new status
+  pub reports : WritesReports A (transcript wanted took) last old new status
 
 -- the orders led from this beginning to a world, where no end was refused memory, and each has its report in any case; the transcript of what was taken on
 -- the way was written, where it is wanted, and then the reports of that world
@@ -39,7 +39,7 @@ pub record Plays (A : Type 0) (wanted : Bool) (from : Beginning) (orders : List 
   pub last : Seen
   pub led : last.calm ≡ true → Led from orders took last.world
   pub each : length last.world.reports ≡ length orders
-  pub reports : Reports A (transcript wanted took) last old new status
+  pub reports : WritesReports A (transcript wanted took) last old new status
 
 -- a reader gave a script, which was played, with a transcript or without, with roots or without
 pub record PlaysAll (A : Type 0) (wanted roots : Bool) (known left old new : Option (List ℕ)) (status : Status) : Type 0 where

@@ -8,8 +8,8 @@ use Rattle.tool_pair.specs.Transcript.{Delivery, to_client, to_server, told_line
 use Rattle.tool_pair.specs.declared.transcript.Transcript.{Transcript}
 
 -- whether this transcript keeps lines
-abbrev pub is_wanted : {A : Type 0} → Transcript A → Bool
-is_wanted t = t.wanted
+abbrev pub is_transcript_wanted : {A : Type 0} → Transcript A → Bool
+is_transcript_wanted t = t.wanted
 
 -- the lines that it has
 abbrev pub text_of : {A : Type 0} → Transcript A → List ℕ
@@ -17,13 +17,13 @@ text_of t = t.lines.items
 
 -- this transcript can have been told just these deliveries: it has their lines, and where it is wanted what of each side's is no line yet
 pub record HasTold {A : Type 0} (t : Transcript A) (deliveries : List Delivery) : Type 0 where
-  pub lines : text_of t ≡ transcript (is_wanted t) deliveries
-  pub to_server : is_wanted t ≡ true → t.to_server.items ≡ (cut (to_server deliveries)).rest
-  pub to_client : is_wanted t ≡ true → t.to_client.items ≡ (cut (to_client deliveries)).rest
+  pub lines : text_of t ≡ transcript (is_transcript_wanted t) deliveries
+  pub to_server : is_transcript_wanted t ≡ true → t.to_server.items ≡ (cut (to_server deliveries)).rest
+  pub to_client : is_transcript_wanted t ≡ true → t.to_client.items ≡ (cut (to_client deliveries)).rest
 
 -- a transcript that was told some deliveries was told these too
 pub record TellsMore {A : Type 0} (old : Transcript A) (given : List Delivery) (new : Transcript A) : Type 0 where
-  pub wanted : is_wanted new ≡ is_wanted old
+  pub wanted : is_transcript_wanted new ≡ is_transcript_wanted old
   pub told : (before : List Delivery) → HasTold old before → HasTold new (before ++ given)
 
 -- deliveries, openings, ends and these operations lead from one world to the other, and the transcript was told of just what was taken

@@ -25,8 +25,8 @@ abbrev pub lines_in : List ℕ → List (List ℕ)
 lines_in octets = map without_return (cut octets).ended
 
 -- the lines that octets end which come after others
-abbrev pub ended_by : List ℕ → List ℕ → List (List ℕ)
-ended_by before octets = drop (length (lines_in before)) (lines_in (before ++ octets))
+abbrev pub lines_ended_by : List ℕ → List ℕ → List (List ℕ)
+lines_ended_by before octets = drop (length (lines_in before)) (lines_in (before ++ octets))
 
 -- a line, with who says it before it
 abbrev pub told_line : List ℕ → List ℕ → List ℕ
@@ -35,8 +35,8 @@ told_line who line = who ++ line ++ 10 ∷ []
 -- what is told of a delivery that comes after others: the lines that it ends, of the client where the server took them, and of the server where the
 -- client did; nothing of data
 abbrev pub told_of : List Delivery → Delivery → List ℕ
-told_of before (delivered ControlToServer octets) = flat_map (told_line (codes "C: ")) (ended_by (to_server before) octets)
-told_of before (delivered ControlToClient octets) = flat_map (told_line (codes "S: ")) (ended_by (to_client before) octets)
+told_of before (delivered ControlToServer octets) = flat_map (told_line (codes "C: ")) (lines_ended_by (to_server before) octets)
+told_of before (delivered ControlToClient octets) = flat_map (told_line (codes "S: ")) (lines_ended_by (to_client before) octets)
 told_of before (delivered DataToServer octets) = []
 told_of before (delivered DataToClient octets) = []
 

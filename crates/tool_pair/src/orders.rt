@@ -1,7 +1,7 @@
 // The orders of a script, one after another.
 ghost use Rattle.std.specs.Prelude.{◌≡◌, ◌+◌, ◌∷◌, [], true, IfOk, OnOk, length};
 ghost use Rattle.laws_world.specs.Events.{IsQuiet};
-ghost use Rattle.tool_pair.specs.Leading.{LeadsTo, Rests, first_second, order_at, orders_at};
+ghost use Rattle.tool_pair.specs.Leading.{LeadsTo, Rests, first_second, order_at, script_orders_at};
 ghost use Rattle.tool_pair.specs.Telling.{LeadsTelling};
 
 use crate::rounds::round;
@@ -30,8 +30,8 @@ where
     T: Tree<A>,
     N: Near<A>,
     S: SureFar<A, T>,
-    ensures leads { OnOk result (LeadsTelling (orders_at first_second orders.items) world.old world.new transcript.old transcript.new) }
-    ensures rests { OnOk result (Rests (orders_at first_second orders.items) world.old world.new) }
+    ensures leads { OnOk result (LeadsTelling (script_orders_at first_second orders.items) world.old world.new transcript.old transcript.new) }
+    ensures rests { OnOk result (Rests (script_orders_at first_second orders.items) world.old world.new) }
     ensures each { OnOk result (length world.new.world.reports ≡ length world.old.world.reports + length orders.items) }
 {
     let wanted = reports_wanted(world, &orders)?;

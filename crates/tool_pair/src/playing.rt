@@ -2,7 +2,7 @@
 ghost use Rattle.std.specs.Prelude.{◌≡◌, true, IfOk, OnOk};
 ghost use Rattle.tool_pair.specs.Begun.{begun};
 ghost use Rattle.tool_terminal.specs.declared.status.Status.TheVariants.{Done, Failed};
-ghost use Rattle.tool_pair.specs.Leading.{Rests, first_second, orders_at};
+ghost use Rattle.tool_pair.specs.Leading.{Rests, first_second, script_orders_at};
 ghost use Rattle.tool_pair.specs.Making.{own_beginning};
 ghost use Rattle.tool_script.specs.Status.{status_without};
 ghost use Rattle.tool_pair.specs.Played.{Plays, PlaysIn, Tells};
@@ -145,7 +145,7 @@ where
     // Witness of plays, rests: `pair`.
     ensures plays { IfOk result (λ status. PlaysIn A settings.transcript orders.items world.old world.new
         (W.contents writer.old) (W.contents writer.new) status) }
-    ensures rests { OnOk result (Rests (orders_at first_second orders.items) world.old world.new) }
+    ensures rests { OnOk result (Rests (script_orders_at first_second orders.items) world.old world.new) }
     // Witness of calm: `edits/refused_memory_is_status_0`.
     ensures calm { IfOk result (λ status. status ≡ Done → world.new.calm ≡ true) }
 {

@@ -4,7 +4,7 @@ ghost use Rattle.ftp_facts.specs.Fact.{Lacks};
 ghost use Rattle.ftp_nvt.specs.Lines.{without_return};
 ghost use Rattle.ftp_pair_events.specs.events.Shown.{queue_of};
 ghost use Rattle.tool_pair.specs.Transcript.{delivered, told_line};
-ghost use Rattle.tool_pair.specs.Telling.{Ends, HasTold, TellsMore, is_wanted, text_of};
+ghost use Rattle.tool_pair.specs.Telling.{Ends, HasTold, TellsMore, is_transcript_wanted, text_of};
 
 use ftp_facts::cut_at;
 use ftp_pair::Queue;
@@ -22,7 +22,7 @@ pub struct Transcript<A: Allocator + Copy> {
 impl<A: Allocator + Copy> Transcript<A> {
     /// No lines yet; none are kept where they are not wanted. Takes no memory.
     pub fn new(alloc: A, wanted: bool) -> Transcript<A>
-        ensures wanted { is_wanted result ≡ wanted }
+        ensures wanted { is_transcript_wanted result ≡ wanted }
         // Witness of told: equations.
         ensures told { HasTold result [] }
     {

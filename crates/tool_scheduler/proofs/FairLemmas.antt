@@ -13,7 +13,7 @@ use Rattle.std.proofs.lemmas.List.Sorted.{All-permutation, length_permutation}
 use Rattle.std.proofs.lemmas.Option.{get_or_from_slice_get, slice_get-get_or, slice_get_within}
 use Rattle.std.specs.List.{range_with_len}
 use Rattle.tool_scheduler.specs.Order.{Takes, first_ready, is_ready}
-use Rattle.tool_scheduler.specs.Fair.{Turn, Leads, IsPassedOver, takers, AreDifferent, NobodyIsPassedTwice, PlacesStay, FairFromTheStart}
+use Rattle.tool_scheduler.specs.Fair.{Turn, Reorders, IsPassedOver, takers, AreDifferent, NobodyIsPassedTwice, PlacesStay, FairFromTheStart}
 
 -- ---- lists from which one is removed
 
@@ -115,7 +115,7 @@ passed_one front at turn turns differ is rest =
 
 -- so it is of all turns that pass a place over
 passed :
-    (front back last : List ℕ) (place : ℕ) (turns : List Turn) → AreDifferent front → Leads (front ++ place ∷ back) turns last
+    (front back last : List ℕ) (place : ℕ) (turns : List Turn) → AreDifferent front → Reorders (front ++ place ∷ back) turns last
     → IsPassedOver place turns → Passed front turns
 passed front back last place [] differ leads over =
     record { different = λ i j d below lt same. omega (arith, lt); stood = λ k d lt. absurd (omega (arith, lt)); few = omega arith }
@@ -123,7 +123,7 @@ passed front back last place (turn ∷ turns) differ (rest, takes, leads) (ready
     let one : Passes front back place turn.place rest = passes turn.ready front back rest place turn.place ready_now other takes in
     passed_one front one.at turn turns differ one.stood
     (passed (remove front one.at) (back ++ turn.place ∷ []) last place turns (all_pairs_remove (λ one other. one ≢ other) front one.at one.within differ)
-    (subst (λ xs. Leads xs turns last) one.is leads) over)
+    (subst (λ xs. Reorders xs turns last) one.is leads) over)
 
 -- only the places in front of one that is passed over take turns, each of them one at most
 pub nobody_is_passed_twice : NobodyIsPassedTwice
@@ -134,7 +134,7 @@ nobody_is_passed_twice places last turns place differ (at, within, is) leads ove
     sym (take-append-drop at places) ∙ ap (λ xs. front ++ xs) (drop-cons places at place within ∙ ap (λ x. x ∷ back) is) in
     let all : Passed front turns =
     passed front back last place turns (front_differs front (place ∷ back) (subst AreDifferent whole differ))
-    (subst (λ xs. Leads xs turns last) whole leads) over in
+    (subst (λ xs. Reorders xs turns last) whole leads) over in
     let long : length places ≡ length front + length (place ∷ back) = ap length whole ∙ length-append front (place ∷ back) in
     (all.different, omega (arith, long, all.few))
 

@@ -10,8 +10,8 @@ use Rattle.std.proofs.lemmas.Option.{get_or_from_slice_get, slice_get_past, unwr
 use Rattle.std.specs.List.{range_with_len}
 use Rattle.ftp_ports.specs.Asking.{Adds}
 use Rattle.tool_scheduler.specs.Order.{LeavesOne, Takes, first_ready, is_ready, is_so}
-use Rattle.tool_scheduler.specs.Rounds.{AreEnded, AreRounds, AreTaken, Began, Comes, Action, Ended, Gave, Goes, IsDone, IsNext, LeavesAddress, LeavesPlace, Spares}
-use Rattle.tool_scheduler.specs.Rounds.{Standing, Step, Steps, Turns, action_of, host_in, is_same, is_taken, ones, standing, start, told_if}
+use Rattle.tool_scheduler.specs.Rounds.{AreEnded, AreRounds, HaveSlots, Began, ComesMeanwhile, RoundAction, Ended, Gave, GoesOnTo, IsRoundDone, IsNext, LeavesAddress, LeavesPlace, Spares}
+use Rattle.tool_scheduler.specs.Rounds.{RoundStanding, Step, Steps, TakesTurnInOrder, action_of, host_in, is_same, is_slot_taken, ones, round_standing, start, told_if}
 use Rattle.tool_scheduler.specs.declared.slot.Turn.{Turn}
 use Rattle.tool_scheduler.specs.declared.waiting.WaitQueue.{WaitQueue}
 
@@ -33,58 +33,58 @@ adds_then (Some x) (Some y) (Some z) first second one two = two ∙ ap (λ l. se
 
 -- actions lead on
 pub steps_then :
-    (from mid to : Standing) (first second : List Action) → Steps from first mid → Steps mid second to → Steps from (second ++ first) to
+    (from mid to : RoundStanding) (first second : List RoundAction) → Steps from first mid → Steps mid second to → Steps from (second ++ first) to
 steps_then from mid to first [] one two = subst (Steps from first) (sym two) one
 steps_then from mid to first (action ∷ second) one (between, earlier, step) =
     (between, steps_then from mid between first second one earlier, step)
 
 -- turns beside the order leave how a round stands
-pub ended_steps : (actions : List Action) (from : Standing) → AreEnded actions → Steps from actions from
+pub ended_steps : (actions : List RoundAction) (from : RoundStanding) → AreEnded actions → Steps from actions from
 ended_steps [] from ended = refl
 ended_steps (Began ready hosts ∷ actions) from ended = absurd ended
 ended_steps (Gave place ∷ actions) from ended = absurd ended
 ended_steps (Ended place ∷ actions) from ended = (from, ended_steps actions from ended, refl)
 
 -- so many such turns, and then so many
-ended_then : (first second : List Action) → AreEnded first → AreEnded second → AreEnded (second ++ first)
+ended_then : (first second : List RoundAction) → AreEnded first → AreEnded second → AreEnded (second ++ first)
 ended_then first [] one two = one
 ended_then first (Began ready hosts ∷ second) one two = absurd two
 ended_then first (Gave place ∷ second) one two = absurd two
 ended_then first (Ended place ∷ second) one two = ended_then first second one two
 
 -- no such turn was told
-pub spares_nothing : (told : Option (List Action)) → Spares told told
+pub spares_nothing : (told : Option (List RoundAction)) → Spares told told
 spares_nothing told = ([], adds_nothing told, tt)
 
 -- such turns, and then such turns
-pub spares_then : (a b c : Option (List Action)) → Spares a b → Spares b c → Spares a c
+pub spares_then : (a b c : Option (List RoundAction)) → Spares a b → Spares b c → Spares a c
 spares_then a b c (first, told, ended) (second, then_told, then_ended) =
     (second ++ first, adds_then a b c first second told then_told, ended_then first second ended then_ended)
 
 -- one such turn or none
-pub spares_one : (is_there : Bool) (a b : Option (List Action)) (place : ℕ) → Adds a b (cond is_there (Ended place ∷ []) []) → Spares a b
+pub spares_one : (is_there : Bool) (a b : Option (List RoundAction)) (place : ℕ) → Adds a b (cond is_there (Ended place ∷ []) []) → Spares a b
 spares_one true a b place told = (Ended place ∷ [], told, tt)
 spares_one false a b place told = ([], told, tt)
 
 -- nothing was told yet
-pub comes_nothing : (told : Option (List Action)) (from : Standing) → Comes told told from from
+pub comes_nothing : (told : Option (List RoundAction)) (from : RoundStanding) → ComesMeanwhile told told from from
 comes_nothing told from = ([], adds_nothing told, refl)
 
 -- one action more
 pub comes_more :
-    (a b c : Option (List Action)) (from mid to : Standing) (action : Action) → Comes a b from mid → Adds b c (action ∷ []) → Step mid action to → Comes a c from to
+    (a b c : Option (List RoundAction)) (from mid to : RoundStanding) (action : RoundAction) → ComesMeanwhile a b from mid → Adds b c (action ∷ []) → Step mid action to → ComesMeanwhile a c from to
 comes_more a b c from mid to action (actions, told, steps) more step =
     (action ∷ actions, adds_then a b c actions (action ∷ []) told more, (mid, steps, step))
 
 -- what is told of a round and what was told of the first turns
 pub comes_then :
-    (a b c : Option (List Action)) (from mid : Standing) (order : List ℕ) → Comes a b from mid → Goes b c mid order → Goes a c from order
+    (a b c : Option (List RoundAction)) (from mid : RoundStanding) (order : List ℕ) → ComesMeanwhile a b from mid → GoesOnTo b c mid order → GoesOnTo a c from order
 comes_then a b c from mid order (actions, told, steps) (more, to, then_told, then_steps, done, is) =
     (more ++ actions, to, adds_then a b c actions more told then_told, steps_then from mid to actions more steps then_steps, done, is)
 
 -- turns beside the order after a round
 pub goes_spares :
-    (a b c : Option (List Action)) (from : Standing) (order : List ℕ) → Goes a b from order → Spares b c → Goes a c from order
+    (a b c : Option (List RoundAction)) (from : RoundStanding) (order : List ℕ) → GoesOnTo a b from order → Spares b c → GoesOnTo a c from order
 goes_spares a b c from order (actions, to, told, steps, done, is) (more, then_told, ended) =
     (more ++ actions, to, adds_then a b c actions more told then_told, steps_then from to to actions more steps (ended_steps more to ended), done, is)
 
@@ -174,29 +174,29 @@ left_all test start ready n long left other = elim (cases_lt other n) [
 
 -- those that are ready have slots, also after a turn of one that is ready no more
 pub taken_but :
-    {A : Type 0} → (old new : List Bool) (slots after : List (Option A)) (place : ℕ) → AreTaken old slots → is_ready new place ≡ false
+    {A : Type 0} → (old new : List Bool) (slots after : List (Option A)) (place : ℕ) → HaveSlots old slots → is_ready new place ≡ false
     → ((other : ℕ) → is_ready new other ≡ true → is_ready old other ≡ true)
-    → ((other : ℕ) → other ≢ place → is_taken after other ≡ is_taken slots other) → AreTaken new after
+    → ((other : ℕ) → other ≢ place → is_slot_taken after other ≡ is_slot_taken slots other) → HaveSlots new after
 taken_but old new slots after place taken gone was same other ready =
     same other (λ is. true≢false (sym ready ∙ ap (is_ready new) is ∙ gone)) ∙ taken other (was other ready)
 
 -- so it is of those that are left, and of those that are left of all addresses
 pub taken_place :
-    {A : Type 0} → (old new : List Bool) (slots after : List (Option A)) (place : ℕ) → LeavesPlace place old new → AreTaken old slots
-    → ((other : ℕ) → other ≢ place → is_taken after other ≡ is_taken slots other) → AreTaken new after
+    {A : Type 0} → (old new : List Bool) (slots after : List (Option A)) (place : ℕ) → LeavesPlace place old new → HaveSlots old slots
+    → ((other : ℕ) → other ≢ place → is_slot_taken after other ≡ is_slot_taken slots other) → HaveSlots new after
 taken_place old new slots after place leaves taken =
     taken_but old new slots after place taken (leaves_place place old new leaves) (place_was place old new leaves)
 
 pub taken_address :
     {A : Type 0} → (hosts : List ℕ) (old new : List Bool) (slots after : List (Option A)) (place : ℕ) → LeavesAddress hosts place old new
-    → AreTaken old slots → ((other : ℕ) → other ≢ place → is_taken after other ≡ is_taken slots other) → AreTaken new after
+    → HaveSlots old slots → ((other : ℕ) → other ≢ place → is_slot_taken after other ≡ is_slot_taken slots other) → HaveSlots new after
 taken_address hosts old new slots after place leaves taken =
     taken_but old new slots after place taken (leaves_address hosts place old new leaves) (address_was hosts place old new leaves)
 
 -- so have they where only one of those stays that may hash a password
 pub taken_one :
-    {A : Type 0} → (hashing : List Bool) (order : List ℕ) (old new : List Bool) (slots : List (Option A)) → LeavesOne hashing order old new → AreTaken old slots
-    → AreTaken new slots
+    {A : Type 0} → (hashing : List Bool) (order : List ℕ) (old new : List Bool) (slots : List (Option A)) → LeavesOne hashing order old new → HaveSlots old slots
+    → HaveSlots new slots
 taken_one hashing order old new slots leaves taken place ready = taken place (and_parts _ _ (sym (leaves place) ∙ ready)).0
 
 -- ---- fewer wait
@@ -248,82 +248,82 @@ fewer_first hosts order rest place old new takes leaves =
 -- ---- what the calls of a round tell
 
 -- a slot that is taken has a turn, and that is told
-pub told_taken : (h0 h1 : Option (List Action)) (turn : Turn) (there : Bool) → there ≡ true → Adds h0 h1 (told_if there turn) → Adds h0 h1 (action_of turn ∷ [])
+pub told_taken : (h0 h1 : Option (List RoundAction)) (turn : Turn) (there : Bool) → there ≡ true → Adds h0 h1 (told_if there turn) → Adds h0 h1 (action_of turn ∷ [])
 told_taken h0 h1 turn there is told = subst (λ b. Adds h0 h1 (told_if b turn)) is told
 
 -- a turn of one of an address that had none
 pub gives_first :
-    (h0 h1 h2 : Option (List Action)) (from : Standing) (old new : WaitQueue) (order rest : List ℕ) (place : ℕ)
-    → Comes h0 h1 from (standing old order false) → Takes old.first order place rest → LeavesAddress old.hosts place old.first new.first
-    → LeavesPlace place old.ready new.ready → new.hosts ≡ old.hosts → Adds h1 h2 (Gave place ∷ []) → Comes h0 h2 from (standing new rest false)
+    (h0 h1 h2 : Option (List RoundAction)) (from : RoundStanding) (old new : WaitQueue) (order rest : List ℕ) (place : ℕ)
+    → ComesMeanwhile h0 h1 from (round_standing old order false) → Takes old.first order place rest → LeavesAddress old.hosts place old.first new.first
+    → LeavesPlace place old.ready new.ready → new.hosts ≡ old.hosts → Adds h1 h2 (Gave place ∷ []) → ComesMeanwhile h0 h2 from (round_standing new rest false)
 gives_first h0 h1 h2 from old new order rest place comes takes first ready hosts told =
-    comes_more h0 h1 h2 from (standing old order false) (standing new rest false) (Gave place) comes told
+    comes_more h0 h1 h2 from (round_standing old order false) (round_standing new rest false) (Gave place) comes told
     (record { next = inl (refl, refl, takes); first = first; ready = ready; hosts = hosts })
 
 -- so many wait in this order once one of each address had its turn
-abbrev pub Others : (old new : Option (List Action)) → Standing → WaitQueue → (order : List ℕ) → Type 0
+abbrev pub Others : (old new : Option (List RoundAction)) → RoundStanding → WaitQueue → (order : List ℕ) → Type 0
 Others old new from waiting order =
-    (others : Bool) × Comes old new from (standing waiting order others) × IsDone (standing waiting order others)
+    (others : Bool) × ComesMeanwhile old new from (round_standing waiting order others) × IsRoundDone (round_standing waiting order others)
 
 -- as the turns of the others begin
 pub others_begin :
-    (told : Option (List Action)) (waiting : WaitQueue) (order : List ℕ) → first_ready waiting.first order ≡ None
-    → Others told told (standing waiting order false) waiting order
-others_begin told waiting order none = (false, comes_nothing told (standing waiting order false), inr none)
+    (told : Option (List RoundAction)) (waiting : WaitQueue) (order : List ℕ) → first_ready waiting.first order ≡ None
+    → Others told told (round_standing waiting order false) waiting order
+others_begin told waiting order none = (false, comes_nothing told (round_standing waiting order false), inr none)
 
 -- a turn of one of the others
 pub gives_other :
-    (h0 h1 h2 : Option (List Action)) (from : Standing) (old new : WaitQueue) (order rest : List ℕ) (place : ℕ)
+    (h0 h1 h2 : Option (List RoundAction)) (from : RoundStanding) (old new : WaitQueue) (order rest : List ℕ) (place : ℕ)
     → Others h0 h1 from old order → Takes old.ready order place rest → LeavesAddress old.hosts place old.first new.first
     → LeavesPlace place old.ready new.ready → new.hosts ≡ old.hosts → Adds h1 h2 (Gave place ∷ []) → Others h0 h2 from new rest
 gives_other h0 h1 h2 from old new order rest place (others, comes, done) takes first ready hosts told = (
   true,
-  comes_more h0 h1 h2 from (standing old order others) (standing new rest true) (Gave place) comes told
+  comes_more h0 h1 h2 from (round_standing old order others) (round_standing new rest true) (Gave place) comes told
       (record { next = inr (done, refl, takes); first = first; ready = ready; hosts = hosts }),
   inl refl,
 )
 
 -- where the turns of the others end
 pub others_go :
-    (h0 h1 : Option (List Action)) (from : Standing) (waiting : WaitQueue) (order : List ℕ) → Others h0 h1 from waiting order → Goes h0 h1 from order
-others_go h0 h1 from waiting order (others, (actions, told, steps), done) = (actions, standing waiting order others, told, steps, done, refl)
+    (h0 h1 : Option (List RoundAction)) (from : RoundStanding) (waiting : WaitQueue) (order : List ℕ) → Others h0 h1 from waiting order → GoesOnTo h0 h1 from order
+others_go h0 h1 from waiting order (others, (actions, told, steps), done) = (actions, round_standing waiting order others, told, steps, done, refl)
 
 -- a round: it begins, one of each address has its turn, and then others
 pub round_goes :
-    (h0 h1 h2 h3 : Option (List Action)) (old first : Standing) (ready : List Bool) (hosts order rest : List ℕ) → IsDone old → old.order ≡ order
+    (h0 h1 h2 h3 : Option (List RoundAction)) (old first : RoundStanding) (ready : List Bool) (hosts order rest : List ℕ) → IsRoundDone old → old.order ≡ order
     → Adds h0 h1 (Began ready hosts ∷ [])
-    → Comes h1 h2 (record { order = order; first = ready; ready = ready; hosts = hosts; others = false }) first
-    → Goes h2 h3 first rest → Goes h0 h3 old rest
+    → ComesMeanwhile h1 h2 (record { order = order; first = ready; ready = ready; hosts = hosts; others = false }) first
+    → GoesOnTo h2 h3 first rest → GoesOnTo h0 h3 old rest
 round_goes h0 h1 h2 h3 old first ready hosts order rest done is began (actions, told, steps) goes =
-    let from : Standing = record { order = order; first = ready; ready = ready; hosts = hosts; others = false } in
-    let begins : Comes h0 h1 old from = comes_more h0 h0 h1 old old from (Began ready hosts) (comes_nothing h0 old) began
+    let from : RoundStanding = record { order = order; first = ready; ready = ready; hosts = hosts; others = false } in
+    let begins : ComesMeanwhile h0 h1 old from = comes_more h0 h0 h1 old old from (Began ready hosts) (comes_nothing h0 old) began
     (done, ap (λ o. record { order = o; first = ready; ready = ready; hosts = hosts; others = false }) (sym is)) in
-    let so_far : Comes h0 h2 old first =
+    let so_far : ComesMeanwhile h0 h2 old first =
     (actions ++ begins.0, adds_then h0 h1 h2 begins.0 actions begins.1 told, steps_then old from first begins.0 actions begins.2 steps) in
     comes_then h0 h2 h3 old first rest so_far goes
 
 -- one round more
 pub rounds_more :
-    (h0 h1 h2 : Option (List Action)) (from : Standing) (order rest : List ℕ) → Goes h0 h1 from order
-    → ((old : Standing) → IsDone old → old.order ≡ order → Goes h1 h2 old rest) → Goes h0 h2 from rest
+    (h0 h1 h2 : Option (List RoundAction)) (from : RoundStanding) (order rest : List ℕ) → GoesOnTo h0 h1 from order
+    → ((old : RoundStanding) → IsRoundDone old → old.order ≡ order → GoesOnTo h1 h2 old rest) → GoesOnTo h0 h2 from rest
 rounds_more h0 h1 h2 from order rest (actions, to, told, steps, done, is) more =
     comes_then h0 h1 h2 from to rest (actions, told, steps) (more to done is)
 
 -- before the first round
-pub rounds_begin : (count : ℕ) (told : Option (List Action)) → Goes told told (start count) (range_with_len 0 count)
+pub rounds_begin : (count : ℕ) (told : Option (List RoundAction)) → GoesOnTo told told (start count) (range_with_len 0 count)
 rounds_begin count told = ([], start count, adds_nothing told, refl, inl refl, refl)
 
 -- rounds are rounds, in whatever order the places stand behind them
-pub goes_rounds : (count : ℕ) (h0 h1 : Option (List Action)) (order : List ℕ) → Goes h0 h1 (start count) order → AreRounds count h0 h1
+pub goes_rounds : (count : ℕ) (h0 h1 : Option (List RoundAction)) (order : List ℕ) → GoesOnTo h0 h1 (start count) order → AreRounds count h0 h1
 goes_rounds count h0 h1 order (actions, to, told, steps, done, is) = (actions, to, told, steps, done)
 
-pub no_rounds : (count : ℕ) (told : Option (List Action)) → AreRounds count told told
+pub no_rounds : (count : ℕ) (told : Option (List RoundAction)) → AreRounds count told told
 no_rounds count told = ([], start count, adds_nothing told, refl, inl refl)
 
 -- ---- who is ready has a slot
 
 -- nobody is ready at first
-pub taken_none : {A : Type 0} → (count : ℕ) (slots : List (Option A)) → AreTaken (replicate count false) slots
+pub taken_none : {A : Type 0} → (count : ℕ) (slots : List (Option A)) → HaveSlots (replicate count false) slots
 taken_none count slots place ready = absurd (true≢false (sym ready ∙ none_of count place))
   where
     none_of : (count place : ℕ) → is_ready (replicate count false) place ≡ false
@@ -334,11 +334,11 @@ taken_none count slots place ready = absurd (true≢false (sym ready ∙ none_of
 
 -- one more place is said to be ready or not
 pub taken_set :
-    {A : Type 0} → (ready : List Bool) (slots : List (Option A)) (place : ℕ) (is_now : Bool) → AreTaken ready slots
-    → (is_now ≡ true → is_taken slots place ≡ true) → AreTaken (set ready place is_now) slots
+    {A : Type 0} → (ready : List Bool) (slots : List (Option A)) (place : ℕ) (is_now : Bool) → HaveSlots ready slots
+    → (is_now ≡ true → is_slot_taken slots place ≡ true) → HaveSlots (set ready place is_now) slots
 taken_set ready slots place is_now taken there other other_ready = elim (cases_eq other place) [
   | inl same ↦ elim (cases_lt place (length ready)) [
-    | inl within ↦ subst (λ p. is_taken slots p ≡ true) (sym same)
+    | inl within ↦ subst (λ p. is_slot_taken slots p ≡ true) (sym same)
         (there (sym (get_or-set_at ready place other is_now false same within) ∙ sym (ready_is (set ready place is_now) other) ∙ other_ready))
     | inr past ↦ taken other (ap (λ xs. is_ready xs other) (sym (set_past ready place is_now past)) ∙ other_ready)
   ]

@@ -12,9 +12,9 @@ use Rattle.std.specs.List.{range_with_len, position, position_or_len, prefix_len
 use Rattle.tool_scheduler.proofs.FairLemmas.{first_before}
 use Rattle.tool_scheduler.proofs.RoundLemmas.{leaves_address, leaves_place, ready_is, takes_ready}
 use Rattle.tool_scheduler.specs.Order.{Takes, first_ready, is_ready}
-use Rattle.tool_scheduler.specs.Rounds.{Began, Action, Ended, Gave, IsDone, IsNext, LeavesAddress, LeavesPlace, Standing, Step, Steps, Turns}
+use Rattle.tool_scheduler.specs.Rounds.{Began, RoundAction, Ended, Gave, IsRoundDone, IsNext, LeavesAddress, LeavesPlace, RoundStanding, Step, Steps, TakesTurnInOrder}
 use Rattle.tool_scheduler.specs.Rounds.{host_in, is_same, start}
-use Rattle.tool_scheduler.specs.Waits.{EachAddressHasATurn, HasTurn, NobodyHasTwoTurns, NobodyWaitsForLong, Waits, begun}
+use Rattle.tool_scheduler.specs.Waits.{EachAddressHasATurn, HasTurn, NobodyHasTwoTurns, NobodyWaitsForLong, WaitsForTurn, begun}
 
 -- ---- one turn, and where a place stands
 
@@ -110,7 +110,7 @@ none_ready ready front back place none =
 -- ---- how a place stands, whatever was told
 
 -- a place stands somewhere in the order, and is not among the first while the others have their turns
-record Stands (count place : ℕ) (now : Standing) : Type 0 where
+record Stands (count place : ℕ) (now : RoundStanding) : Type 0 where
   front : List ℕ
   back : List ℕ
   whole : now.order ≡ front ++ place ∷ back
@@ -118,14 +118,14 @@ record Stands (count place : ℕ) (now : Standing) : Type 0 where
   alone : now.others ≡ true → is_ready now.first place ≡ false
 
 -- once one of each address had its turn, it is not among the first
-done_not_first : (count place : ℕ) (now : Standing) → Stands count place now → IsDone now → is_ready now.first place ≡ false
+done_not_first : (count place : ℕ) (now : RoundStanding) → Stands count place now → IsRoundDone now → is_ready now.first place ≡ false
 done_not_first count place now stands (inl others) = stands.alone others
 done_not_first count place now stands (inr none) =
     none_ready now.first stands.front stands.back place (subst (λ order. first_ready now.first order ≡ None) stands.whole none)
 
 -- where it stands behind a turn
 moved_next :
-    (count place : ℕ) (old : Standing) (stands : Stands count place old) (taker : ℕ) (rest : List ℕ) (others : Bool) → IsNext old taker rest others
+    (count place : ℕ) (old : RoundStanding) (stands : Stands count place old) (taker : ℕ) (rest : List ℕ) (others : Bool) → IsNext old taker rest others
     → Moved stands.front stands.back place taker (is_ready old.first place ≡ true) rest
 moved_next count place old stands taker rest others (inl (going, still, takes)) =
     moved old.first stands.front stands.back rest place taker (subst (λ order. Takes old.first order taker rest) stands.whole takes)
@@ -143,7 +143,7 @@ moved_next count place old stands taker rest others (inr (done, over, takes)) =
 
 -- behind a turn among the others it is not among the first either
 alone_next :
-    (count place : ℕ) (old : Standing) (taker : ℕ) (new : Standing) → Stands count place old → Turns old taker new → new.others ≡ true
+    (count place : ℕ) (old : RoundStanding) (taker : ℕ) (new : RoundStanding) → Stands count place old → TakesTurnInOrder old taker new → new.others ≡ true
     → is_ready new.first place ≡ false
 alone_next count place old taker new stands turns over = elim turns.next [
   | inl (going, still, takes) ↦ absurd (true≢false (sym over ∙ still))
@@ -153,7 +153,7 @@ alone_next count place old taker new stands turns over = elim turns.next [
 
 -- so it stands behind a turn
 abbrev stands_turn :
-    (count place : ℕ) (old : Standing) (taker : ℕ) (new : Standing) → Stands count place old → Turns old taker new → Stands count place new
+    (count place : ℕ) (old : RoundStanding) (taker : ℕ) (new : RoundStanding) → Stands count place old → TakesTurnInOrder old taker new → Stands count place new
 stands_turn count place old taker new stands turns =
     let all : Moved stands.front stands.back place taker (is_ready old.first place ≡ true) new.order =
     moved_next count place old stands taker new.order new.others turns.next in
@@ -167,7 +167,7 @@ stands_turn count place old taker new stands turns =
 
 -- as a round begins nothing of the order changes
 abbrev stands_began :
-    (count place : ℕ) (old : Standing) (ready : List Bool) (hosts : List ℕ) → Stands count place old
+    (count place : ℕ) (old : RoundStanding) (ready : List Bool) (hosts : List ℕ) → Stands count place old
     → Stands count place (record { order = old.order; first = ready; ready = ready; hosts = hosts; others = false })
 stands_began count place old ready hosts stands = record {
   front = stands.front;
@@ -178,14 +178,14 @@ stands_began count place old ready hosts stands = record {
 }
 
 -- and so behind whatever was told
-stands_step : (count place : ℕ) (old : Standing) (action : Action) (new : Standing) → Stands count place old → Step old action new → Stands count place new
+stands_step : (count place : ℕ) (old : RoundStanding) (action : RoundAction) (new : RoundStanding) → Stands count place old → Step old action new → Stands count place new
 stands_step count place old (Began ready hosts) new stands (done, is) =
     subst (Stands count place) (sym is) (stands_began count place old ready hosts stands)
 stands_step count place old (Gave taker) new stands turns = stands_turn count place old taker new stands turns
 stands_step count place old (Ended other) new stands is = subst (Stands count place) (sym is) stands
 
 stands_steps :
-    (count place : ℕ) (from : Standing) (actions : List Action) (to : Standing) → Stands count place from → Steps from actions to → Stands count place to
+    (count place : ℕ) (from : RoundStanding) (actions : List RoundAction) (to : RoundStanding) → Stands count place from → Steps from actions to → Stands count place to
 stands_steps count place from [] to stands is = subst (Stands count place) (sym is) stands
 stands_steps count place from (action ∷ actions) to stands (between, earlier, step) =
     stands_step count place between action to (stands_steps count place from actions between stands earlier) step
@@ -210,14 +210,14 @@ stands_start count place lt =
 -- ---- nobody waits for long
 
 -- a place that waits while so many rounds began: for each of them it came forward by one, but for a round in which its address had no turn yet
-record Holds (count place rounds : ℕ) (now : Standing) : Type 0 where
+record Holds (count place rounds : ℕ) (now : RoundStanding) : Type 0 where
   stands : Stands count place now
   room : rounds + length stands.front ≤ count
   more : is_ready now.first place ≡ false → rounds + length stands.front + 1 ≤ count
 
 -- one round more
 holds_began :
-    (count place rounds : ℕ) (old new : Standing) (ready : List Bool) (hosts : List ℕ) → Holds count place rounds old
+    (count place rounds : ℕ) (old new : RoundStanding) (ready : List Bool) (hosts : List ℕ) → Holds count place rounds old
     → Step old (Began ready hosts) new → is_ready ready place ≡ true → Holds count place (1 + rounds) new
 holds_began count place rounds old new ready hosts holds (done, is) ready_now =
     subst (Holds count place (1 + rounds)) (sym is) (record {
@@ -228,7 +228,7 @@ holds_began count place rounds old new ready hosts holds (done, is) ready_now =
 
 -- one turn more, of another
 holds_gave :
-    (count place rounds : ℕ) (old new : Standing) (taker : ℕ) → Holds count place rounds old → Turns old taker new → taker ≢ place
+    (count place rounds : ℕ) (old new : RoundStanding) (taker : ℕ) → Holds count place rounds old → TakesTurnInOrder old taker new → taker ≢ place
     → Holds count place rounds new
 holds_gave count place rounds old new taker holds turns other =
     let all : Moved holds.stands.front holds.stands.back place taker (is_ready old.first place ≡ true) new.order =
@@ -244,7 +244,7 @@ holds_gave count place rounds old new taker holds turns other =
 
 -- and so on
 holds_steps :
-    (count place : ℕ) (now : Standing) (later : List Action) (last : Standing) → Holds count place 0 now → Steps now later last → Waits place later
+    (count place : ℕ) (now : RoundStanding) (later : List RoundAction) (last : RoundStanding) → Holds count place 0 now → Steps now later last → WaitsForTurn place later
     → Holds count place (begun later) last
 holds_steps count place now [] last holds is waits = subst (Holds count place 0) (sym is) holds
 holds_steps count place now (Began ready hosts ∷ later) last holds (between, earlier, step) (ready_now, waits) =
@@ -266,15 +266,15 @@ nobody_waits_for_long count earlier later now last place lt before after waits =
 
 -- actions in two parts
 steps_split :
-    (from : Standing) (first second : List Action) (to : Standing) → Steps from (second ++ first) to
-    → (mid : Standing) × Steps from first mid × Steps mid second to
+    (from : RoundStanding) (first second : List RoundAction) (to : RoundStanding) → Steps from (second ++ first) to
+    → (mid : RoundStanding) × Steps from first mid × Steps mid second to
 steps_split from first [] to steps = (to, steps, refl)
 steps_split from first (action ∷ second) to (between, earlier, step) =
     let parts = steps_split from first second between earlier in (parts.0, parts.1, (between, parts.2, step))
 
 -- who is ready no more is not until a round begins
 gone_steps :
-    (place : ℕ) (from : Standing) (later : List Action) (to : Standing) → Steps from later to → is_ready from.first place ≡ false
+    (place : ℕ) (from : RoundStanding) (later : List RoundAction) (to : RoundStanding) → Steps from later to → is_ready from.first place ≡ false
     → is_ready from.ready place ≡ false → (0 < begun later) ⊎ ((is_ready to.first place ≡ false) × (is_ready to.ready place ≡ false))
 gone_steps place from [] to is first ready =
     inr (ap (λ now. is_ready now.first place) is ∙ first, ap (λ now. is_ready now.ready place) is ∙ ready)
@@ -297,7 +297,7 @@ gone_steps place from (Ended other ∷ later) to (between, earlier, is) first re
     ]
 
 -- who is ready no more takes no turn
-no_turn : (place : ℕ) (now next : Standing) → Turns now place next → is_ready now.first place ≡ false → is_ready now.ready place ≡ false → ⊥
+no_turn : (place : ℕ) (now next : RoundStanding) → TakesTurnInOrder now place next → is_ready now.first place ≡ false → is_ready now.ready place ≡ false → ⊥
 no_turn place now next turns first ready = elim turns.next [
   | inl (going, still, takes) ↦ true≢false (sym (takes_ready now.first now.order next.order place takes) ∙ first)
   | inr (done, others, takes) ↦ true≢false (sym (takes_ready now.ready now.order next.order place takes) ∙ ready)
@@ -310,7 +310,7 @@ nobody_has_two_turns count earlier later last place (between, steps, second) =
     two count earlier later last place between second parts.0 parts.1 parts.2
   where
     two :
-        (count : ℕ) (earlier later : List Action) (last : Standing) (place : ℕ) (between : Standing) → Turns between place last → (mid : Standing)
+        (count : ℕ) (earlier later : List RoundAction) (last : RoundStanding) (place : ℕ) (between : RoundStanding) → TakesTurnInOrder between place last → (mid : RoundStanding)
         → Steps (start count) (Gave place ∷ earlier) mid → Steps mid later between → 0 < begun later
     two count earlier later last place between second mid (before, _, one) steps = elim (
         gone_steps place mid later between steps (leaves_address before.hosts place before.first mid.first one.first)
@@ -323,7 +323,7 @@ nobody_has_two_turns count earlier later last place (between, steps, second) =
 
 -- a place that is among the first stays so until one of its address has a turn
 served_steps :
-    (place : ℕ) (hosts : List ℕ) (from : Standing) (later : List Action) (to : Standing) → from.hosts ≡ hosts → Steps from later to → begun later ≡ 0
+    (place : ℕ) (hosts : List ℕ) (from : RoundStanding) (later : List RoundAction) (to : RoundStanding) → from.hosts ≡ hosts → Steps from later to → begun later ≡ 0
     → is_ready from.first place ≡ true
     → (to.hosts ≡ hosts) × ((is_ready to.first place ≡ true) ⊎ ((other : ℕ) × HasTurn other later × (host_in hosts other ≡ host_in hosts place)))
 served_steps place hosts from [] to same is none first = (ap (λ now. now.hosts) is ∙ same, inl (ap (λ now. is_ready now.first place) is ∙ first))
@@ -361,8 +361,8 @@ each_address_has_a_turn count earlier later ready then_ready hosts then_hosts la
     (stands_start count place lt) steps) done parts.0 parts.1 parts.2 none ready_now
   where
     one :
-        (count : ℕ) (earlier later : List Action) (ready : List Bool) (hosts : List ℕ) (place : ℕ) (between : Standing) → Stands count place between
-        → IsDone between → (mid : Standing) → Steps (start count) (Began ready hosts ∷ earlier) mid → Steps mid later between → begun later ≡ 0
+        (count : ℕ) (earlier later : List RoundAction) (ready : List Bool) (hosts : List ℕ) (place : ℕ) (between : RoundStanding) → Stands count place between
+        → IsRoundDone between → (mid : RoundStanding) → Steps (start count) (Began ready hosts ∷ earlier) mid → Steps mid later between → begun later ≡ 0
         → is_ready ready place ≡ true → (other : ℕ) × HasTurn other later × (host_in hosts other ≡ host_in hosts place)
     one count earlier later ready hosts place between stands done mid (before, _, (_, is)) steps none ready_now = elim (
         served_steps place hosts mid later between (ap (λ now. now.hosts) is) steps none (ap (λ now. is_ready now.first place) is ∙ ready_now)).1 [

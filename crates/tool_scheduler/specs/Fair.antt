@@ -9,9 +9,9 @@ pub record Turn : Type 0 where
   pub place : ℕ
 
 -- turns in order lead from one order of the places to another
-abbrev pub Leads : List ℕ → List Turn → List ℕ → Type 0
-Leads places [] last = last ≡ places
-Leads places (turn ∷ turns) last = (rest : List ℕ) × Takes turn.ready places turn.place rest × Leads rest turns last
+abbrev pub Reorders : List ℕ → List Turn → List ℕ → Type 0
+Reorders places [] last = last ≡ places
+Reorders places (turn ∷ turns) last = (rest : List ℕ) × Takes turn.ready places turn.place rest × Reorders rest turns last
 
 -- a place is passed over in each of them: it is ready, and another takes the turn
 abbrev pub IsPassedOver : ℕ → List Turn → Type 0
@@ -32,14 +32,14 @@ AreDifferent places = AllPairs (λ one other. one ≢ other) places
 abbrev pub NobodyIsPassedTwice : Type 0
 NobodyIsPassedTwice =
     (places last : List ℕ) (turns : List Turn) (place : ℕ) → AreDifferent places → Contains places place
-    → Leads places turns last → IsPassedOver place turns → AreDifferent (takers turns) × (length turns < length places)
+    → Reorders places turns last → IsPassedOver place turns → AreDifferent (takers turns) × (length turns < length places)
 
 -- turns leave the same places, in some order; so those that are different stay so
 abbrev pub PlacesStay : Type 0
-PlacesStay = (places last : List ℕ) (turns : List Turn) → Leads places turns last → IsPermutation places last × (AreDifferent places → AreDifferent last)
+PlacesStay = (places last : List ℕ) (turns : List Turn) → Reorders places turns last → IsPermutation places last × (AreDifferent places → AreDifferent last)
 
 -- So it is from the start: whatever turns came before, of those in which a place is passed over each is another's, and they are fewer than the places
 abbrev pub FairFromTheStart : Type 0
 FairFromTheStart =
     (count : ℕ) (earlier later : List Turn) (now last : List ℕ) (place : ℕ) → place < count
-    → Leads (range_with_len 0 count) earlier now → Leads now later last → IsPassedOver place later → AreDifferent (takers later) × (length later < count)
+    → Reorders (range_with_len 0 count) earlier now → Reorders now later last → IsPassedOver place later → AreDifferent (takers later) × (length later < count)

@@ -20,13 +20,13 @@ unfoldable pub first_both : (ready hashing : List Bool) → List ℕ → Option 
 first_both ready hashing places = position (λ place. is_ready ready place && is_ready hashing place) places
 
 -- the place that stands there, if one does
-abbrev pub place_at : List ℕ → Option ℕ → Option ℕ
-place_at places None = None
-place_at places (Some at) = slice_get places at
+abbrev pub place_standing_at : List ℕ → Option ℕ → Option ℕ
+place_standing_at places None = None
+place_standing_at places (Some at) = slice_get places at
 
 -- the first of these places that is ready and whose next turn may hash a password
 abbrev pub first_hashing : (ready hashing : List Bool) → List ℕ → Option ℕ
-first_hashing ready hashing places = place_at places (first_both ready hashing places)
+first_hashing ready hashing places = place_standing_at places (first_both ready hashing places)
 
 -- it is this place
 abbrev pub is_place : Option ℕ → ℕ → Bool

@@ -9,16 +9,16 @@ use Rattle.tool_scheduler.specs.declared.slot.Turn.TheVariants.{Next, Last}
 use Rattle.tool_scheduler.specs.declared.waiting.WaitQueue.{WaitQueue}
 
 -- what whoever slots clients is told of rounds
-pub data Action : Type 0 where
+pub data RoundAction : Type 0 where
   -- a round begins, in which these places are ready; the clients there count as these
-  Began : (ready : List Bool) → (hosts : List ℕ) → Action
+  Began : (ready : List Bool) → (hosts : List ℕ) → RoundAction
   -- a turn of a place, in order
-  Gave : (place : ℕ) → Action
+  Gave : (place : ℕ) → RoundAction
   -- a turn beside the order, of a place whose session is ended for another client
-  Ended : (place : ℕ) → Action
+  Ended : (place : ℕ) → RoundAction
 
 -- what is told by a turn
-abbrev pub action_of : Turn → Action
+abbrev pub action_of : Turn → RoundAction
 action_of (Next place) = Gave place
 action_of (Last place) = Ended place
 
@@ -31,7 +31,7 @@ place_of (Last place) = place
 
 -- the places, the one whose last turn is the oldest first; those that are ready and of whose address none had a turn in this round; those that are ready and
 -- had none themselves; as whom the client of each counts; whether the turns are those of the others by now
-pub record Standing : Type 0 where
+pub record RoundStanding : Type 0 where
   pub order : List ℕ
   pub first : List Bool
   pub ready : List Bool
@@ -39,12 +39,12 @@ pub record Standing : Type 0 where
   pub others : Bool
 
 -- before the first round
-abbrev pub start : (count : ℕ) → Standing
+abbrev pub start : (count : ℕ) → RoundStanding
 start count = record { order = range_with_len 0 count; first = []; ready = []; hosts = []; others = true }
 
 -- so many wait, in this order
-abbrev pub standing : WaitQueue → (order : List ℕ) → (others : Bool) → Standing
-standing waiting order others =
+abbrev pub round_standing : WaitQueue → (order : List ℕ) → (others : Bool) → RoundStanding
+round_standing waiting order others =
     record { order = order; first = waiting.first; ready = waiting.ready; hosts = waiting.hosts; others = others }
 
 -- as whom the client in a place counts
@@ -64,61 +64,62 @@ abbrev pub LeavesPlace : ℕ → (old new : List Bool) → Type 0
 LeavesPlace place old new = (other : ℕ) → is_ready new other ≡ is_ready old other && not (eqb other place)
 
 -- one of each address that is ready had a turn
-abbrev pub IsDone : Standing → Type 0
-IsDone old = (old.others ≡ true) ⊎ (first_ready old.first old.order ≡ None)
+abbrev pub IsRoundDone : RoundStanding → Type 0
+IsRoundDone old = (old.others ≡ true) ⊎ (first_ready old.first old.order ≡ None)
 
 -- the next turn is that of a place: while one of an address that had none is ready, of the first of these in the order; then of the first of those that are
 -- ready and had none themselves
-abbrev pub IsNext : Standing → ℕ → (rest : List ℕ) → (others : Bool) → Type 0
+abbrev pub IsNext : RoundStanding → ℕ → (rest : List ℕ) → (others : Bool) → Type 0
 IsNext old place rest others =
     ((old.others ≡ false) × (others ≡ false) × Takes old.first old.order place rest)
-    ⊎ (IsDone old × (others ≡ true) × Takes old.ready old.order place rest)
+    ⊎ (IsRoundDone old × (others ≡ true) × Takes old.ready old.order place rest)
 
 -- a turn in order
-pub record Turns (old : Standing) (place : ℕ) (new : Standing) : Type 0 where
+pub record TakesTurnInOrder (old : RoundStanding) (place : ℕ) (new : RoundStanding) : Type 0 where
   pub next : IsNext old place new.order new.others
   pub first : LeavesAddress old.hosts place old.first new.first
   pub ready : LeavesPlace place old.ready new.ready
   pub hosts : new.hosts ≡ old.hosts
 
 -- what is told leads from one standing to another: a round begins only once one of each address had its turn in the last one
-abbrev pub Step : Standing → Action → Standing → Type 0
+abbrev pub Step : RoundStanding → RoundAction → RoundStanding → Type 0
 Step old (Began ready hosts) new =
-    IsDone old × (new ≡ record { order = old.order; first = ready; ready = ready; hosts = hosts; others = false })
-Step old (Gave place) new = Turns old place new
+    IsRoundDone old × (new ≡ record { order = old.order; first = ready; ready = ready; hosts = hosts; others = false })
+Step old (Gave place) new = TakesTurnInOrder old place new
 Step old (Ended place) new = new ≡ old
 
 -- so do actions, the last one first
-abbrev pub Steps : Standing → List Action → Standing → Type 0
+abbrev pub Steps : RoundStanding → List RoundAction → RoundStanding → Type 0
 Steps old [] new = new ≡ old
-Steps old (action ∷ earlier) new = (between : Standing) × Steps old earlier between × Step between action new
+Steps old (action ∷ earlier) new = (between : RoundStanding) × Steps old earlier between × Step between action new
 
 -- ---- what calls do
 
 -- what was told meanwhile leads from one standing to another
-abbrev pub Comes : (old new : Option (List Action)) → (from to : Standing) → Type 0
-Comes old new from to = (actions : List Action) × Adds old new actions × Steps from actions to
+abbrev pub ComesMeanwhile : (old new : Option (List RoundAction)) → (from to : RoundStanding) → Type 0
+ComesMeanwhile old new from to = (actions : List RoundAction) × Adds old new actions × Steps from actions to
 
 -- what was told meanwhile leads from a standing to one with this order, in which one of each address had its turn
-abbrev pub Goes : (old new : Option (List Action)) → Standing → (order : List ℕ) → Type 0
-Goes old new from order = (actions : List Action) × (to : Standing) × Adds old new actions × Steps from actions to × IsDone to × (to.order ≡ order)
+abbrev pub GoesOnTo : (old new : Option (List RoundAction)) → RoundStanding → (order : List ℕ) → Type 0
+GoesOnTo old new from order =
+    (actions : List RoundAction) × (to : RoundStanding) × Adds old new actions × Steps from actions to × IsRoundDone to × (to.order ≡ order)
 
 -- what is told of rounds from the first on
-abbrev pub AreRounds : (count : ℕ) → (old new : Option (List Action)) → Type 0
-AreRounds count old new = (actions : List Action) × (last : Standing) × Adds old new actions × Steps (start count) actions last × IsDone last
+abbrev pub AreRounds : (count : ℕ) → (old new : Option (List RoundAction)) → Type 0
+AreRounds count old new = (actions : List RoundAction) × (last : RoundStanding) × Adds old new actions × Steps (start count) actions last × IsRoundDone last
 
 -- turns beside the order alone were told
-abbrev pub AreEnded : List Action → Type 0
+abbrev pub AreEnded : List RoundAction → Type 0
 AreEnded [] = Unit {0}
 AreEnded (Began ready hosts ∷ actions) = ⊥
 AreEnded (Gave place ∷ actions) = ⊥
 AreEnded (Ended place ∷ actions) = AreEnded actions
 
-abbrev pub Spares : (old new : Option (List Action)) → Type 0
-Spares old new = (actions : List Action) × Adds old new actions × AreEnded actions
+abbrev pub Spares : (old new : Option (List RoundAction)) → Type 0
+Spares old new = (actions : List RoundAction) × Adds old new actions × AreEnded actions
 
 -- a turn is told where the slot is taken, and only there
-abbrev pub told_if : Bool → Turn → List Action
+abbrev pub told_if : Bool → Turn → List RoundAction
 told_if true turn = action_of turn ∷ []
 told_if false turn = []
 
@@ -128,12 +129,12 @@ is_there (Some (Some session)) = true
 is_there (Some None) = false
 is_there None = false
 
-abbrev pub is_taken : {A : Type 0} → List (Option A) → ℕ → Bool
-is_taken slots place = is_there (slice_get slots place)
+abbrev pub is_slot_taken : {A : Type 0} → List (Option A) → ℕ → Bool
+is_slot_taken slots place = is_there (slice_get slots place)
 
 -- the sessions that are ready have slots
-abbrev pub AreTaken : {A : Type 0} → List Bool → List (Option A) → Type 0
-AreTaken ready slots = (place : ℕ) → is_ready ready place ≡ true → is_taken slots place ≡ true
+abbrev pub HaveSlots : {A : Type 0} → List Bool → List (Option A) → Type 0
+HaveSlots ready slots = (place : ℕ) → is_ready ready place ≡ true → is_slot_taken slots place ≡ true
 
 -- how many are ready
 abbrev pub ones : List Bool → ℕ

@@ -3,8 +3,9 @@ ghost use Rattle.std.specs.Global.{Global};
 ghost use Rattle.std.specs.Prelude.{◌≡◌, ◌≢◌, ◌∷◌, [], ℕ, min, None, false, true};
 ghost use Rattle.ftp_ports.specs.Asking.{Adds};
 ghost use Rattle.tool_scheduler.specs.Order.{first_ready};
-ghost use Rattle.tool_scheduler.specs.Rounds.{AreRounds, AreTaken, Comes, Gave, Goes, IsDone, LeavesAddress, LeavesPlace, Spares, Standing};
-ghost use Rattle.tool_scheduler.specs.Rounds.{is_taken, place_of, standing, told_if};
+ghost use Rattle.tool_scheduler.specs.Rounds.{AreRounds, ComesMeanwhile, Gave, GoesOnTo, HaveSlots, IsRoundDone, LeavesAddress, LeavesPlace, RoundStanding};
+ghost use Rattle.tool_scheduler.specs.Rounds.{Spares};
+ghost use Rattle.tool_scheduler.specs.Rounds.{is_slot_taken, place_of, round_standing, told_if};
 
 use crate::input::Heeded;
 use crate::listening_port::{Caller, ListeningPort};
@@ -125,7 +126,7 @@ impl<'a, M: Slots> Rounds<'a, M> {
 
     /// One round.
     fn round(&mut self, order: &mut TurnOrder<Global>, tree: &mut M::Tree)
-        ensures { (old : Standing) → IsDone old → old.order ≡ order.old → Goes (M.Slot.history tree.old) (M.Slot.history tree.new) old order.new }
+        ensures { (old : RoundStanding) → IsRoundDone old → old.order ≡ order.old → GoesOnTo (M.Slot.history tree.old) (M.Slot.history tree.new) old order.new }
     {
         self.stop_some();
         self.await_all();
@@ -200,7 +201,7 @@ impl<'a, M: Slots> Rounds<'a, M> {
     /// password only one is ready.
     #[tactic(auto, using(crate::proofs::RoundLemmas::taken_one))]
     fn turns(&mut self, order: &mut TurnOrder<Global>, tree: &mut M::Tree)
-        ensures { (old : Standing) → IsDone old → old.order ≡ order.old → Goes (M.Slot.history tree.old) (M.Slot.history tree.new) old order.new }
+        ensures { (old : RoundStanding) → IsRoundDone old → old.order ≡ order.old → GoesOnTo (M.Slot.history tree.old) (M.Slot.history tree.new) old order.new }
     {
         let mut ready = self.ready();
         let hashing = self.hashing();
@@ -224,12 +225,12 @@ impl<'a, M: Slots> Rounds<'a, M> {
         waiting: &mut WaitQueue,
         tree: &mut M::Tree,
     )
-        requires first { AreTaken waiting.old.first self.old.table.slots.items }
-        requires ready { AreTaken waiting.old.ready self.old.table.slots.items }
-        ensures told { Comes (M.Slot.history tree.old) (M.Slot.history tree.new)
-            (standing waiting.old order.old false) (standing waiting.new order.new false) }
+        requires first { HaveSlots waiting.old.first self.old.table.slots.items }
+        requires ready { HaveSlots waiting.old.ready self.old.table.slots.items }
+        ensures told { ComesMeanwhile (M.Slot.history tree.old) (M.Slot.history tree.new)
+            (round_standing waiting.old order.old false) (round_standing waiting.new order.new false) }
         ensures done { first_ready waiting.new.first order.new ≡ None }
-        ensures taken { AreTaken waiting.new.ready self.new.table.slots.items }
+        ensures taken { HaveSlots waiting.new.ready self.new.table.slots.items }
     {
         while let Some(place) = order.take(&waiting.first) {
             self.give(place, waiting, tree);
@@ -245,8 +246,8 @@ impl<'a, M: Slots> Rounds<'a, M> {
         tree: &mut M::Tree,
     )
         requires done { first_ready waiting.old.first order.old ≡ None }
-        requires ready { AreTaken waiting.old.ready self.old.table.slots.items }
-        ensures { Goes (M.Slot.history tree.old) (M.Slot.history tree.new) (standing waiting.old order.old false) order.new }
+        requires ready { HaveSlots waiting.old.ready self.old.table.slots.items }
+        ensures { GoesOnTo (M.Slot.history tree.old) (M.Slot.history tree.new) (round_standing waiting.old order.old false) order.new }
     {
         let until = self.rows.now().saturating_add(ROUND_MILLIS);
         for _ in 0..MOST_SLOTS {
@@ -263,13 +264,13 @@ impl<'a, M: Slots> Rounds<'a, M> {
     /// A turn of one that is ready, in order.
     #[tactic(auto, using(crate::proofs::RoundLemmas::taken_place, crate::proofs::RoundLemmas::taken_address, crate::proofs::RoundLemmas::told_taken))]
     fn give(&mut self, place: usize, waiting: &mut WaitQueue, tree: &mut M::Tree)
-        requires { is_taken self.old.table.slots.items place ≡ true }
+        requires { is_slot_taken self.old.table.slots.items place ≡ true }
         ensures told { Adds (M.Slot.history tree.old) (M.Slot.history tree.new) (Gave place ∷ []) }
         ensures first { LeavesAddress waiting.old.hosts place waiting.old.first waiting.new.first }
         ensures ready { LeavesPlace place waiting.old.ready waiting.new.ready }
         ensures hosts { waiting.new.hosts ≡ waiting.old.hosts }
-        ensures taken { AreTaken waiting.old.ready self.old.table.slots.items → AreTaken waiting.new.ready self.new.table.slots.items }
-        ensures taken_first { AreTaken waiting.old.first self.old.table.slots.items → AreTaken waiting.new.first self.new.table.slots.items }
+        ensures taken { HaveSlots waiting.old.ready self.old.table.slots.items → HaveSlots waiting.new.ready self.new.table.slots.items }
+        ensures taken_first { HaveSlots waiting.old.first self.old.table.slots.items → HaveSlots waiting.new.first self.new.table.slots.items }
     {
         waiting.had_turn(place);
         self.turn(Turn::Next(place), tree);
@@ -277,7 +278,7 @@ impl<'a, M: Slots> Rounds<'a, M> {
 
     /// Who is ready.
     fn ready(&self) -> [bool; MOST_SLOTS]
-        ensures { AreTaken result self.now.table.slots.items }
+        ensures { HaveSlots result self.now.table.slots.items }
     {
         let mut ready = [false; MOST_SLOTS];
         for place in 0..MOST_SLOTS {
@@ -310,7 +311,7 @@ impl<'a, M: Slots> Rounds<'a, M> {
 
     /// Whether a session goes on.
     fn is_ready(&self, place: usize) -> bool
-        ensures { result ≡ true → is_taken self.now.table.slots.items place ≡ true }
+        ensures { result ≡ true → is_slot_taken self.now.table.slots.items place ≡ true }
     {
         let Some(taken) = self.table.at(place) else {
             return false;
@@ -326,9 +327,9 @@ impl<'a, M: Slots> Rounds<'a, M> {
     /// A turn of the session in a slot; that is free where it is over.
     fn turn(&mut self, turn: Turn, tree: &mut M::Tree)
         ensures told { Adds (M.Slot.history tree.old) (M.Slot.history tree.new)
-            (told_if (is_taken self.old.table.slots.items (place_of turn)) turn) }
+            (told_if (is_slot_taken self.old.table.slots.items (place_of turn)) turn) }
         ensures others { (other : ℕ) → other ≢ place_of turn
-            → is_taken self.new.table.slots.items other ≡ is_taken self.old.table.slots.items other }
+            → is_slot_taken self.new.table.slots.items other ≡ is_slot_taken self.old.table.slots.items other }
     {
         let place = turn.place();
         let told = self.rows.take(FIRST_SLOT.saturating_add(place));

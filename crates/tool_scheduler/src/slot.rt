@@ -1,7 +1,7 @@
 // A session in a slot, and who slots clients, as the rounds see them.
 ghost use Rattle.std.specs.Prelude.{◌≡◌, ◌∷◌, [], List, None, Option};
 ghost use Rattle.ftp_ports.specs.Asking.{Adds};
-ghost use Rattle.tool_scheduler.specs.Rounds.{Action, Began, action_of, place_of};
+ghost use Rattle.tool_scheduler.specs.Rounds.{RoundAction, Began, action_of, place_of};
 
 use crate::session_limits::Full;
 use std::alloc::Global;
@@ -45,7 +45,7 @@ impl Turn {
 /// A session over a tree `T`, which is lent to it for each turn. None of its calls waits.
 pub trait Slot<T>: Drop {
     /// What was told of rounds and turns, the last one first, where a tree tells that.
-    ghost history: { T → Option (List Action) } = { λ tree. None };
+    ghost history: { T → Option (List RoundAction) } = { λ tree. None };
 
     /// Goes on until it waits, is over, or has had its part; `told` is what the last poll told of what it waited for.
     fn turn(&mut self, turn: Turn, told: Awaits, tree: &mut T) -> TurnResult

@@ -1,7 +1,7 @@
 // The slots of all sessions.
 ghost use Rattle.std.specs.Global.{Global};
 ghost use Rattle.std.specs.Prelude.{◌≡◌, ◌≢◌, ◌↔◌, ℕ, IsTrue, IsSome};
-ghost use Rattle.tool_scheduler.specs.Rounds.{is_taken};
+ghost use Rattle.tool_scheduler.specs.Rounds.{is_slot_taken};
 
 use crate::crowd::{Sitting, crowded_place};
 use crate::slot::{Slot, TurnResult};
@@ -56,22 +56,22 @@ impl<S: Drop> Table<S> {
 
     /// The session in a slot.
     pub(crate) fn at(&self, place: usize) -> Option<&TakenSlot<S>>
-        ensures { IsTrue (is_taken self.now.slots.items place) ↔ IsSome result }
+        ensures { IsTrue (is_slot_taken self.now.slots.items place) ↔ IsSome result }
     {
         self.slots.get(place)?.as_ref()
     }
 
     /// Frees a slot, and gives the session that had it.
     pub(crate) fn free(&mut self, place: usize) -> Option<TakenSlot<S>>
-        ensures had { IsTrue (is_taken self.old.slots.items place) ↔ IsSome result }
-        ensures others { (other : ℕ) → other ≢ place → is_taken self.new.slots.items other ≡ is_taken self.old.slots.items other }
+        ensures had { IsTrue (is_slot_taken self.old.slots.items place) ↔ IsSome result }
+        ensures others { (other : ℕ) → other ≢ place → is_slot_taken self.new.slots.items other ≡ is_slot_taken self.old.slots.items other }
     {
         self.slots.get_mut(place)?.take()
     }
 
     /// Puts back a session into its slot.
     pub(crate) fn put(&mut self, place: usize, taken: TakenSlot<S>)
-        ensures others { (other : ℕ) → other ≢ place → is_taken self.new.slots.items other ≡ is_taken self.old.slots.items other }
+        ensures others { (other : ℕ) → other ≢ place → is_slot_taken self.new.slots.items other ≡ is_slot_taken self.old.slots.items other }
     {
         if let Some(slot) = self.slots.get_mut(place) {
             *slot = Some(taken);

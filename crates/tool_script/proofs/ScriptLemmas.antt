@@ -7,18 +7,18 @@ use Rattle.tool_script.specs.declared.order.Order.{Order}
 use Rattle.tool_script.specs.Line.{order_value}
 use Rattle.tool_script.specs.declared.script.ScriptFault.{ScriptFault}
 use Rattle.tool_script.specs.declared.script.ScriptFault.TheVariants.{Line, Memory}
-use Rattle.tool_script.specs.Script.{ReadsAll, before_last, if_ended, last_of, orders_behind, orders_value, script_between, script_in, with_line}
+use Rattle.tool_script.specs.Script.{ReadsAll, all_but_last, if_ended, last_of_row, orders_behind, orders_value, script_between, script_in, joined_with_line}
 
 -- ---- lines
 
 -- a row in front of one more
-pub before_one : {X : Type 0} (lines : List X) (last : X) → before_last (lines ++ last ∷ []) ≡ lines
+pub before_one : {X : Type 0} (lines : List X) (last : X) → all_but_last (lines ++ last ∷ []) ≡ lines
 before_one [] last = refl
 before_one (line ∷ []) last = refl
 before_one (line ∷ next ∷ lines) last = ap (λ rest. line ∷ rest) (before_one (next ∷ lines) last)
 
 -- one more is the last
-pub one_is_last : (lines : List (List ℕ)) (last : List ℕ) → last_of (lines ++ last ∷ []) ≡ last
+pub one_is_last : (lines : List (List ℕ)) (last : List ℕ) → last_of_row (lines ++ last ∷ []) ≡ last
 one_is_last [] last = refl
 one_is_last (line ∷ []) last = refl
 one_is_last (line ∷ next ∷ lines) last = one_is_last (next ∷ lines) last
@@ -28,9 +28,9 @@ between_is : {X : Type 0} (seen : X → List ℕ) (pieces lines : List X) (last 
     → script_between (map seen pieces) ≡ if_ended (length pieces) (seen last) (script_in (map seen lines))
 between_is seen pieces lines last is =
     let cut : map seen pieces ≡ map seen lines ++ seen last ∷ [] = ap (map seen) is ∙ map-append seen lines (last ∷ []) in
-    ap (λ n. if_ended n (last_of (map seen pieces)) (script_in (before_last (map seen pieces)))) (length-map pieces seen)
-    ∙ ap (λ l. if_ended (length pieces) (last_of l) (script_in (before_last l))) cut
-    ∙ ap (λ l. if_ended (length pieces) l (script_in (before_last (map seen lines ++ seen last ∷ [])))) (one_is_last (map seen lines) (seen last))
+    ap (λ n. if_ended n (last_of_row (map seen pieces)) (script_in (all_but_last (map seen pieces)))) (length-map pieces seen)
+    ∙ ap (λ l. if_ended (length pieces) (last_of_row l) (script_in (all_but_last l))) cut
+    ∙ ap (λ l. if_ended (length pieces) l (script_in (all_but_last (map seen lines ++ seen last ∷ [])))) (one_is_last (map seen lines) (seen last))
     ∙ ap (λ l. if_ended (length pieces) (seen last) (script_in l)) (before_one (map seen lines) (seen last))
 
 -- nothing stands after the lines
@@ -80,7 +80,7 @@ refused_before seen kept pieces lines last Memory is said = tt
 
 -- an order, and those of later lines
 abbrev order_and : ℕ → Option (Order (List ℕ)) → Result (List (Order (List ℕ))) ℕ → Result (List (Order (List ℕ))) ℕ
-order_and number said behind = with_line (λ order orders. order ∷ orders) number said behind
+order_and number said behind = joined_with_line (λ order orders. order ∷ orders) number said behind
 
 kept : (front : List (Order (List ℕ))) (order : Order (List ℕ)) (number : ℕ) (behind : Result (List (Order (List ℕ))) ℕ)
     → orders_behind front (order_and number (Some order) behind) ≡ orders_behind (front ++ order ∷ []) behind

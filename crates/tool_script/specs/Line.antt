@@ -45,8 +45,8 @@ Reads seen (Err Memory) value = Unit {0}
 -- ---- how octets go
 
 -- the type of a letter
-abbrev pub kind_value : ℕ → Option Kind
-kind_value letter = if letter == 65 then Some Ascii else (if letter == 73 then Some Image else None)
+abbrev pub kind_of_letter : ℕ → Option Kind
+kind_of_letter letter = if letter == 65 then Some Ascii else (if letter == 73 then Some Image else None)
 
 -- the structure of a letter
 abbrev pub structure_value : ℕ → Option Structure
@@ -80,7 +80,7 @@ how_with kind structure mode active extended marks = record {
 -- how octets go, of five letters and perhaps a sixth
 abbrev pub how_value : List ℕ → Option How
 how_value (kind ∷ structure ∷ mode ∷ opening ∷ form ∷ marks) =
-    and_then (kind_value kind) (λ k. and_then (structure_value structure) (λ s. and_then (mode_value mode) (λ m.
+    and_then (kind_of_letter kind) (λ k. and_then (structure_value structure) (λ s. and_then (mode_value mode) (λ m.
     and_then (opening_value opening) (λ a. and_then (form_value form) (λ e. option_map (how_with k s m a e) (marks_value marks))))))
 how_value short = None
 

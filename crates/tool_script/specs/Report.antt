@@ -16,8 +16,8 @@ abbrev pub said_line : List ℕ → List ℕ → List ℕ
 said_line word text = word ++ (text ++ feed ∷ [])
 
 -- the line of an entry in a list
-abbrev pub listed_line : {A : Type 0} → Entry A → List ℕ
-listed_line entry = said_line (codes "  ") (entry_line entry)
+abbrev pub line_in_list : {A : Type 0} → Entry A → List ℕ
+line_in_list entry = said_line (codes "  ") (entry_line entry)
 
 -- the line of a name in a list
 abbrev pub name_line : List ℕ → List ℕ
@@ -36,7 +36,7 @@ report (Answers.Octets octets) = said_line (codes "octets ") (field_text octets)
 report (Answers.Number number) = said_line (codes "number ") (decimal number)
 report (Answers.Stamp moment) = said_line (codes "moment ") (moment_digits moment.seconds)
 report (Answers.Entry entry) = said_line (codes "entry ") (entry_line entry)
-report (Answers.Entries entries) = said_line (codes "entries ") (decimal (length entries.items)) ++ flat_map listed_line entries.items
+report (Answers.Entries entries) = said_line (codes "entries ") (decimal (length entries.items)) ++ flat_map line_in_list entries.items
 report (Answers.Names names) = said_line (codes "names ") (decimal (length names.items)) ++ flat_map name_line names.items
 report (Answers.Refused code) = said_line (codes "refused ") (decimal code)
 report Answers.BadOperation = said_line (codes "bad") []

@@ -10,15 +10,15 @@ use Rattle.tool_script.specs.declared.script.ScriptFault.{ScriptFault}
 use Rattle.tool_script.specs.declared.script.ScriptFault.TheVariants.{Line, Memory}
 
 -- what a line says and what those after it say; or the number of the first that says nothing
-abbrev pub with_line : {X Y Z : Type 0} → (X → Y → Z) → ℕ → Option X → Result Y ℕ → Result Z ℕ
-with_line join number None behind = Err number
-with_line join number (Some value) (Err later) = Err later
-with_line join number (Some value) (Ok values) = Ok (join value values)
+abbrev pub joined_with_line : {X Y Z : Type 0} → (X → Y → Z) → ℕ → Option X → Result Y ℕ → Result Z ℕ
+joined_with_line join number None behind = Err number
+joined_with_line join number (Some value) (Err later) = Err later
+joined_with_line join number (Some value) (Ok values) = Ok (join value values)
 
 -- the orders of lines, whose first has this number
 abbrev pub orders_value : ℕ → List (List ℕ) → Result (List (Order (List ℕ))) ℕ
 orders_value number [] = Ok []
-orders_value number (line ∷ lines) = with_line (λ order orders. order ∷ orders) number (order_value line) (orders_value (number + 1) lines)
+orders_value number (line ∷ lines) = joined_with_line (λ order orders. order ∷ orders) number (order_value line) (orders_value (number + 1) lines)
 
 -- orders in front of those that follow
 abbrev pub orders_behind : List (Order (List ℕ)) → Result (List (Order (List ℕ))) ℕ → Result (List (Order (List ℕ))) ℕ
@@ -27,7 +27,7 @@ orders_behind front (Err number) = Err number
 
 -- the login of the first line, and the orders of the others
 abbrev pub script_from : Option (List ℕ × List ℕ) → List (List ℕ) → Result ((List ℕ × List ℕ) × List (Order (List ℕ))) ℕ
-script_from login lines = with_line (λ login orders. (login, orders)) 1 login (orders_value 2 lines)
+script_from login lines = joined_with_line (λ login orders. (login, orders)) 1 login (orders_value 2 lines)
 
 -- the login and the orders of lines: the first is the login, and lines count from 1
 abbrev pub script_in : List (List ℕ) → Result ((List ℕ × List ℕ) × List (Order (List ℕ))) ℕ
@@ -35,16 +35,16 @@ script_in [] = Err 1
 script_in (line ∷ lines) = script_from (login_value line) lines
 
 -- all of a row but its last
-abbrev pub before_last : {X : Type 0} → List X → List X
-before_last [] = []
-before_last (piece ∷ []) = []
-before_last (piece ∷ next ∷ pieces) = piece ∷ before_last (next ∷ pieces)
+abbrev pub all_but_last : {X : Type 0} → List X → List X
+all_but_last [] = []
+all_but_last (piece ∷ []) = []
+all_but_last (piece ∷ next ∷ pieces) = piece ∷ all_but_last (next ∷ pieces)
 
 -- the last of a row
-abbrev pub last_of : List (List ℕ) → List ℕ
-last_of [] = []
-last_of (piece ∷ []) = piece
-last_of (piece ∷ next ∷ pieces) = last_of (next ∷ pieces)
+abbrev pub last_of_row : List (List ℕ) → List ℕ
+last_of_row [] = []
+last_of_row (piece ∷ []) = piece
+last_of_row (piece ∷ next ∷ pieces) = last_of_row (next ∷ pieces)
 
 -- what lines say, if nothing stands after the end of the last; else that is a line without its end, which says nothing: this is its number
 abbrev pub if_ended : {V : Type 0} → ℕ → List ℕ → Result V ℕ → Result V ℕ
@@ -54,7 +54,7 @@ if_ended number (octet ∷ rest) (Err line) = Err line
 
 -- what is said by what stands before, between and after ends of lines: lines, and what stands after the last end
 abbrev pub script_between : List (List ℕ) → Result ((List ℕ × List ℕ) × List (Order (List ℕ))) ℕ
-script_between pieces = if_ended (length pieces) (last_of pieces) (script_in (before_last pieces))
+script_between pieces = if_ended (length pieces) (last_of_row pieces) (script_in (all_but_last pieces))
 
 -- what a script says, or the number of the first line that is refused; each line is ended by LF, also the last
 abbrev pub script_value : List ℕ → Result ((List ℕ × List ℕ) × List (Order (List ℕ))) ℕ

@@ -1,6 +1,6 @@
 // How octets go, as a field of letters.
 ghost use Rattle.std.specs.Prelude.{◌≡◌};
-ghost use Rattle.tool_script.specs.Line.{form_value, how_value, kind_value, marks_value, mode_value, opening_value, structure_value};
+ghost use Rattle.tool_script.specs.Line.{form_value, how_value, kind_of_letter, marks_value, mode_value, opening_value, structure_value};
 
 use ftp_operation::How;
 use ftp_settings::{Kind, Mode, Representation, Structure};
@@ -43,7 +43,7 @@ pub(crate) fn how_of(text: &[u8]) -> Option<How>
 }
 
 fn kind_of(letter: u8) -> Option<Kind>
-    ensures { result ≡ kind_value letter }
+    ensures { result ≡ kind_of_letter letter }
 {
     match letter {
         b'A' => Some(Kind::Ascii),

@@ -3,7 +3,7 @@ ghost use Rattle.std.specs.Prelude.{◌≡◌, ◌++◌, ◌∷◌, [], decimal,
 ghost use Rattle.ftp_facts.specs.Entry.{entry_line};
 ghost use Rattle.ftp_facts.specs.Moment.{moment_digits};
 ghost use Rattle.tool_script.specs.Field.{field_text};
-ghost use Rattle.tool_script.specs.Report.{feed, listed_line, mark_text, name_line, report, said_line};
+ghost use Rattle.tool_script.specs.Report.{feed, line_in_list, mark_text, name_line, report, said_line};
 
 use crate::field::put_field;
 use ftp_facts::{Entry, Moment, Text, moment_text, write_entry};
@@ -109,7 +109,7 @@ fn put_entries<A: Allocator + Copy, B: Allocator + Copy>(
     out: &mut Vec<u8, B>,
 ) -> Result<(), AllocError>
     ensures { OnOk result (out.new.items ≡ out.old.items
-        ++ (said_line (codes "entries ") (decimal (length entries.now)) ++ flat_map listed_line entries.now)) }
+        ++ (said_line (codes "entries ") (decimal (length entries.now)) ++ flat_map line_in_list entries.now)) }
 {
     put_number(b"entries ", entries.len() as u64, out)?;
     put_each_entry(entries, out)
@@ -119,7 +119,7 @@ fn put_each_entry<A: Allocator + Copy, B: Allocator + Copy>(
     entries: &[Entry<A>],
     out: &mut Vec<u8, B>,
 ) -> Result<(), AllocError>
-    ensures { OnOk result (out.new.items ≡ out.old.items ++ flat_map listed_line entries.now) }
+    ensures { OnOk result (out.new.items ≡ out.old.items ++ flat_map line_in_list entries.now) }
 {
     for entry in entries {
         put_entry(b"  ", entry, out)?;

@@ -8,13 +8,13 @@ use Rattle.tool_serve.specs.declared.refused_logins.AnswerPace.{AnswerPace}
 use Rattle.tool_serve.specs.declared.refused_logins.AnswerPace.TheVariants as Paces
 
 -- the line is the password of a login
-abbrev pub is_password : Option Verb → Bool
-is_password (Some Verbs.Pass) = true
-is_password verb = false
+abbrev pub is_password_line : Option Verb → Bool
+is_password_line (Some Verbs.Pass) = true
+is_password_line verb = false
 
 -- 530 to a password is a refused login, of which ten are counted
 abbrev pub is_refused : LoginHistory → Option Verb → ℕ → Bool
-is_refused m verb code = is_password verb && code == NOT_LOGGED_IN && nat_lt m.refused 10
+is_refused m verb code = is_password_line verb && code == NOT_LOGGED_IN && nat_lt m.refused 10
 
 -- after a line that was answered so, and then somebody is logged in, or nobody
 abbrev pub manner_after : LoginHistory → Option Verb → ℕ → (is_in : Bool) → LoginHistory

@@ -7,7 +7,7 @@ use Rattle.ftp_client_model.specs.Tries.{OverBreaks}
 use Rattle.ftp_server_model.specs.Machine.{Reading}
 use Rattle.laws_world.specs.Serving.{after_event}
 use Rattle.ftp_client_model.specs.Calls.{starts, uploads, report_of, report_of_job, reports, reported_by, is_busy, is_busy_job, handed_back}
-use Rattle.laws_world.specs.Events.{Happens, Next, Upload, begun_at, lends_none, can_begin, is_gone, is_asked_for}
+use Rattle.laws_world.specs.Events.{Happens, Next, Upload, begins_at_moment, lends_none, can_begin, is_gone, is_asked_for}
 use Rattle.laws_world.specs.World.{World}
 use Rattle.ftp_pair_events.specs.events.Shown.{is_unlinked}
 use Rattle.ftp_client_model.specs.View.{View, Job, Idle, Waiting, Doing, Transferring, Told}
@@ -76,11 +76,11 @@ starts_in op w = record w { near = starts op w.near }
 
 -- an operation begins
 pub began : (read : Reading) (op : Op (List ℕ)) (moment : ℕ) (old ready begun mid new : World) → is_unlinked old ≡ true → ready ≡ old → is_busy ready.near ≡ false
-    → begun ≡ record ready { near = starts op ready.near } → mid ≡ begun_at moment begun.near (lends_none begun) → new ≡ after_event mid
+    → begun ≡ record ready { near = starts op ready.near } → mid ≡ begins_at_moment moment begun.near (lends_none begun) → new ≡ after_event mid
     → Happens read (Next op moment) old true new
 began read op moment old ready begun mid new unlinked ready_is free begun_is mid_is is =
     let e : begun ≡ record old { near = starts op old.near } = begun_is ∙ ap (starts_in op) ready_is in
-    (free_begins old (ap (λ w. is_busy w.near) (sym ready_is) ∙ free) unlinked, is ∙ ap after_event (mid_is ∙ ap (λ b. begun_at moment b.near (lends_none b)) e))
+    (free_begins old (ap (λ w. is_busy w.near) (sym ready_is) ∙ free) unlinked, is ∙ ap after_event (mid_is ∙ ap (λ b. begins_at_moment moment b.near (lends_none b)) e))
 
 -- a world whose client has begun an upload over breaks
 abbrev uploads_in : OverBreaks → World → World
@@ -88,8 +88,8 @@ uploads_in upload w = record w { near = uploads upload w.near }
 
 -- an upload over breaks begins
 pub uploaded : (read : Reading) (upload : OverBreaks) (moment : ℕ) (old ready begun mid new : World) → is_unlinked old ≡ true → ready ≡ old → is_busy ready.near ≡ false
-    → begun ≡ record ready { near = uploads upload ready.near } → mid ≡ begun_at moment begun.near (lends_none begun) → new ≡ after_event mid
+    → begun ≡ record ready { near = uploads upload ready.near } → mid ≡ begins_at_moment moment begun.near (lends_none begun) → new ≡ after_event mid
     → Happens read (Upload upload moment) old true new
 uploaded read upload moment old ready begun mid new unlinked ready_is free begun_is mid_is is =
     let e : begun ≡ record old { near = uploads upload old.near } = begun_is ∙ ap (uploads_in upload) ready_is in
-    (free_begins old (ap (λ w. is_busy w.near) (sym ready_is) ∙ free) unlinked, is ∙ ap after_event (mid_is ∙ ap (λ b. begun_at moment b.near (lends_none b)) e))
+    (free_begins old (ap (λ w. is_busy w.near) (sym ready_is) ∙ free) unlinked, is ∙ ap after_event (mid_is ∙ ap (λ b. begins_at_moment moment b.near (lends_none b)) e))

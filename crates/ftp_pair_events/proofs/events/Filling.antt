@@ -13,7 +13,7 @@ use Rattle.ftp_server_model.specs.Far.{Server}
 use Rattle.ftp_pair_events.specs.declared.events.parts.Parts.{Parts}
 use Rattle.ftp_pair_events.specs.declared.queues.between.Queue.{Queue as Channel}
 use Rattle.ftp_pair_events.specs.declared.queues.between.Queue.TheVariants as Channels
-use Rattle.ftp_pair_events.specs.events.Shown.{FillsTo, FillsSo, Offers, Carries, Steps, shown, queue_of, len_of, room_of}
+use Rattle.ftp_pair_events.specs.events.Shown.{FillsTo, FillsSo, Offers, Carries, Steps, shown, queue_of, len_of, queue_room_of}
 
 -- calls after calls
 pub filled_more : (queue : Queue) (w : World) (counts more : List ℕ) → filled queue w (counts ++ more) ≡ filled queue (filled queue w counts) more
@@ -137,14 +137,14 @@ same_len Channels.DataToServer old new is = ap (len_of Channels.DataToServer) is
 same_len Channels.DataToClient old new is = ap (len_of Channels.DataToClient) is
 
 -- nor has it a queue's room
-pub same_room : {A T N F : Type 0} (queue : Channel) (old new : Parts A T N F) → new ≡ record old { taken = new.taken } → room_of queue new ≡ room_of queue old
-same_room Channels.ControlToServer old new is = ap (room_of Channels.ControlToServer) is
-same_room Channels.ControlToClient old new is = ap (room_of Channels.ControlToClient) is
-same_room Channels.DataToServer old new is = ap (room_of Channels.DataToServer) is
-same_room Channels.DataToClient old new is = ap (room_of Channels.DataToClient) is
+pub same_room : {A T N F : Type 0} (queue : Channel) (old new : Parts A T N F) → new ≡ record old { taken = new.taken } → queue_room_of queue new ≡ queue_room_of queue old
+same_room Channels.ControlToServer old new is = ap (queue_room_of Channels.ControlToServer) is
+same_room Channels.ControlToClient old new is = ap (queue_room_of Channels.ControlToClient) is
+same_room Channels.DataToServer old new is = ap (queue_room_of Channels.DataToServer) is
+same_room Channels.DataToClient old new is = ap (queue_room_of Channels.DataToClient) is
 
 -- each queue has room for 4,096 octets
-pub roomy : {A T N F : Type 0} (queue : Channel) (parts : Parts A T N F) → 4096 ≤ room_of queue parts
+pub roomy : {A T N F : Type 0} (queue : Channel) (parts : Parts A T N F) → 4096 ≤ queue_room_of queue parts
 roomy Channels.ControlToServer parts = parts.control_to_server.roomy
 roomy Channels.ControlToClient parts = parts.control_to_client.roomy
 roomy Channels.DataToServer parts = parts.data_to_server.roomy

@@ -3,10 +3,10 @@ use Rattle.std.proofs.Common.{◌≡◌, ◌≢◌, ℕ, zero, suc, ◌+◌, ◌
 use Rattle.std.specs.Prelude.{nat_eq}
 use Rattle.std.proofs.lemmas.Bool.Decides.{nat_tests}
 use Rattle.ftp_direct.specs.Run.{moved_on}
-use Rattle.ftp_client_model.specs.Counting.{CountsOn as NearOn}
+use Rattle.ftp_client_model.specs.Counting.{MovesByOneAtMost as NearOn}
 use Rattle.ftp_server_model.specs.Counting.{CountsOn as FarOn}
 use Rattle.ftp_server_model.specs.Failing.{Counts}
-use Rattle.ftp_pair_events.specs.events.Calm.{Keeps, Tally}
+use Rattle.ftp_pair_events.specs.events.Calm.{KeepsTally, Tally}
 
 -- calm stays where nothing failed
 still : (b : Bool) → b ≡ (b && true)
@@ -14,7 +14,7 @@ still true = refl
 still false = refl
 
 -- nothing was called
-pub none : (most : ℕ) (was : Bool) (t : Tally) → Keeps most was was t t
+pub none : (most : ℕ) (was : Bool) (t : Tally) → KeepsTally most was was t t
 none most was t = record {
   near = 0;
   refusals = 0;
@@ -56,7 +56,7 @@ none_in was mid calm first next all mid_is is sum =
     ∙ ap (λ z. was && z) (none_of_both first next ∙ ap (λ n. nat_eq n 0) sum)
 
 -- calls after calls
-pub then : {a b most : ℕ} {was mid calm : Bool} {old between new : Tally} → Keeps a was mid old between → Keeps b mid calm between new → a + b ≤ most → Keeps most was calm old new
+pub then : {a b most : ℕ} {was mid calm : Bool} {old between new : Tally} → KeepsTally a was mid old between → KeepsTally b mid calm between new → a + b ≤ most → KeepsTally most was calm old new
 then first next few = record {
   near = first.near + next.near;
   refusals = first.refusals + next.refusals;
@@ -69,11 +69,11 @@ then first next few = record {
 }
 
 -- the same, where what came last is told first
-pub after : {a b most : ℕ} {was mid calm : Bool} {old between new : Tally} → Keeps b mid calm between new → Keeps a was mid old between → a + b ≤ most → Keeps most was calm old new
+pub after : {a b most : ℕ} {was mid calm : Bool} {old between new : Tally} → KeepsTally b mid calm between new → KeepsTally a was mid old between → a + b ≤ most → KeepsTally most was calm old new
 after next first few = then first next few
 
 -- fewer at most
-pub fewer : {a most : ℕ} {was calm : Bool} {old new : Tally} → Keeps a was calm old new → a ≤ most → Keeps most was calm old new
+pub fewer : {a most : ℕ} {was calm : Bool} {old new : Tally} → KeepsTally a was calm old new → a ≤ most → KeepsTally most was calm old new
 fewer kept few = record {
   near = kept.near;
   refusals = kept.refusals;
@@ -105,7 +105,7 @@ stayed (suc more) before after fits few is =
 
 -- a call of the client's, between two looks at its count
 pub near_kept : {was calm : Bool} {old new : Tally} (before after : ℕ) → before < 2 ^ 64 → before ≡ old.near → after ≡ new.near → NearOn old.near new.near → new.far ≡ old.far
-    → calm ≡ (was && nat_eq after before) → Keeps 3 was calm old new
+    → calm ≡ (was && nat_eq after before) → KeepsTally 3 was calm old new
 near_kept {was} {calm} {old} {new} before after fits before_is after_is (inl same) far_is is = record {
   near = 0;
   refusals = 0;
@@ -128,7 +128,7 @@ near_kept {was} {calm} {old} {new} before after fits before_is after_is (inr nex
 }
 
 -- a call that takes no memory
-pub held : {was : Bool} {old new : Tally} (most : ℕ) → new.near ≡ old.near → new.far ≡ old.far → Keeps most was was old new
+pub held : {was : Bool} {old new : Tally} (most : ℕ) → new.near ≡ old.near → new.far ≡ old.far → KeepsTally most was was old new
 held {was} {old} {new} most near_is far_is = record {
   near = 0;
   refusals = 0;
@@ -149,7 +149,7 @@ both_none x y a b x_is y_is = ap (λ x. x && y) x_is ∙ ap (λ y. nat_eq a 0 &&
 
 -- a call of the server's, between two looks at its counts
 pub far_kept : {was calm : Bool} {old new : Tally} (before after : Counts) → (before.refusals < 2 ^ 64) → (before.failures.told < 2 ^ 64) → before ≡ old.far → after ≡ new.far
-    → FarOn old.far new.far → new.near ≡ old.near → calm ≡ (was && (nat_eq after.refusals before.refusals && nat_eq after.failures.told before.failures.told)) → Keeps 3 was calm old new
+    → FarOn old.far new.far → new.near ≡ old.near → calm ≡ (was && (nat_eq after.refusals before.refusals && nat_eq after.failures.told before.failures.told)) → KeepsTally 3 was calm old new
 far_kept {was} {calm} {old} {new} before after fits fits_too before_is after_is moved near_is is = record {
   near = 0;
   refusals = moved.0.0;

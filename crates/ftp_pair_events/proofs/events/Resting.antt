@@ -3,7 +3,7 @@ use Rattle.std.proofs.Common.{◌≡◌, ℕ, ◌&&◌, ◌||◌, not, Bool, tru
 use Rattle.std.specs.Prelude.{◌==◌, nat_lt}
 use Rattle.ftp_ends.specs.Octets.{has_octets}
 use Rattle.laws_world.specs.Events.{Queue, ControlToServer, ControlToClient, DataToServer, DataToClient, Open, Deliver, End, IsQuiet, can_happen, due, in_queue, is_asked_for, may_take}
-use Rattle.laws_world.specs.Still.{IsAtRest, IsStill}
+use Rattle.laws_world.specs.Still.{IsQueueAtRest, IsStill}
 use Rattle.laws_world.specs.World.{World}
 use Rattle.laws_world.proofs.StillLemmas.{resting_is_still}
 use Rattle.ftp_pair_events.specs.events.Shown.{NoneEnds, NoneFlows, all_rest, all_told, is_quiet, rests}
@@ -100,7 +100,7 @@ quiet_not w q =
 -- ---- a still world
 
 -- where no delivery of 4,096 octets is possible, a queue is at rest
-resting : (queue : Queue) (w : World) → can_happen (Deliver queue 4096) w ≡ false → IsAtRest queue w
+resting : (queue : Queue) (w : World) → can_happen (Deliver queue 4096) w ≡ false → IsQueueAtRest queue w
 resting queue w none =
     let so = neither (has_octets (due queue w) && nat_lt (length (in_queue queue w)) 4096) (has_octets (in_queue queue w) && may_take queue w) none in
     record { moved = so.0; taken = so.1 }
@@ -109,7 +109,7 @@ resting queue w none =
 pub still_so : (w : World) → NoneFlows w → can_happen Open w ≡ false → NoneEnds w → IsStill w
 still_so w flows opened ends = resting_is_still w rest opened ended
   where
-    rest : (queue : Queue) → IsAtRest queue w
+    rest : (queue : Queue) → IsQueueAtRest queue w
     rest ControlToServer = resting ControlToServer w flows.to_server
     rest ControlToClient = resting ControlToClient w flows.to_client
     rest DataToServer = resting DataToServer w flows.up

@@ -64,12 +64,12 @@ takes_by read queue most taken piece w says e few same may some =
 
 -- the client took so many octets of the link
 pub near_data_takes : (read : Reading) (most taken : ℕ) (piece : List ℕ) (w : World) → piece ≡ take most w.data_to_client → taken ≤ length piece
-    → near.MayReceive w.near piece taken → (IsTrue (near.may_receive w.near) → 0 < length piece → 0 < taken) → Takes read DataToClient most w taken
+    → near.MayReceiveFront w.near piece taken → (IsTrue (near.may_receive w.near) → 0 < length piece → 0 < taken) → Takes read DataToClient most w taken
 near_data_takes read most taken piece w e few may some = takes_by read DataToClient most taken piece w (λ p. near.may_receive (near.receives w.near p)) e few (λ k. refl) may some
 
 -- the client took so many of what was offered to it
 pub near_takes : (read : Reading) (most taken : ℕ) (piece : List ℕ) (w : World) → piece ≡ take most w.control_to_client → taken ≤ length piece
-    → near.MayHear w.near piece taken → (IsTrue (near.may_hear w.near) → 0 < length piece → 0 < taken) → Takes read ControlToClient most w taken
+    → near.MayHearFront w.near piece taken → (IsTrue (near.may_hear w.near) → 0 < length piece → 0 < taken) → Takes read ControlToClient most w taken
 near_takes read most taken piece w e few may some = takes_by read ControlToClient most taken piece w (λ p. near.may_hear (near.hears w.near p)) e few (λ k. refl) may some
 
 -- the server did

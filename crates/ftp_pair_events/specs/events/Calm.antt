@@ -17,7 +17,7 @@ abbrev pub tally_of : {A T N F : Type 0} → (N → Client) → (F → Server) �
 tally_of near far w = record { near = (near w.near).refusals; far = (far w.far).counts }
 
 -- so many failures at most were counted, of the device those that it told, and calm is what it was, and that there were none
-pub record Keeps (most : ℕ) (was calm : Bool) (old new : Tally) : Type 0 where
+pub record KeepsTally (most : ℕ) (was calm : Bool) (old new : Tally) : Type 0 where
   pub near : ℕ
   pub refusals : ℕ
   pub failures : ℕ
@@ -29,13 +29,13 @@ pub record Keeps (most : ℕ) (was calm : Bool) (old new : Tally) : Type 0 where
 
 -- the same of parts
 abbrev pub Counted : {A T N F : Type 0} → ℕ → (N → Client) → (F → Server) → Parts A T N F → Parts A T N F → Type 0
-Counted most near far old new = Keeps most old.calm new.calm (tally_of near far old) (tally_of near far new)
+Counted most near far old new = KeepsTally most old.calm new.calm (tally_of near far old) (tally_of near far new)
 
 -- how many octets an event delivers at most
-abbrev pub octets_in : events.Event → ℕ
-octets_in (events.Deliver queue count) = count
-octets_in other = 0
+abbrev pub octets_delivered : events.Event → ℕ
+octets_delivered (events.Deliver queue count) = count
+octets_delivered other = 0
 
 -- how many failures can be counted in an event at most: three in each of its calls, which are eight, and one for each octet that is delivered
 abbrev pub most_in : events.Event → ℕ
-most_in event = 3 * (octets_in event + 8)
+most_in event = 3 * (octets_delivered event + 8)

@@ -22,20 +22,20 @@ event_of (Given.Next op moment) = events.Next op moment.seconds
 event_of (Given.Upload path octets how moment) = events.Upload (over_breaks path octets how) moment.seconds
 
 -- a turn is an event too
-abbrev pub turn_of : Turn → events.Event
-turn_of (Turns.Deliver queue) = events.Deliver (queue_of queue) 4096
-turn_of Turns.Open = events.Open
-turn_of (Turns.End queue) = events.End (queue_of queue)
+abbrev pub event_of_turn : Turn → events.Event
+event_of_turn (Turns.Deliver queue) = events.Deliver (queue_of queue) 4096
+event_of_turn Turns.Open = events.Open
+event_of_turn (Turns.End queue) = events.End (queue_of queue)
 
 -- by itself a world delivers, 4,096 octets at most at once, opens links and tells of ends
-abbrev pub IsSmall : events.Event → Type 0
-IsSmall (events.Deliver queue count) = count ≤ 4096
-IsSmall events.Open = Unit {0}
-IsSmall (events.End queue) = Unit {0}
-IsSmall event = ⊥
+abbrev pub IsSmallDelivery : events.Event → Type 0
+IsSmallDelivery (events.Deliver queue count) = count ≤ 4096
+IsSmallDelivery events.Open = Unit {0}
+IsSmallDelivery (events.End queue) = Unit {0}
+IsSmallDelivery event = ⊥
 
 -- one of these happened
 pub record Progresses (was calm : Bool) (old new : World) : Type 0 where
   pub event : events.Event
-  pub small : IsSmall event
+  pub small : IsSmallDelivery event
   pub happened : Steps was calm (λ read. Happens read event old true new)

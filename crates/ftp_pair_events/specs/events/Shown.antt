@@ -29,11 +29,11 @@ control_of Controls.LeftByFar = world.LeftByFar
 control_of Controls.Parted = world.Parted
 
 -- how the data link stands
-abbrev pub link_of : Link → world.Link
-link_of Links.Gone = world.Gone
-link_of Links.Opened = world.Opened
-link_of Links.ClosedByNear = world.ClosedByNear
-link_of Links.ClosedByFar = world.ClosedByFar
+abbrev pub link_shown : Link → world.Link
+link_shown Links.Gone = world.Gone
+link_shown Links.Opened = world.Opened
+link_shown Links.ClosedByNear = world.ClosedByNear
+link_shown Links.ClosedByFar = world.ClosedByFar
 
 -- a mark
 abbrev pub mark_of : Mark → world.Mark
@@ -57,7 +57,7 @@ shown near far w = record {
   data_to_server = w.data_to_server.octets.items;
   data_to_client = w.data_to_client.octets.items;
   control = control_of w.control;
-  link = link_of w.link;
+  link = link_shown w.link;
   came = w.came;
   listens = w.listens;
   marks = map (λ marks. map mark_of marks.items) w.marks.items;
@@ -110,11 +110,11 @@ len_of Queues.DataToServer parts = vec_len parts.data_to_server.octets
 len_of Queues.DataToClient parts = vec_len parts.data_to_client.octets
 
 -- for how many octets it has room
-abbrev pub room_of : {A T N F : Type 0} → Queue → Parts A T N F → ℕ
-room_of Queues.ControlToServer parts = vec_capacity parts.control_to_server.octets
-room_of Queues.ControlToClient parts = vec_capacity parts.control_to_client.octets
-room_of Queues.DataToServer parts = vec_capacity parts.data_to_server.octets
-room_of Queues.DataToClient parts = vec_capacity parts.data_to_client.octets
+abbrev pub queue_room_of : {A T N F : Type 0} → Queue → Parts A T N F → ℕ
+queue_room_of Queues.ControlToServer parts = vec_capacity parts.control_to_server.octets
+queue_room_of Queues.ControlToClient parts = vec_capacity parts.control_to_client.octets
+queue_room_of Queues.DataToServer parts = vec_capacity parts.data_to_server.octets
+queue_room_of Queues.DataToClient parts = vec_capacity parts.data_to_client.octets
 
 -- a delivery: whatever world is served after it, that is the world after the delivery
 abbrev pub Carries : Reading → events.Queue → ℕ → World → World → Type 0

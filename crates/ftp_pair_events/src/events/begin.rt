@@ -4,7 +4,7 @@ ghost use Rattle.ftp_client_model.specs.Calls.{is_busy, starts, uploads};
 ghost use Rattle.ftp_client_model.specs.Tries.{over_breaks};
 ghost use Rattle.ftp_server_model.specs.Calls.{clocked};
 ghost use Rattle.ftp_operation.specs.declared.op.Op.{Op};
-ghost use Rattle.laws_world.specs.Events.{Happens, Next, Upload, begun_at, can_happen, lends_none};
+ghost use Rattle.laws_world.specs.Events.{Happens, Next, Upload, begins_at_moment, can_happen, lends_none};
 ghost use Rattle.ftp_pair_events.specs.events.Calm.{Counted, tally_of};
 ghost use Rattle.ftp_pair_events.specs.events.Shown.{shown, Calmly, HasRoom, Steps, is_unlinked};
 
@@ -149,7 +149,7 @@ impl<A: Allocator + Copy, T: Tree<A>, N: Near<A>, F: SureFar<A, T>> Parts<A, T, 
     fn note(&mut self, moment: Moment, marks: Vec<Mark, A>)
         requires room { vec_len self.old.marks < vec_capacity self.old.marks }
         requires none { marks.items ≡ [] }
-        ensures moved { Calmly self.old self.new (shown N.client F.server self.new ≡ begun_at moment.seconds (N.client self.old.near).view (lends_none (shown N.client F.server self.old))) }
+        ensures moved { Calmly self.old self.new (shown N.client F.server self.new ≡ begins_at_moment moment.seconds (N.client self.old.near).view (lends_none (shown N.client F.server self.old))) }
         ensures reports { self.new.reports ≡ self.old.reports }
         ensures counted { Counted 3 N.client F.server self.old self.new }
     {

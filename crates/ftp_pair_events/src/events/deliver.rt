@@ -3,7 +3,7 @@ ghost use Rattle.std.specs.Prelude.{◌≡◌, ◌+◌, ◌*◌, ◌<◌, ◌≤
 ghost use Rattle.ftp_server_model.specs.Machine.{Reading, IsReading};
 ghost use Rattle.laws_world.specs.Events.{can_happen, Deliver, Happens, filled};
 ghost use Rattle.ftp_pair_events.specs.events.Calm.{Counted, tally_of};
-ghost use Rattle.ftp_pair_events.specs.events.Shown.{shown, Calmly, FillsTo, HasRoom, Offers, Carries, Steps, queue_of, len_of, room_of};
+ghost use Rattle.ftp_pair_events.specs.events.Shown.{shown, Calmly, FillsTo, HasRoom, Offers, Carries, Steps, queue_of, len_of, queue_room_of};
 
 use crate::events::parts::Parts;
 use crate::queues::{Queue, ROOM};
@@ -44,8 +44,8 @@ impl<A: Allocator + Copy, T: Tree<A>, N: Near<A>, F: SureFar<A, T>> Parts<A, T, 
     /// Room for a delivery of so many octets.
     fn ready(&mut self, queue: Queue, count: usize) -> Result<(), AllocError>
         ensures same { shown N.client F.server self.new ≡ shown N.client F.server self.old }
-        ensures some { OnOk result (len_of queue self.new + 4096 ≤ room_of queue self.new) }
-        ensures room { OnOk result (count ≤ room_of queue self.new) }
+        ensures some { OnOk result (len_of queue self.new + 4096 ≤ queue_room_of queue self.new) }
+        ensures room { OnOk result (count ≤ queue_room_of queue self.new) }
         ensures lent { OnOk result (count ≤ vec_capacity self.new.taken.octets) }
         ensures calm { self.new.calm ≡ self.old.calm }
         ensures report { HasRoom N.client self.old → HasRoom N.client self.new }
@@ -59,7 +59,7 @@ impl<A: Allocator + Copy, T: Tree<A>, N: Near<A>, F: SureFar<A, T>> Parts<A, T, 
     /// Room for so many octets more.
     fn reserve_in(&mut self, queue: Queue, count: usize) -> Result<(), AllocError>
         ensures same { shown N.client F.server self.new ≡ shown N.client F.server self.old }
-        ensures ok { OnOk result (len_of queue self.new + count ≤ room_of queue self.new) }
+        ensures ok { OnOk result (len_of queue self.new + count ≤ queue_room_of queue self.new) }
         ensures calm { self.new.calm ≡ self.old.calm }
         ensures report { HasRoom N.client self.old → HasRoom N.client self.new }
         ensures ends { tally_of N.client F.server self.new ≡ tally_of N.client F.server self.old }
@@ -78,8 +78,8 @@ impl<A: Allocator + Copy, T: Tree<A>, N: Near<A>, F: SureFar<A, T>> Parts<A, T, 
     pub(crate) fn deliver(&mut self, queue: Queue, count: usize)
         requires report { HasRoom N.client self.old }
         requires possible { IsTrue (can_happen (Deliver (queue_of queue) count) (shown N.client F.server self.old)) }
-        requires some { count ≡ 0 → len_of queue self.old + 4096 ≤ room_of queue self.old }
-        requires room { count ≤ room_of queue self.old }
+        requires some { count ≡ 0 → len_of queue self.old + 4096 ≤ queue_room_of queue self.old }
+        requires room { count ≤ queue_room_of queue self.old }
         requires lent { count ≤ vec_capacity self.old.taken.octets }
         ensures does { Steps self.old.calm self.new.calm (λ read. Happens read (Deliver (queue_of queue) count) (shown N.client F.server self.old) true (shown N.client F.server self.new)) }
         ensures report { HasRoom N.client self.new }
@@ -92,8 +92,8 @@ impl<A: Allocator + Copy, T: Tree<A>, N: Near<A>, F: SureFar<A, T>> Parts<A, T, 
 
     /// Octets are moved, and offered where some are asked for.
     fn carry(&mut self, queue: Queue, count: usize)
-        requires some { count ≡ 0 → len_of queue self.old + 4096 ≤ room_of queue self.old }
-        requires room { count ≤ room_of queue self.old }
+        requires some { count ≡ 0 → len_of queue self.old + 4096 ≤ queue_room_of queue self.old }
+        requires room { count ≤ queue_room_of queue self.old }
         requires lent { count ≤ vec_capacity self.old.taken.octets }
         ensures done { Calmly self.old self.new ((read : Reading) → IsReading read → Carries read (queue_of queue) count (shown N.client F.server self.old) (shown N.client F.server self.new)) }
         ensures report { HasRoom N.client self.old → HasRoom N.client self.new }
@@ -109,7 +109,7 @@ impl<A: Allocator + Copy, T: Tree<A>, N: Near<A>, F: SureFar<A, T>> Parts<A, T, 
     /// Octets, one at least, are moved and offered.
     #[tactic(auto, using(crate::proofs::events::Filling::offers))]
     fn offer(&mut self, queue: Queue, count: usize)
-        requires room { count ≤ room_of queue self.old }
+        requires room { count ≤ queue_room_of queue self.old }
         requires lent { count ≤ vec_capacity self.old.taken.octets }
         ensures done { Calmly self.old self.new ((read : Reading) → IsReading read → Offers read (queue_of queue) count (shown N.client F.server self.old) (shown N.client F.server self.new)) }
         ensures report { HasRoom N.client self.old → HasRoom N.client self.new }
@@ -121,7 +121,7 @@ impl<A: Allocator + Copy, T: Tree<A>, N: Near<A>, F: SureFar<A, T>> Parts<A, T, 
 
     /// A queue is filled up to so many octets, while its sender has some.
     fn fill(&mut self, queue: Queue, count: usize)
-        requires room { count ≤ room_of queue self.old }
+        requires room { count ≤ queue_room_of queue self.old }
         ensures taken { self.new.taken ≡ self.old.taken }
         ensures report { HasRoom N.client self.old → HasRoom N.client self.new }
         ensures filled { Calmly self.old self.new (FillsTo (queue_of queue) count (shown N.client F.server self.old) (shown N.client F.server self.new)) }

@@ -6,7 +6,7 @@ ghost use Rattle.ftp_server_model.specs.Calls as far;
 ghost use Rattle.laws_world.specs.Events.{Happens, Open, Break, Refuse, broken_by, refused_by, can_happen, is_asked_for, link_opens, lends_none};
 ghost use Rattle.laws_world.specs.World.{gone, marked_last, with_mark};
 ghost use Rattle.ftp_pair_events.specs.events.Calm.{Counted, tally_of};
-ghost use Rattle.ftp_pair_events.specs.events.Shown.{shown, Calmly, HasRoom, Steps, link_of, mark_of};
+ghost use Rattle.ftp_pair_events.specs.events.Shown.{shown, Calmly, HasRoom, Steps, link_shown, mark_of};
 
 use crate::events::counts::{both_stay, stays};
 use crate::events::parts::Parts;
@@ -200,7 +200,7 @@ impl<A: Allocator + Copy, T: Tree<A>, N: Near<A>, F: SureFar<A, T>> Parts<A, T, 
     }
 
     fn break_link(&mut self)
-        ensures moved { Calmly self.old self.new (shown N.client F.server self.new ≡ gone (broken_by (link_of self.old.link) (shown N.client F.server self.old))) }
+        ensures moved { Calmly self.old self.new (shown N.client F.server self.new ≡ gone (broken_by (link_shown self.old.link) (shown N.client F.server self.old))) }
         ensures report { HasRoom N.client self.old → HasRoom N.client self.new }
         ensures counted { Counted 6 N.client F.server self.old self.new }
     {
@@ -210,7 +210,7 @@ impl<A: Allocator + Copy, T: Tree<A>, N: Near<A>, F: SureFar<A, T>> Parts<A, T, 
 
     /// Each end that hasn't closed the link is told that it broke.
     fn tell_break(&mut self)
-        ensures moved { Calmly self.old self.new (shown N.client F.server self.new ≡ broken_by (link_of self.old.link) (shown N.client F.server self.old)) }
+        ensures moved { Calmly self.old self.new (shown N.client F.server self.new ≡ broken_by (link_shown self.old.link) (shown N.client F.server self.old)) }
         ensures report { HasRoom N.client self.old → HasRoom N.client self.new }
         ensures counted { Counted 6 N.client F.server self.old self.new }
     {

@@ -2,7 +2,7 @@
 ghost use Rattle.std.specs.Prelude.{◌≡◌, ◌+◌, ◌≤◌, vec_len, vec_capacity};
 ghost use Rattle.laws_world.specs.Events.{pulled, due, Gives, ControlToServer, ControlToClient, DataToServer, DataToClient};
 ghost use Rattle.ftp_pair_events.specs.events.Calm.{Counted};
-ghost use Rattle.ftp_pair_events.specs.events.Shown.{shown, Calmly, HasRoom, queue_of, len_of, room_of};
+ghost use Rattle.ftp_pair_events.specs.events.Shown.{shown, Calmly, HasRoom, queue_of, len_of, queue_room_of};
 
 use crate::events::counts::{both_stay, stays};
 use crate::events::parts::Parts;
@@ -102,14 +102,14 @@ impl<A: Allocator + Copy, T: Tree<A>, N: Near<A>, F: SureFar<A, T>> Parts<A, T, 
     /// One output call of the sender, for a queue with so much room.
     pub(crate) fn pull(&mut self, queue: Queue, most: usize) -> usize
         requires few { most ≤ 4096 }
-        requires room { len_of queue self.old + most ≤ room_of queue self.old }
+        requires room { len_of queue self.old + most ≤ queue_room_of queue self.old }
         ensures moved { Calmly self.old self.new (shown N.client F.server self.new ≡ pulled (queue_of queue) (shown N.client F.server self.old) result) }
         ensures gives { Calmly self.old self.new (Gives most (due (queue_of queue) (shown N.client F.server self.old)) result) }
         ensures within { result ≤ most }
         ensures taken { self.new.taken ≡ self.old.taken }
         ensures report { HasRoom N.client self.old → HasRoom N.client self.new }
         ensures len { len_of queue self.new ≡ len_of queue self.old + result }
-        ensures room { room_of queue self.old ≤ room_of queue self.new }
+        ensures room { queue_room_of queue self.old ≤ queue_room_of queue self.new }
         ensures counted { Counted 3 N.client F.server self.old self.new }
     {
         match queue {

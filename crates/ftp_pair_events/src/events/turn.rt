@@ -3,7 +3,7 @@ ghost use Rattle.std.specs.Prelude.{◌≡◌, ◌<◌, true, false, IfSome, IfN
 ghost use Rattle.laws_world.specs.Events.{can_happen, Deliver, End, Happens};
 ghost use Rattle.laws_world.specs.Still.{IsStill};
 ghost use Rattle.ftp_pair_events.specs.events.Calm.{Counted, most_in};
-ghost use Rattle.ftp_pair_events.specs.events.Happening.{turn_of, Progresses};
+ghost use Rattle.ftp_pair_events.specs.events.Happening.{event_of_turn, Progresses};
 ghost use Rattle.ftp_pair_events.specs.events.Shown.{shown, HasRoom, NoneEnds, NoneFlows, Steps, queue_of};
 
 use crate::events::parts::Parts;
@@ -45,7 +45,7 @@ impl<A: Allocator + Copy, T: Tree<A>, N: Near<A>, F: SureFar<A, T>> Parts<A, T, 
 
     /// What may happen next.
     fn next_turn(&self) -> Option<Turn>
-        ensures some { IfSome result (λ turn. IsTrue (can_happen (turn_of turn) (shown N.client F.server self.now))) }
+        ensures some { IfSome result (λ turn. IsTrue (can_happen (event_of_turn turn) (shown N.client F.server self.now))) }
         ensures none { IfNone result (IsStill (shown N.client F.server self.now)) }
     {
         if let Some(queue) = self.next_delivery() {
@@ -104,10 +104,10 @@ impl<A: Allocator + Copy, T: Tree<A>, N: Near<A>, F: SureFar<A, T>> Parts<A, T, 
     #[tactic(auto, using(crate::proofs::events::Filling::roomy, crate::proofs::events::Filling::lends_some))]
     fn take_turn(&mut self, turn: Turn)
         requires report { HasRoom N.client self.old }
-        requires possible { IsTrue (can_happen (turn_of turn) (shown N.client F.server self.old)) }
-        ensures does { Steps self.old.calm self.new.calm (λ read. Happens read (turn_of turn) (shown N.client F.server self.old) true (shown N.client F.server self.new)) }
+        requires possible { IsTrue (can_happen (event_of_turn turn) (shown N.client F.server self.old)) }
+        ensures does { Steps self.old.calm self.new.calm (λ read. Happens read (event_of_turn turn) (shown N.client F.server self.old) true (shown N.client F.server self.new)) }
         ensures report { HasRoom N.client self.new }
-        ensures counted { Counted (most_in (turn_of turn)) N.client F.server self.old self.new }
+        ensures counted { Counted (most_in (event_of_turn turn)) N.client F.server self.old self.new }
     {
         match turn {
             Turn::Deliver(queue) => self.deliver(queue, ROOM),

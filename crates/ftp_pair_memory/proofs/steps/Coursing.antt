@@ -8,7 +8,7 @@ use Rattle.ftp_ports.specs.Driving.{Leads}
 use Rattle.ftp_ports.specs.declared.cause.Cause.{Cause}
 use Rattle.ftp_driver.specs.declared.drive.Turned.{Turned}
 use Rattle.ftp_driver.specs.declared.drive.Turned.TheVariants as Turns
-use Rattle.ftp_client_driver.specs.Driving.{Finishes, MakesTurns as NearMakes}
+use Rattle.ftp_client_driver.specs.Driving.{ClientFinishes, ClientMakesTurns as NearMakes}
 use Rattle.ftp_client_driver.specs.Side.{client_side}
 use Rattle.ftp_client_driver.specs.declared.drive.Driven.{Driven}
 use Rattle.ftp_operation.specs.Answer.{said_of}
@@ -36,7 +36,7 @@ module _ {A : Type 0} where
 
   -- its last actions, of which a report is the answer
   near_over : (most : ℕ) (failed : Bool) (old new : Stand client_side) (turned : Turned (Driven A)) (answer : Answer A) → NearMakes most failed old new turned
-      → turned ≡ Turns.Over (record { report = Some answer; off = None }) → Finishes (Some (said_of answer)) old new
+      → turned ≡ Turns.Over (record { report = Some answer; off = None }) → ClientFinishes (Some (said_of answer)) old new
   near_over most failed old new turned answer makes is = subst (λ t. NearMakes most failed old new t) is makes
 
   pub near_turned : (most : ℕ) (failed : Bool) (old new : Stand client_side) (turned : Turned (Driven A)) (course : Course (Answer A)) (found : Bool)

@@ -7,7 +7,7 @@ use Rattle.ftp_ports.specs.Machine.{Held, held}
 use Rattle.ftp_ports.specs.Side.{Side}
 use Rattle.ftp_client_driver.specs.Side.{client_side}
 use Rattle.ftp_client_model.specs.Calls.{handed_back, is_busy, starts}
-use Rattle.ftp_client_model.specs.Counting.{CountsOn}
+use Rattle.ftp_client_model.specs.Counting.{MovesByOneAtMost}
 use Rattle.ftp_client_model.specs.Failing.{Client as NearEnd, HoldsIfRoom, starts_short}
 use Rattle.ftp_operation.specs.declared.answer.Answer.{Answer}
 use Rattle.ftp_operation.specs.declared.op.Op.{Op}
@@ -15,7 +15,7 @@ use Rattle.laws_drivers.specs.control.Between.{Between, Client, Far, Near, Serve
 use Rattle.ftp_server_driver.specs.alone.Side.{Timed, server_side}
 use Rattle.ftp_pair_memory.specs.streams.Order.{AllCame, CameAlone, Counted, CountedAlone, Hosts, Went, WentAlone}
 use Rattle.ftp_pair_memory.specs.streams.Plain.{quiet}
-use Rattle.ftp_pair_memory.specs.steps.Taking.{Asks, Begins, Ends, NearTurns, Rounds, Settles, Took, by_client, ends}
+use Rattle.ftp_pair_memory.specs.steps.Taking.{AsksAnswered, Begins, Ends, NearTurns, Rounds, SettlesAnswer, Took, by_client, both_ends}
 use Rattle.ftp_pair_memory.specs.declared.steps.turn_ending.Course.{Course}
 use Rattle.ftp_pair_memory.specs.declared.steps.turn_ending.Course.TheVariants as Courses
 
@@ -169,18 +169,18 @@ module _ {A : Type 0} where
 
   -- an operation was begun before
   asks : (op : Op (List ℕ)) (given : Option (Answer A)) (server : Held Timed) (old begun : Held NearEnd) (first : Between) (told : ℕ) (hosts : Hosts)
-      (new : Ends) → Begins op old begun → Settles given (ends server begun first told hosts) new → Asks op given (ends server old first told hosts) new
+      (new : Ends) → Begins op old begun → SettlesAnswer given (both_ends server begun first told hosts) new → AsksAnswered op given (both_ends server old first told hosts) new
   asks op (Some answer) server old begun first told hosts new begins settled = record { begun = begun; begins = begins; settled = settled }
   asks op None server old begun first told hosts new begins settled = tt
 
 module _ {A M : Type 0} (lies : M → Between) (told : M → ℕ) (hosts : M → Hosts) where
   -- where the client was memory_ends as before, all lies between both then that lay there before
   pub asks_from : (op : Op (List ℕ)) (given : Option (Answer A)) (server : Held Timed) (old begun : Held NearEnd) (at there : M) (new : Ends) → there ≡ at
-      → Begins op old begun → Settles given (ends server begun (lies there) (told there) (hosts there)) new
-      → Asks op given (ends server old (lies at) (told at) (hosts at)) new
+      → Begins op old begun → SettlesAnswer given (both_ends server begun (lies there) (told there) (hosts there)) new
+      → AsksAnswered op given (both_ends server old (lies at) (told at) (hosts at)) new
   asks_from op given server old begun at there new same began settled =
       asks op given server old begun (lies at) (told at) (hosts at) new began
-      (subst (λ m. Settles given (ends server begun (lies m) (told m) (hosts m)) new) same settled)
+      (subst (λ m. SettlesAnswer given (both_ends server begun (lies m) (told m) (hosts m)) new) same settled)
 
 -- ---- an operation is begun
 
@@ -191,7 +191,7 @@ not_busy true op left e none = absurd (true≢false (sym (ap is_some e) ∙ none
 
 pub begins : (op : Op (List ℕ)) (old begun : NearEnd) (channel : Channel) (left : Option (Op (List ℕ))) (found : Bool) → left ≡ handed_back (is_busy old.view) (Some op)
     → is_some left ≡ not found → found ≡ true → (is_busy old.view ≡ false → HoldsIfRoom old begun (starts op old.view) (starts_short op old.view))
-    → CountsOn old.refusals begun.refusals → Begins op (held old channel) (held begun channel)
+    → MovesByOneAtMost old.refusals begun.refusals → Begins op (held old channel) (held begun channel)
 begins op old begun channel left found is some none starts counts =
     let free = not_busy (is_busy old.view) op left is (some ∙ ap not none) in
     (((free, (starts free, counts)), refl, tt), refl)

@@ -19,7 +19,7 @@ use Rattle.ftp_pair_memory.specs.declared.streams.memory_end.MemoryEnd.{MemoryEn
 use Rattle.ftp_pair_memory.proofs.streams.Turning.{Turned, turned}
 use Rattle.ftp_server_driver.specs.alone.Side.{Timed, server_machine}
 use Rattle.ftp_pair_memory.specs.steps.Speaking.{Speaks}
-use Rattle.ftp_pair_memory.specs.steps.Taking.{Ends, FarTurns, NearTurns, ends, last_actions}
+use Rattle.ftp_pair_memory.specs.steps.Taking.{Ends, FarTurns, NearTurns, both_ends, last_actions}
 use Rattle.ftp_pair_memory.specs.steps.Turning.{FarTurned, NearTurned}
 use Rattle.ftp_pair_memory.specs.declared.steps.turn_ending.Course.{Course}
 use Rattle.ftp_pair_memory.specs.declared.steps.turn_ending.Course.TheVariants as Courses
@@ -43,12 +43,12 @@ either_way own peer = ap (λ n. n % 16384) (add_comm own.memory_ports.port_table
 -- both ends, where the client has its turn, and where the server has
 abbrev near_ends : Timed → NearEnd → (own peer : MemoryEnd) → (mine peers : List ℕ) → Ends
 near_ends server e own peer mine peers =
-    ends (held server (plain_in peer.stream)) (held e (plain_in own.stream)) (between_both Near own peer (ways_at Near mine peers)) (told_at own peer)
+    both_ends (held server (plain_in peer.stream)) (held e (plain_in own.stream)) (between_both Near own peer (ways_at Near mine peers)) (told_at own peer)
     (hosts_at own peer)
 
 abbrev far_ends : NearEnd → Timed → (own peer : MemoryEnd) → (mine peers : List ℕ) → Ends
 far_ends client e own peer mine peers =
-    ends (held e (plain_in own.stream)) (held client (plain_in peer.stream)) (between_both Near peer own (ways_at Far mine peers)) (told_at peer own)
+    both_ends (held e (plain_in own.stream)) (held client (plain_in peer.stream)) (between_both Near peer own (ways_at Far mine peers)) (told_at peer own)
     (hosts_at peer own)
 
 module _ (own peer own_1 peer_1 own_2 own_3 : MemoryEnd) (meets : Meets own peer own_1 peer_1) (is_known : IsKnown own_2 own_3) where

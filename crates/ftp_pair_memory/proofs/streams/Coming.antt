@@ -12,10 +12,10 @@ use Rattle.ftp_ports.specs.Courses.{asked_by, asked_in, move_in}
 use Rattle.ftp_ports.specs.Actions.{Action, Done, Ended, Heard, Led, Other, Read, Said, Stand}
 use Rattle.ftp_ports.specs.Channel.{IsHad, IsOpened, Channel}
 use Rattle.ftp_ports.specs.Machine as machine
-use Rattle.ftp_ports.specs.Machine.{Call, Called, Held, IsRefused, Machine, move_of, side_of}
+use Rattle.ftp_ports.specs.Machine.{Call, Called, Held, IsConnectionRefused, Machine, move_of, side_of}
 use Rattle.ftp_ports.specs.declared.whole.Rest.{Rest}
-use Rattle.laws_drivers.specs.control.Touches.{had_by, left_by, touch_in, touch_of}
-use Rattle.ftp_pair_memory.specs.streams.LinkState.{LinkState, Ran, Steps}
+use Rattle.laws_drivers.specs.control.Touches.{had_by, touch_of_leaving, touch_in, touch_of}
+use Rattle.ftp_pair_memory.specs.streams.LinkState.{LinkState, LinkRan, Steps}
 use Rattle.ftp_pair_memory.specs.streams.Order.{CameAlone, ComesFrom}
 use Rattle.ftp_pair_memory.specs.streams.Plain.{plain}
 use Rattle.ftp_pair_memory.proofs.streams.LinkStates.{ran_split}
@@ -44,18 +44,18 @@ step_host asking.Shut old new steps = kept_host old new old steps refl
 step_host asking.Lost old new steps = kept_host old new old steps refl
 
 -- whatever was asked
-ran_host : (asked : List Asked) (first now : LinkState) → Ran first asked now → now.host ≡ first.host
+ran_host : (asked : List Asked) (first now : LinkState) → LinkRan first asked now → now.host ≡ first.host
 ran_host [] first now ran = ap (λ (b : LinkState). b.host) ran
 ran_host (asked ∷ before) first now ran = step_host asked ran.0 now ran.2 ∙ ran_host before first ran.0 ran.1
 
 -- ---- who comes
 
 opened : (host : Host) (asked : List Asked) (left written : Option (List ℕ)) (rest : Rest) (old new : Channel) (first now : LinkState)
-    → IsOpened host asked left written rest old new → Ran first asked now → ComesFrom first.host (had_by asked)
+    → IsOpened host asked left written rest old new → LinkRan first asked now → ComesFrom first.host (had_by asked)
 opened host asked left written rest old new first now did ran = by did.is_had
   where
-    one : Ran first (did.had ∷ []) now
-    one = subst (λ a. Ran first a now) did.alone ran
+    one : LinkRan first (did.had ∷ []) now
+    one = subst (λ a. LinkRan first a now) did.alone ran
 
     steps : Steps did.had first now
     steps = subst (λ b. Steps did.had b now) one.1 one.2
@@ -65,18 +65,18 @@ opened host asked left written rest old new first now did ran = by did.is_had
         (subst (λ h. same_host host h ≡ true) (subst (λ a. Steps a first now) e steps).4 (same_as_itself host))
     by (inr at) = subst (ComesFrom first.host) (sym (ap had_by did.alone ∙ ap (λ a. had_by (a ∷ [])) at.1)) tt
 
-refused : (want : Wants) (asked : List Asked) (other : Host) → IsRefused want asked → ComesFrom other (had_by asked)
+refused : (want : Wants) (asked : List Asked) (other : Host) → IsConnectionRefused want asked → ComesFrom other (had_by asked)
 refused want (asking.NotCame ∷ []) other is = tt
 refused want (asking.NotConnected endpoint ∷ []) other is = tt
 refused want asked other is = absurd is
 
-leaving : (asked : Asked) (other : Host) → ComesFrom other (left_by asked)
+leaving : (asked : Asked) (other : Host) → ComesFrom other (touch_of_leaving asked)
 leaving (asking.Ended left written) other = tt
 leaving (asking.Reset left written) other = tt
 leaving asked other = tt
 
 comes_call : (end : Machine) (call : Call end.Own) (old new : Held end.Here) (first now : LinkState) → Called end call old new
-    → Ran first (asked_by (move_of call)) now → ComesFrom first.host (touch_of call)
+    → LinkRan first (asked_by (move_of call)) now → ComesFrom first.host (touch_of call)
 comes_call end (machine.Opened host asked at_first so_far rest) old new first now did ran =
     opened host asked at_first so_far rest old.channel new.channel first now did.1 ran
 comes_call end (machine.Refused asked) old new first now did ran = refused (end.wants old.end) asked first.host did.2.0
@@ -85,7 +85,7 @@ comes_call end call old new first now did ran = tt
 
 module _ {end : Machine} where
   comes_action : (action : Action (side_of end)) (old new : Stand (side_of end)) (first now : LinkState) → Done action old new
-      → Ran first (asked_by (move_in move_of action)) now → ComesFrom first.host (touch_in action)
+      → LinkRan first (asked_by (move_in move_of action)) now → ComesFrom first.host (touch_in action)
   comes_action (Heard octets) old new first now done ran = tt
   comes_action (Said octets) old new first now done ran = tt
   comes_action (Read octets) old new first now done ran = tt
@@ -94,7 +94,7 @@ module _ {end : Machine} where
 
   -- so it is of all that an end did
   pub came : (actions : List (Action (side_of end))) (old new : Stand (side_of end)) → Led actions old new → (first now : LinkState)
-      → Ran first (asked_in move_of actions) now → CameAlone first.host (map plain actions) × (now.host ≡ first.host)
+      → LinkRan first (asked_in move_of actions) now → CameAlone first.host (map plain actions) × (now.host ≡ first.host)
   came [] old new led first now ran = (tt, ran_host [] first now ran)
   came (action ∷ before) old new led first now ran =
       let move = move_in move_of action in

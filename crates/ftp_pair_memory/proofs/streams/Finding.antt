@@ -9,18 +9,18 @@ use Rattle.ftp_ports.specs.Asking as asking
 use Rattle.ftp_ports.specs.Asking.{Asked, told_lost}
 use Rattle.ftp_ports.specs.Courses.{asked_by}
 use Rattle.ftp_ports.specs.Channel as channels
-use Rattle.ftp_ports.specs.Channel.{IsEnded, IsHad, IsLeft, IsOpened, IsRead, IsWritten, Channel, with_asked, with_fate, with_given, with_untold}
+use Rattle.ftp_ports.specs.Channel.{IsEnded, IsHad, IsLeft, IsOpened, IsRead, AreOctetsWritten, Channel, with_asked, with_fate, with_given, with_untold}
 use Rattle.ftp_ports.specs.Machine as machine
-use Rattle.ftp_ports.specs.Machine.{Call, Called, Held, IsBroken, IsFairEnd, IsRefused, Machine, move_of}
+use Rattle.ftp_ports.specs.Machine.{Call, Called, Held, IsBroken, IsFairEnd, IsConnectionRefused, Machine, move_of}
 use Rattle.ftp_ports.specs.Whole.{is_well}
 use Rattle.ftp_ports.specs.declared.whole.Fate.{Fate}
 use Rattle.ftp_ports.specs.declared.whole.Fate.TheVariants as Fates
 use Rattle.ftp_ports.specs.declared.whole.Rest.{Rest}
 use Rattle.laws_drivers.specs.control.Between.{Awaits, Between, Can, Has, Hold, IsOver, IsStanding, Ways, Who}
 use Rattle.laws_drivers.specs.control.Touches as touches
-use Rattle.laws_drivers.specs.control.Touches.{Touch, had_by, left_by, touch_of}
+use Rattle.laws_drivers.specs.control.Touches.{Touch, had_by, touch_of_leaving, touch_of}
 use Rattle.laws_world.specs.World.{port_at}
-use Rattle.ftp_pair_memory.specs.streams.LinkState.{LinkState, IsAt, IsSeen, Ran, Steps, between_by, called_by, dialling, handed, hold_by, listening, mark}
+use Rattle.ftp_pair_memory.specs.streams.LinkState.{LinkState, IsAtLinkState, IsSeen, LinkRan, Steps, between_by, called_by, dialling, handed, hold_by, listening, mark}
 use Rattle.ftp_pair_memory.specs.streams.Order.{CanGo}
 use Rattle.ftp_pair_memory.proofs.streams.LinkStates.{Heeds, IsKnown, alike, all_read, appended, consumed, kept, same_some, seen_as}
 use Rattle.ftp_pair_memory.proofs.streams.Lying.{accepts_at, breaks_at, dials_at, ends_at, listens_at, over_at, resets_at, takes_at, told_at, writes_at}
@@ -51,29 +51,29 @@ module _ (who : Who) (peer : LinkState) where
   -- the link state before an action that touches so, by the channel before it and what ports knew then
   pub record Found (touch : Touch) (old : Channel) (known now : LinkState) : Type 0 where
     pub mid : LinkState
-    pub is_at : IsAt old known mid
+    pub is_at : IsAtLinkState old known mid
     pub can : (control : Ways) → CanGo who touch (between_by who mid peer control) (between_by who now peer control)
 
   -- it is the same, where nothing was touched
-  pub idle : (touch : Touch) (old : Channel) (known now : LinkState) → ((between : Between) → Can who touch between between) → IsAt old known now
+  pub idle : (touch : Touch) (old : Channel) (known now : LinkState) → ((between : Between) → Can who touch between between) → IsAtLinkState old known now
       → Found touch old known now
   idle touch old known now rests is = record { mid = now; is_at = is; can = λ control. inl (rests (between_by who now peer control)) }
 
   -- where what is seen is as it was
   drop_to : (old other new : Channel) (known last now : LinkState) → new ≡ other → last ≡ known → other.stands ≡ old.stands → hold_by other.fate ≡ hold_by old.fate
-      → other.left ≡ old.left → other.written ≡ old.written → IsAt new last now → IsAt old known now
+      → other.left ≡ old.left → other.written ≡ old.written → IsAtLinkState new last now → IsAtLinkState old known now
   drop_to old other new known last now same ran stands fates left written is =
-      alike old other known now stands fates (λ e. (left, written)) (subst (λ l. IsAt l known now) same (subst (λ k. IsAt new k now) ran is))
+      alike old other known now stands fates (λ e. (left, written)) (subst (λ l. IsAtLinkState l known now) same (subst (λ k. IsAtLinkState new k now) ran is))
 
   -- this was asked, and it moved nothing
-  last_of : (asked : Asked) (known last : LinkState) → ((mid : LinkState) → Steps asked mid last → last ≡ mid) → Ran known (asked ∷ []) last → last ≡ known
+  last_of : (asked : Asked) (known last : LinkState) → ((mid : LinkState) → Steps asked mid last → last ≡ mid) → LinkRan known (asked ∷ []) last → last ≡ known
   last_of asked known last moves ran = moves ran.0 ran.2 ∙ ran.1
 
   -- ---- a port
 
   listened : (old new : Channel) (known last now : LinkState) (port : ℕ) → new ≡ with_asked new.asked old
-      → Ran known (asking.Listened (Some port) ∷ []) last → IsAt new last now → Found (touches.Listens (Some port)) old known now
-  listened old new known last now port same ran is = by old.stands refl (subst (λ l. IsAt l last now) same is)
+      → LinkRan known (asking.Listened (Some port) ∷ []) last → IsAtLinkState new last now → Found (touches.Listens (Some port)) old known now
+  listened old new known last now port same ran is = by old.stands refl (subst (λ l. IsAtLinkState l last now) same is)
     where
       over : IsOver known.hold
       over = subst (λ (b : LinkState). IsOver b.hold) ran.1 ran.2.0
@@ -98,7 +98,7 @@ module _ (who : Who) (peer : LinkState) where
   -- ---- it is had
 
   came : (old new : Channel) (known last now : LinkState) (host : Host) (left written : Option (List ℕ)) → old.stands ≡ false → new.stands ≡ true
-      → new.fate ≡ Fates.Sound → new.left ≡ left → new.written ≡ written → Steps (asking.Came host left written) known last → IsAt new last now
+      → new.fate ≡ Fates.Sound → new.left ≡ left → new.written ≡ written → Steps (asking.Came host left written) known last → IsAtLinkState new last now
       → Found (touches.Accepts host) old known now
   came old new known last now host left written none stands sound new_left new_written steps is =
       let seen : IsSeen true new (handed known) now = subst (λ b. IsSeen true new b now) steps.3 (subst (λ s. IsSeen s new last now) stands is) in
@@ -116,7 +116,7 @@ module _ (who : Who) (peer : LinkState) where
 
   connected : (old new : Channel) (known last now : LinkState) (endpoint : Endpoint) (left written : Option (List ℕ)) → Heeds known peer → old.stands ≡ false
       → new.stands ≡ true → new.fate ≡ Fates.Sound → new.left ≡ left → new.written ≡ written → Steps (asking.Connected endpoint left written) known last
-      → IsAt new last now
+      → IsAtLinkState new last now
       → Found (touches.Dials endpoint) old known now
   connected old new known last now endpoint left written heeds none stands sound new_left new_written steps is =
       let seen : IsSeen true new (dialling known) now = subst (λ b. IsSeen true new b now) steps.4 (subst (λ s. IsSeen s new last now) stands is) in
@@ -132,11 +132,11 @@ module _ (who : Who) (peer : LinkState) where
       }
 
   opened : (host : Host) (asked : List Asked) (left written : Option (List ℕ)) (rest : Rest) (old new : Channel) (known last now : LinkState) → Heeds known peer
-      → IsOpened host asked left written rest old new → Ran known asked last → IsAt new last now → Found (had_by asked) old known now
+      → IsOpened host asked left written rest old new → LinkRan known asked last → IsAtLinkState new last now → Found (had_by asked) old known now
   opened host asked left written rest old new known last now heeds did ran is = by did.is_had
     where
-      one : Ran known (did.had ∷ []) last
-      one = subst (λ a. Ran known a last) did.alone ran
+      one : LinkRan known (did.had ∷ []) last
+      one = subst (λ a. LinkRan known a last) did.alone ran
 
       steps : Steps did.had known last
       steps = subst (λ b. Steps did.had b last) one.1 one.2
@@ -149,7 +149,7 @@ module _ (who : Who) (peer : LinkState) where
           (subst (λ a. Steps a known last) at.1 steps) is)
 
   -- none was had
-  refused : (want : Wants) (asked : List Asked) (known last : LinkState) → IsRefused want asked → Ran known asked last
+  refused : (want : Wants) (asked : List Asked) (known last : LinkState) → IsConnectionRefused want asked → LinkRan known asked last
       → (last ≡ known) × ((between : Between) → Can who (had_by asked) between between)
   refused want (asking.NotCame ∷ []) known last is ran = (last_of asking.NotCame known last (λ mid same. same) ran, λ between. refl)
   refused want (asking.NotConnected endpoint ∷ []) known last is ran =
@@ -159,9 +159,9 @@ module _ (who : Who) (peer : LinkState) where
   -- ---- octets
 
   got : (octets : List ℕ) (old new : Channel) (known last now : LinkState) → IsKnown old → IsRead octets old new → last ≡ known
-      → IsAt new last now → Found (touches.Takes octets) old known now
+      → IsAtLinkState new last now → Found (touches.Takes octets) old known now
   got octets old new known last now is_known did ran is =
-      let seen : IsSeen true new known now = subst (λ s. IsSeen s new known now) (did.stands ∙ did.is_open.0) (subst (λ k. IsAt new k now) ran is) in
+      let seen : IsSeen true new known now = subst (λ s. IsSeen s new known now) (did.stands ∙ did.is_open.0) (subst (λ k. IsAtLinkState new k now) ran is) in
       let was = is_known did.is_open.0 in
       let left = consumed old.left new.left octets was.0 (now.came ++ mark known.ended) was.2 seen.1 did.read in
       let written = kept old.written new.written was.1 was.3 did.written in
@@ -180,10 +180,10 @@ module _ (who : Who) (peer : LinkState) where
             (takes_at who here (called_by known.dialled peer) control octets refl));
       }
 
-  wrote : (octets : List ℕ) (old new : Channel) (known last now : LinkState) → IsKnown old → IsWritten octets old new
-      → last ≡ known → IsAt new last now → Found (touches.Writes octets) old known now
+  wrote : (octets : List ℕ) (old new : Channel) (known last now : LinkState) → IsKnown old → AreOctetsWritten octets old new
+      → last ≡ known → IsAtLinkState new last now → Found (touches.Writes octets) old known now
   wrote octets old new known last now is_known did ran is =
-      let seen : IsSeen true new known now = subst (λ s. IsSeen s new known now) (did.stands ∙ did.is_open.0) (subst (λ k. IsAt new k now) ran is) in
+      let seen : IsSeen true new known now = subst (λ s. IsSeen s new known now) (did.stands ∙ did.is_open.0) (subst (λ k. IsAtLinkState new k now) ran is) in
       let was = is_known did.is_open.0 in
       let left = kept old.left new.left was.0 was.2 did.left in
       let went = appended old.written new.written octets was.1 now.went was.3 seen.2 did.wrote in
@@ -204,7 +204,7 @@ module _ (who : Who) (peer : LinkState) where
 
   -- ---- its end and its break are told
 
-  ended : (old new : Channel) (known last now : LinkState) → Heeds known peer → channels.Moves channels.Ends old new → last ≡ known → IsAt new last now
+  ended : (old new : Channel) (known last now : LinkState) → Heeds known peer → channels.MovesChannel channels.Ends old new → last ≡ known → IsAtLinkState new last now
       → Found touches.ToldEnd old known now
   ended old new known last now heeds did ran is =
       let at = drop_to old (with_fate Fates.Over old) new known last now did.0 ran refl (ap hold_by (sym did.1.1)) refl refl is in
@@ -220,9 +220,9 @@ module _ (who : Who) (peer : LinkState) where
       }
 
   broke : (want : Wants) (old new : Channel) (known last now : LinkState) → new ≡ with_fate Fates.Broken old → IsBroken want old.stands old.fate
-      → last ≡ known → IsAt new last now → Found touches.ToldBreak old known now
+      → last ≡ known → IsAtLinkState new last now → Found touches.ToldBreak old known now
   broke want old new known last now same due ran is =
-      by old.stands old.fate refl refl due (subst (λ l. IsAt l known now) same (subst (λ k. IsAt new k now) ran is))
+      by old.stands old.fate refl refl due (subst (λ l. IsAtLinkState l known now) same (subst (λ k. IsAtLinkState new k now) ran is))
     where
       by : (stands : Bool) (fate : Fate) → old.stands ≡ stands → old.fate ≡ fate → IsBroken want stands fate
           → IsSeen stands (with_fate Fates.Broken old) known now → Found touches.ToldBreak old known now
@@ -245,19 +245,19 @@ module _ (who : Who) (peer : LinkState) where
 
   -- ---- it is left
 
-  left : (asked : Asked) (old new : Channel) (known last now : LinkState) → IsLeft asked old new → IsFairEnd old asked → Steps asked known last → IsAt new last now
-      → Found (left_by asked) old known now
+  left : (asked : Asked) (old new : Channel) (known last now : LinkState) → IsLeft asked old new → IsFairEnd old asked → Steps asked known last → IsAtLinkState new last now
+      → Found (touch_of_leaving asked) old known now
   left asked old new known last now did fair steps is = by old.stands refl did.ended
     where
       seen : IsSeen false new last now
       seen = subst (λ s. IsSeen s new last now) did.stands is
 
-      by : (stands : Bool) → old.stands ≡ stands → IsEnded stands old.left old.written old.unwritten asked → Found (left_by asked) old known now
+      by : (stands : Bool) → old.stands ≡ stands → IsEnded stands old.left old.written old.unwritten asked → Found (touch_of_leaving asked) old known now
       by true stands (inl (none, e)) =
           let steps : Steps (asking.Ended old.left old.written) known last = subst (λ a. Steps a known last) e steps in
           let fair : IsFairEnd old (asking.Ended old.left old.written) = subst (IsFairEnd old) e fair in
           let mid = seen_as known old.fate steps.0 steps.1 in
-          subst (λ a. Found (left_by a) old known now) (sym e) (record {
+          subst (λ a. Found (touch_of_leaving a) old known now) (sym e) (record {
             mid = mid;
             is_at = subst (λ s. IsSeen s old known mid) (sym stands) (steps.2, steps.3, steps.4, refl);
             can = λ control. inl (subst (λ n. Can who touches.Ends (between_by who mid peer control) (between_by who n peer control)) (sym (seen.1 ∙ steps.5))
@@ -266,7 +266,7 @@ module _ (who : Who) (peer : LinkState) where
       by true stands (inr e) =
           let steps : Steps (asking.Reset old.left old.written) known last = subst (λ a. Steps a known last) e steps in
           let mid = seen_as known old.fate steps.0 steps.1 in
-          subst (λ a. Found (left_by a) old known now) (sym e) (record {
+          subst (λ a. Found (touch_of_leaving a) old known now) (sym e) (record {
             mid = mid;
             is_at = subst (λ s. IsSeen s old known mid) (sym stands) (steps.2, steps.3, steps.4, refl);
             can = λ control. inl (subst (λ n. Can who touches.Resets (between_by who mid peer control) (between_by who n peer control)) (sym (seen.1 ∙ steps.5))
@@ -274,18 +274,18 @@ module _ (who : Who) (peer : LinkState) where
           })
       by false stands e =
           let same : last ≡ known = subst (λ a. Steps a known last) e steps in
-          subst (λ a. Found (left_by a) old known now) (sym e) (idle touches.None_of_it old known now (λ between. refl)
+          subst (λ a. Found (touch_of_leaving a) old known now) (sym e) (idle touches.None_of_it old known now (λ between. refl)
           (subst (λ s. IsSeen s old known now) (sym stands) (subst (λ b. IsSeen false old b now) same seen)))
 
   -- ---- any call
 
-  told_none : (lost : Bool) (known last : LinkState) → Ran known (told_lost lost) last → last ≡ known
+  told_none : (lost : Bool) (known last : LinkState) → LinkRan known (told_lost lost) last → last ≡ known
   told_none true known last ran = last_of asking.Lost known last (λ mid same. same) ran
   told_none false known last ran = ran
 
   pub found : (end : Machine) (call : Call end.Own) (old new : Held end.Here) (known last now : LinkState) → Called end call old new
-      → Ran known (asked_by (move_of call)) last → IsKnown old.channel → Heeds known peer
-      → IsAt new.channel last now → Found (touch_of call) old.channel known now
+      → LinkRan known (asked_by (move_of call)) last → IsKnown old.channel → Heeds known peer
+      → IsAtLinkState new.channel last now → Found (touch_of call) old.channel known now
   found end (machine.Aside own) old new known last now did ran is_known heeds is =
       idle touches.None_of_it old.channel known now (λ between. refl) (drop_to old.channel old.channel new.channel known last now did.1 ran refl refl refl refl is)
   found end (machine.Listening port) old new known last now did ran is_known heeds is = listened old.channel new.channel known last now port did.1.1 ran is
@@ -313,7 +313,7 @@ module _ (who : Who) (peer : LinkState) where
       idle touches.None_of_it old.channel known now (λ between. refl) (alike old.channel new.channel known now waited.holds.stands (ap hold_by waited.holds.fate)
       (λ e. let was = is_known e in
       (kept old.channel.left new.channel.left was.0 was.2 waited.left, kept old.channel.written new.channel.written was.1 was.3 waited.written))
-      (subst (λ k. IsAt new.channel k now) (told_none lost known last ran) is))
+      (subst (λ k. IsAtLinkState new.channel k now) (told_none lost known last ran) is))
   found end (machine.Got octets) old new known last now did ran is_known heeds is =
       got octets old.channel new.channel known last now is_known did.1 ran is
   found end (machine.Wrote octets) old new known last now did ran is_known heeds is =

@@ -7,13 +7,13 @@ use Rattle.ftp_ports.specs.Asking.{Adds, Asked}
 use Rattle.ftp_ports.specs.Courses.{asked_by, asked_in, move_in}
 use Rattle.ftp_ports.specs.Actions.{Action, Done, Ended, Heard, Led, Other, Read, Said, Stand, read_by, read_in, said_by, said_in}
 use Rattle.ftp_ports.specs.Channel as channels
-use Rattle.ftp_ports.specs.Channel.{Channel, Move, Moves, with_rest}
+use Rattle.ftp_ports.specs.Channel.{Channel, Move, MovesChannel, with_rest}
 use Rattle.ftp_ports.specs.Machine.{Held, Machine, move_of, side_of}
 use Rattle.laws_drivers.specs.control.Between.{Between, Can, Ways, Who}
 use Rattle.laws_drivers.specs.control.Touches as touches
 use Rattle.laws_drivers.specs.control.Touches.{Touch, touch_in, touch_of}
-use Rattle.ftp_pair_memory.specs.streams.LinkState.{LinkState, IsAt, Ran, between_by, called_by}
-use Rattle.ftp_pair_memory.specs.streams.Claims.{Happens, ways_at}
+use Rattle.ftp_pair_memory.specs.streams.LinkState.{LinkState, IsAtLinkState, LinkRan, between_by, called_by}
+use Rattle.ftp_pair_memory.specs.streams.Claims.{HappensAtPorts, ways_at}
 use Rattle.ftp_pair_memory.specs.streams.Order.{CameAlone, CanGo, CountedAlone, WentAlone}
 use Rattle.ftp_pair_memory.specs.streams.Plain.{plain, quiet}
 use Rattle.ftp_pair_memory.proofs.streams.LinkStates.{Heeds, IsKnown, alike, counts_same, heeds, host_same, heeds_on, known_at, known_on, ran_split, same_link_state}
@@ -29,7 +29,7 @@ none_asked : (old new : Option (List Asked)) → new ≡ old → Adds old new []
 none_asked None new same = subst (λ n. Adds None n []) (sym same) tt
 none_asked (Some before) new same = subst (λ n. Adds (Some before) n []) (sym same) refl
 
-move_asked : (move : Move) (old new : Channel) → Moves move old new → Adds old.asked new.asked (asked_by move)
+move_asked : (move : Move) (old new : Channel) → MovesChannel move old new → Adds old.asked new.asked (asked_by move)
 move_asked channels.Stays old new same = none_asked old.asked new.asked (ap (λ l. l.asked) same)
 move_asked (channels.Waits lost) old new waited = waited.asked
 move_asked (channels.Reads octets) old new read = none_asked old.asked new.asked read.asked
@@ -52,7 +52,7 @@ told_after old new header asked more before after adds =
     append_cancel_right asked more header (subst (λ n. Adds (Some header) n more) after (subst (λ o. Adds o new more) before adds))
 
 -- it is seen whether there is more to give
-notes : (old new : Channel) → new ≡ with_rest new.rest old → Moves channels.Notes old new
+notes : (old new : Channel) → new ≡ with_rest new.rest old → MovesChannel channels.Notes old new
 notes old new same = same
 
 -- no control octets move
@@ -64,13 +64,13 @@ beside who peer touch mid now can up down =
     (can (ways_at who down up))
 
 -- the data connection stays as it was, but for what is seen of what is to be given
-seen_before : (old new : Channel) (known last now : LinkState) → new ≡ with_rest new.rest old → last ≡ known → IsAt new last now → IsAt old known now
+seen_before : (old new : Channel) (known last now : LinkState) → new ≡ with_rest new.rest old → last ≡ known → IsAtLinkState new last now → IsAtLinkState old known now
 seen_before old new known last now same ran is = alike old (with_rest new.rest old) known now refl refl (λ e. (refl, refl))
-    (subst (λ l. IsAt l known now) same (subst (λ k. IsAt new k now) ran is))
+    (subst (λ l. IsAtLinkState l known now) same (subst (λ k. IsAtLinkState new k now) ran is))
 
 module _ {end : Machine} where
   -- how an action moves the data connection
-  moves : (action : Action (side_of end)) (old new : Stand (side_of end)) → Done action old new → Moves (move_in move_of action) old.owner.channel new.owner.channel
+  moves : (action : Action (side_of end)) (old new : Stand (side_of end)) → Done action old new → MovesChannel (move_in move_of action) old.owner.channel new.owner.channel
   moves (Heard octets) old new done = done.hears.1 ∙ ap (λ (l : Channel). with_rest l.rest old.owner.channel) (sym done.hears.1)
   moves (Said octets) old new done = done.gives.channel
   moves (Read octets) old new done = ap (λ (h : Held end.Here). h.channel) done.owner
@@ -86,7 +86,7 @@ module _ {end : Machine} where
 
   -- what is left and what was written is known after actions
   known_after : (actions : List (Action (side_of end))) (old new : Stand (side_of end)) (led : Led actions old new) (first last : LinkState)
-      → Ran first (asked_in move_of actions) last → IsKnown old.owner.channel → IsKnown new.owner.channel
+      → LinkRan first (asked_in move_of actions) last → IsKnown old.owner.channel → IsKnown new.owner.channel
   known_after [] old new led first last ran known = subst (λ (s : Stand (side_of end)). IsKnown s.owner.channel) (sym led) known
   known_after (action ∷ before) old new led first last ran known =
       let move = move_in move_of action in
@@ -98,14 +98,14 @@ module _ {end : Machine} where
     -- the link state before an action, and that it can happen from there, where `up` was written to the peer and `down` is to be read after it
     record Stepped (action : Action (side_of end)) (old : Channel) (known now : LinkState) : Type 0 where
       mid : LinkState
-      is_at : IsAt old known mid
+      is_at : IsAtLinkState old known mid
       can : (up down : List ℕ)
           → CanGo who (touch_in action) (between_by who mid peer (ways_at who (read_by action ++ down) up))
           (between_by who now peer (ways_at who down (up ++ said_by action)))
 
     step : (action : Action (side_of end)) (old new : Stand (side_of end)) (known last now : LinkState) → Done action old new
-        → Ran known (asked_by (move_in move_of action)) last → IsKnown old.owner.channel → Heeds known peer
-        → IsAt new.owner.channel last now
+        → LinkRan known (asked_by (move_in move_of action)) last → IsKnown old.owner.channel → Heeds known peer
+        → IsAtLinkState new.owner.channel last now
         → Stepped action old.owner.channel known now
     step (Heard octets) old new known last now done ran is_known heeds is = record {
       mid = now;
@@ -114,12 +114,12 @@ module _ {end : Machine} where
     }
     step (Said octets) old new known last now done ran is_known heeds is = record {
       mid = now;
-      is_at = subst (λ l. IsAt l known now) done.gives.channel (subst (λ k. IsAt new.owner.channel k now) ran is);
+      is_at = subst (λ l. IsAtLinkState l known now) done.gives.channel (subst (λ k. IsAtLinkState new.owner.channel k now) ran is);
       can = λ up down. inl (says_at who now (called_by now.dialled peer) down up octets);
     }
     step (Read octets) old new known last now done ran is_known heeds is = record {
       mid = now;
-      is_at = subst (λ (h : Held end.Here). IsAt h.channel known now) done.owner (subst (λ k. IsAt new.owner.channel k now) ran is);
+      is_at = subst (λ (h : Held end.Here). IsAtLinkState h.channel known now) done.owner (subst (λ k. IsAtLinkState new.owner.channel k now) ran is);
       can = λ up down. let first = between_by who now peer (ways_at who (octets ++ down) up) in
           inl (subst (λ l. Can who (touches.Reads octets) first (between_by who now peer (ways_at who down l))) (sym (append-nil up))
           (reads_at who now (called_by now.dialled peer) down up octets));
@@ -134,14 +134,14 @@ module _ {end : Machine} where
         record { mid = one.mid; is_at = one.is_at; can = beside who peer (touch_of call) one.mid now one.can }
 
     went : (actions : List (Action (side_of end))) (old new : Stand (side_of end)) (led : Led actions old new) (first last own now : LinkState)
-        → Ran first (asked_in move_of actions) last → IsKnown old.owner.channel → Heeds first peer
-        → IsAt old.owner.channel first own → IsAt new.owner.channel last now
+        → LinkRan first (asked_in move_of actions) last → IsKnown old.owner.channel → Heeds first peer
+        → IsAtLinkState old.owner.channel first own → IsAtLinkState new.owner.channel last now
         → (up down : List ℕ)
         → WentAlone who (map plain actions) (between_by who own peer (ways_at who (read_in actions ++ down) up))
         (between_by who now peer (ways_at who down (up ++ said_in actions)))
     went [] old new led first last own now ran is_known heeded is_at is up down =
-        let same = same_link_state old.owner.channel first now own (subst (λ (s : Stand (side_of end)). IsAt s.owner.channel first now) led
-        (subst (λ k. IsAt new.owner.channel k now) ran is)) is_at in
+        let same = same_link_state old.owner.channel first now own (subst (λ (s : Stand (side_of end)). IsAtLinkState s.owner.channel first now) led
+        (subst (λ k. IsAtLinkState new.owner.channel k now) ran is)) is_at in
         ap (λ b. between_by who b peer (ways_at who down (up ++ []))) same ∙ ap (λ l. between_by who own peer (ways_at who down l)) (append-nil up)
     went (action ∷ before) old new led first last own now ran is_known heeded is_at is up down =
         let mid = led.0 in
@@ -164,10 +164,10 @@ module _ {end : Machine} where
         )
 
 -- what either end did can happen in that order
-pub happens : (who : Who) (end : Machine) → Happens who end
+pub happens : (who : Who) (end : Machine) → HappensAtPorts who end
 happens who end actions old new first last own now peer header asked up down led at at_last before after ran knows =
     let all = told_after old.channel.asked new.channel.asked header asked (asked_in move_of actions) before after (actions_asked actions (quiet old) (quiet new) led) in
-    let ran_all = subst (λ l. Ran first l last) all ran in
+    let ran_all = subst (λ l. LinkRan first l last) all ran in
     record {
       led = led_plain actions old new led;
       went = went who peer actions (quiet old) (quiet new) led first last own now ran_all (known_at old.channel first own at)

@@ -11,7 +11,7 @@ use Rattle.laws_drivers.specs.control.Between.{Has, Has_not, Hold}
 use Rattle.ftp_pair_memory.specs.streams.PortTableMoves.{hold_at, is_back, is_ended, is_out, left_in, went_in}
 use Rattle.ftp_pair_memory.specs.streams.Plain.{plain_channel}
 use Rattle.ftp_pair_memory.proofs.streams.Noting.{back_has, back_marked}
-use Rattle.ftp_pair_memory.specs.streams.MemoryEnds.{AnswersDial, IsFresh, IsKnown, Lifts, Lowers, Meets, Prepares, link_state_of, came_at, came_in, listens_of, mark_in, octets_of, of_two, plain_in, told_in, went_at}
+use Rattle.ftp_pair_memory.specs.streams.MemoryEnds.{AnswersDial, IsFresh, IsKnown, Lifts, LowersWire, Meets, Prepares, link_state_of, came_at, came_of_wire, listens_of, mark_of_wire, octets_of, of_two, plain_in, told_in, went_at}
 use Rattle.ftp_pair_memory.specs.declared.streams.port_table.Stay.{Stay}
 use Rattle.ftp_pair_memory.specs.declared.streams.port_table.Stay.TheVariants as Stays
 use Rattle.ftp_pair_memory.specs.declared.streams.memory_end.MemoryEnd.{MemoryEnd}
@@ -60,7 +60,7 @@ lifts_out before after old new exchanged is_had same =
     let stands = stood before after old.stream new.stream exchanged in
     record {
       agrees = stands ∙ sym is_had;
-      came = sym (here (plain_in old.stream).stands (told_in came_in old.stream) old.memory_ports.port_table.wire.came.items stands ∙ told_before before after old.stream new.stream exchanged came_in);
+      came = sym (here (plain_in old.stream).stands (told_in came_of_wire old.stream) old.memory_ports.port_table.wire.came.items stands ∙ told_before before after old.stream new.stream exchanged came_of_wire);
       went = sym (here (plain_in old.stream).stands (told_in went_in old.stream) old.memory_ports.port_table.wire.went.items stands ∙ told_before before after old.stream new.stream exchanged went_in);
       still = record {
         channel = plain_stays before after old.stream new.stream exchanged;
@@ -72,13 +72,13 @@ lifts_out before after old new exchanged is_had same =
       };
     }
 
-pub lowers_out : (before after : Wire) (old new : MemoryEnd) → IsExchanged before after old.stream new.stream → new.memory_ports.port_table ≡ old.memory_ports.port_table → Lowers after old new
+pub lowers_out : (before after : Wire) (old new : MemoryEnd) → IsExchanged before after old.stream new.stream → new.memory_ports.port_table ≡ old.memory_ports.port_table → LowersWire after old new
 lowers_out before after old new exchanged same =
     let stands = stands_still before after old.stream new.stream exchanged in
     record {
-      came = here (plain_in new.stream).stands (told_in came_in new.stream) new.memory_ports.port_table.wire.came.items stands ∙ told_after before after old.stream new.stream exchanged came_in;
+      came = here (plain_in new.stream).stands (told_in came_of_wire new.stream) new.memory_ports.port_table.wire.came.items stands ∙ told_after before after old.stream new.stream exchanged came_of_wire;
       went = here (plain_in new.stream).stands (told_in went_in new.stream) new.memory_ports.port_table.wire.went.items stands ∙ told_after before after old.stream new.stream exchanged went_in;
-      mark = λ is. told_after before after old.stream new.stream exchanged mark_in;
+      mark = λ is. told_after before after old.stream new.stream exchanged mark_of_wire;
       still = record {
         channel = plain_stays before after old.stream new.stream exchanged;
         stay = ap (λ d. d.stay) same;
@@ -101,19 +101,19 @@ lifts_there wire old new none channel is_not is stay calls dialled listens host 
     let stands = stood_not old.stream none in
     record {
       agrees = stands ∙ sym is_not;
-      came = ap (λ (w : Wire). w.came.items) is ∙ sym (there (plain_in old.stream).stands (told_in came_in old.stream) old.memory_ports.port_table.wire.came.items stands);
+      came = ap (λ (w : Wire). w.came.items) is ∙ sym (there (plain_in old.stream).stands (told_in came_of_wire old.stream) old.memory_ports.port_table.wire.came.items stands);
       went = ap (λ (w : Wire). w.went.items) is ∙ sym (there (plain_in old.stream).stands (told_in went_in old.stream) old.memory_ports.port_table.wire.went.items stands);
       still = record { channel = channel (λ w. None) (λ w. None) None; stay = stay; calls = calls; dialled = dialled; listens = listens; host = host };
     }
 
 pub lowers_there : (wire : Wire) (old new : MemoryEnd) → old.stream.connection.stream ≡ None → IsSameChannel old.stream new.stream
     → new.memory_ports.port_table.wire ≡ wire → new.memory_ports.port_table.stay ≡ old.memory_ports.port_table.stay → new.memory_ports.port_table.calls ≡ old.memory_ports.port_table.calls → new.memory_ports.port_table.dialled ≡ old.memory_ports.port_table.dialled
-    → new.memory_ports.port_table.listens ≡ old.memory_ports.port_table.listens → new.memory_ports.port_table.host ≡ old.memory_ports.port_table.host → Lowers wire old new
+    → new.memory_ports.port_table.listens ≡ old.memory_ports.port_table.listens → new.memory_ports.port_table.host ≡ old.memory_ports.port_table.host → LowersWire wire old new
 lowers_there wire old new none channel is stay calls dialled listens host =
     let same = channel (λ w. None) (λ w. None) None in
     let stands : (plain_in new.stream).stands ≡ false = ap (λ (l : Channel). l.stands) same ∙ stood_not old.stream none in
     record {
-      came = there (plain_in new.stream).stands (told_in came_in new.stream) new.memory_ports.port_table.wire.came.items stands ∙ ap (λ (w : Wire). w.came.items) is;
+      came = there (plain_in new.stream).stands (told_in came_of_wire new.stream) new.memory_ports.port_table.wire.came.items stands ∙ ap (λ (w : Wire). w.came.items) is;
       went = there (plain_in new.stream).stands (told_in went_in new.stream) new.memory_ports.port_table.wire.went.items stands ∙ ap (λ (w : Wire). w.went.items) is;
       mark = λ it. absurd (true≢false (sym it ∙ stands));
       still = record { channel = same; stay = stay; calls = calls; dialled = dialled; listens = listens; host = host };
@@ -207,7 +207,7 @@ module _ (wire none back : Wire) (mid : Data Wire) (old new : MemoryEnd) (first 
         port_table = same;
         channel = seen_again;
         agrees = stands_still back wire mid new.stream second ∙ sym (out_has old.memory_ports.port_table.stay has) ∙ ap (λ d. is_out d.stay) (sym same);
-        mark = λ is. told_after back wire mid new.stream second mark_in ∙ ap mark marked ∙ ap (λ d. mark (is_ended d.wire.closed)) (sym same);
+        mark = λ is. told_after back wire mid new.stream second mark_of_wire ∙ ap mark marked ∙ ap (λ d. mark (is_ended d.wire.closed)) (sym same);
         known = ap (λ d. d.spoiled) same ∙ known;
       }
 
@@ -258,7 +258,7 @@ fresh host m none stay came went closed calls undialled untold is_host =
     let channel : plain_in m.stream ≡ no_channel None = sym (plain_is None m.stream) ∙ ap plain_channel (none None) in
     let stands : (plain_in m.stream).stands ≡ false = ap (λ (l : Channel). l.stands) channel in
     let hold = there_of (plain_in m.stream).stands (hold_by (plain_in m.stream).fate) (hold_at port_table.stay) stands ∙ ap hold_at stay in
-    let octets = there (plain_in m.stream).stands (told_in came_in m.stream) port_table.wire.came.items stands ∙ came in
+    let octets = there (plain_in m.stream).stands (told_in came_of_wire m.stream) port_table.wire.came.items stands ∙ came in
     let gone = there (plain_in m.stream).stands (told_in went_in m.stream) port_table.wire.went.items stands ∙ went in
     record {
       link_state = ap (λ h. link_state_made h (came_at m) (went_at m) (is_ended port_table.wire.closed) port_table.calls port_table.dialled port_table.listens port_table.host) hold

@@ -7,11 +7,11 @@ use Rattle.ftp_ports.specs.Asking as asking
 use Rattle.ftp_ports.specs.Asking.{Asked, told_lost}
 use Rattle.ftp_ports.specs.Courses.{asked_by}
 use Rattle.ftp_ports.specs.Channel as channels
-use Rattle.ftp_ports.specs.Channel.{Channel, Move, Moves, IsHad}
+use Rattle.ftp_ports.specs.Channel.{Channel, Move, MovesChannel, IsHad}
 use Rattle.ftp_ports.specs.declared.whole.Fate.{Fate}
 use Rattle.ftp_endpoint.specs.declared.host.Host.{Host}
 use Rattle.laws_drivers.specs.control.Between.{Awaits, Has_ended, Hold}
-use Rattle.ftp_pair_memory.specs.streams.LinkState.{LinkState, IsAt, IsSeen, Knows, Ran, Steps, called_by, hold_by, listening, mark}
+use Rattle.ftp_pair_memory.specs.streams.LinkState.{LinkState, IsAtLinkState, IsSeen, Knows, LinkRan, Steps, called_by, hold_by, listening, mark}
 
 -- ---- known octets
 
@@ -52,7 +52,7 @@ abbrev pub seen_as : LinkState → Fate → (came went : List ℕ) → LinkState
 seen_as known fate came went = record known { hold = hold_by fate; came = came; went = went }
 
 -- what is seen is one link state
-pub same_link_state : (channel : Channel) (known one other : LinkState) → IsAt channel known one → IsAt channel known other → one ≡ other
+pub same_link_state : (channel : Channel) (known one other : LinkState) → IsAtLinkState channel known one → IsAtLinkState channel known other → one ≡ other
 same_link_state channel known one other is also = by channel.stands is also
   where
     by : (stands : Bool) → IsSeen stands channel known one → IsSeen stands channel known other → one ≡ other
@@ -65,7 +65,7 @@ same_link_state channel known one other is also = by channel.stands is also
 
 -- two channels that are alike but for octets that are on their way, and for what became of one that its end still has
 pub alike : (old new : Channel) (known own : LinkState) → new.stands ≡ old.stands → hold_by new.fate ≡ hold_by old.fate
-    → (old.stands ≡ true → (new.left ≡ old.left) × (new.written ≡ old.written)) → IsAt new known own → IsAt old known own
+    → (old.stands ≡ true → (new.left ≡ old.left) × (new.written ≡ old.written)) → IsAtLinkState new known own → IsAtLinkState old known own
 alike old new known own stands fates same is = by old.stands refl (subst (λ s. IsSeen s new known own) stands is)
   where
     by : (here : Bool) → old.stands ≡ here → IsSeen here new known own → IsSeen here old known own
@@ -76,7 +76,7 @@ alike old new known own stands fates same is = by old.stands refl (subst (λ s. 
     by false e seen = seen
 
 -- how many ports were told
-pub counts_same : (channel : Channel) (known own : LinkState) → IsAt channel known own → own.listens ≡ known.listens
+pub counts_same : (channel : Channel) (known own : LinkState) → IsAtLinkState channel known own → own.listens ≡ known.listens
 counts_same channel known own is = by channel.stands is
   where
     by : (stands : Bool) → IsSeen stands channel known own → own.listens ≡ known.listens
@@ -84,7 +84,7 @@ counts_same channel known own is = by channel.stands is
     by false seen = ap (λ b. b.listens) seen.1
 
 -- which host is at the other end
-pub host_same : (channel : Channel) (known own : LinkState) → IsAt channel known own → own.host ≡ known.host
+pub host_same : (channel : Channel) (known own : LinkState) → IsAtLinkState channel known own → own.host ≡ known.host
 host_same channel known own is = by channel.stands is
   where
     by : (stands : Bool) → IsSeen stands channel known own → own.host ≡ known.host
@@ -92,7 +92,7 @@ host_same channel known own is = by channel.stands is
     by false seen = ap (λ b. b.host) seen.1
 
 -- whether the peer ended it, where it listens, and whether this end dialled
-pub stays : (channel : Channel) (known own : LinkState) → IsAt channel known own → (own.ended ≡ known.ended) × (own.calls ≡ known.calls) × (own.dialled ≡ known.dialled)
+pub stays : (channel : Channel) (known own : LinkState) → IsAtLinkState channel known own → (own.ended ≡ known.ended) × (own.calls ≡ known.calls) × (own.dialled ≡ known.dialled)
 stays channel known own is = by channel.stands is
   where
     by : (stands : Bool) → IsSeen stands channel known own → (own.ended ≡ known.ended) × (own.calls ≡ known.calls) × (own.dialled ≡ known.dialled)
@@ -106,7 +106,7 @@ abbrev pub IsKnown : Channel → Type 0
 IsKnown channel = channel.stands ≡ true → (left written : List ℕ) × (channel.left ≡ Some left) × (channel.written ≡ Some written)
 
 -- so it is where it is seen
-pub known_at : (channel : Channel) (known own : LinkState) → IsAt channel known own → IsKnown channel
+pub known_at : (channel : Channel) (known own : LinkState) → IsAtLinkState channel known own → IsKnown channel
 known_at channel known own is stands =
     let seen : IsSeen true channel known own = subst (λ s. IsSeen s channel known own) stands is in
     (own.came ++ mark known.ended, own.went, seen.1, seen.2)
@@ -139,7 +139,7 @@ had_known host had left written mid last (inr connected) steps =
     (mark false, [], all.2, all.3)
 
 -- a move leaves it known
-pub known_on : (move : Move) (old new : Channel) (first last : LinkState) → Moves move old new → Ran first (asked_by move) last → IsKnown old
+pub known_on : (move : Move) (old new : Channel) (first last : LinkState) → MovesChannel move old new → LinkRan first (asked_by move) last → IsKnown old
     → IsKnown new
 known_on channels.Stays old new first last same ran known = subst IsKnown (sym same) known
 known_on (channels.Waits lost) old new first last waited ran known = λ stands.
@@ -166,7 +166,7 @@ known_on channels.Breaks old new first last same ran known = subst IsKnown (sym 
 known_on channels.Stops old new first last stop ran known = subst IsKnown (sym stop.0) known
 known_on (channels.Asks asked) old new first last asks ran known = subst IsKnown (sym asks.1) known
 known_on (channels.Opens host asked at_first so_far rest) old new first last had ran known = λ stands.
-    let one : Ran first (had.had ∷ []) last = subst (λ a. Ran first a last) had.alone ran in
+    let one : LinkRan first (had.had ∷ []) last = subst (λ a. LinkRan first a last) had.alone ran in
     let both = had_known host had.had at_first so_far one.0 last had.is_had one.2 in
     (both.0, both.1, had.left ∙ both.2, had.written ∙ both.3)
 known_on (channels.Leaves asked) old new first last left ran known = λ stands. absurd (true≢false (sym stands ∙ left.stands))
@@ -179,7 +179,7 @@ pub record Heeds (known peer : LinkState) : Type 0 where
   pub ended : known.ended ≡ true → ((called_by known.dialled peer).hold ≡ Has_ended) × ((called_by known.dialled peer).went ≡ [])
 
 -- so it is as a turn begins
-pub heeds : (channel : Channel) (known own peer : LinkState) → IsAt channel known own → Knows own peer → Heeds known peer
+pub heeds : (channel : Channel) (known own peer : LinkState) → IsAtLinkState channel known own → Knows own peer → Heeds known peer
 heeds channel known own peer is knows =
     let same = stays channel known own is in
     let by : called_by known.dialled peer ≡ peer = ap (λ d. called_by d peer) (sym same.2 ∙ knows.undialled) in
@@ -217,12 +217,12 @@ step_heeds asking.Shut old new peer same heeds = same_heeds old new peer same he
 step_heeds asking.Lost old new peer same heeds = same_heeds old new peer same heeds
 
 -- all that is asked leaves it so
-pub heeds_on : (asked : List Asked) (first now peer : LinkState) → Ran first asked now → Heeds first peer → Heeds now peer
+pub heeds_on : (asked : List Asked) (first now peer : LinkState) → LinkRan first asked now → Heeds first peer → Heeds now peer
 heeds_on [] first now peer same heeds = same_heeds first now peer same heeds
 heeds_on (asked ∷ before) first now peer ran heeds = step_heeds asked ran.0 now peer ran.2 (heeds_on before first ran.0 peer ran.1 heeds)
 
 -- what was asked first, and the rest
-pub ran_split : (later before : List Asked) (first now : LinkState) → Ran first (later ++ before) now → (mid : LinkState) × Ran first before mid × Ran mid later now
+pub ran_split : (later before : List Asked) (first now : LinkState) → LinkRan first (later ++ before) now → (mid : LinkState) × LinkRan first before mid × LinkRan mid later now
 ran_split [] before first now ran = (now, ran, refl)
 ran_split (asked ∷ later) before first now ran =
     let rest = ran_split later before first ran.0 ran.1 in

@@ -3,8 +3,8 @@ use Rattle.std.proofs.Common.{◌≡◌, ℕ, Bool, true, false, true≢false, L
 use Rattle.ftp_endpoint.specs.declared.endpoint.Endpoint.{Endpoint}
 use Rattle.ftp_ports.specs.Asking.{Asked}
 use Rattle.laws_drivers.specs.control.Between.{Awaits, Has, Has_ended, Has_lost, Has_not, Hold, IsOver, Is_called}
-use Rattle.ftp_pair_memory.specs.streams.LinkState.{LinkState, Ran, Steps, dialling, listening, mark}
-use Rattle.ftp_pair_memory.specs.streams.PortTableMoves.{Noted, found_at, header, is_back, is_dialled, is_ended, is_free, is_reached, moved, moved_on, noted_first, noted_in, noted_next, noted_on, port_called, told, where_so}
+use Rattle.ftp_pair_memory.specs.streams.LinkState.{LinkState, LinkRan, Steps, dialling, listening, mark}
+use Rattle.ftp_pair_memory.specs.streams.PortTableMoves.{Noted, link_found_at, header, is_back, is_dialled, is_ended, is_free_hold, is_reached, moved, moved_where_known, noted_first, noted_in, noted_next, noted_on, port_called, told, where_so}
 use Rattle.ftp_pair_memory.specs.declared.streams.port_table.Event.{Event}
 use Rattle.ftp_pair_memory.specs.declared.streams.port_table.Event.TheVariants as Events
 use Rattle.ftp_pair_memory.specs.declared.streams.port_table.Found.{Found}
@@ -46,7 +46,7 @@ where_back : (is : Bool) (link_state now : LinkState) → where_so is link_state
 where_back true link_state now e = (refl, the_same link_state now e)
 where_back false link_state now e = absurd (none_is_some now e)
 
-free_over : (hold : Hold) (one now : LinkState) → where_so (is_free hold) one ≡ Some now → IsOver hold × (now ≡ one)
+free_over : (hold : Hold) (one now : LinkState) → where_so (is_free_hold hold) one ≡ Some now → IsOver hold × (now ≡ one)
 free_over Has one now e = absurd (none_is_some now e)
 free_over Has_not one now e = (tt, the_same one now e)
 free_over (Awaits port) one now e = (tt, the_same one now e)
@@ -104,12 +104,12 @@ moved_steps Events.Shut wire link_state now e = the_same link_state now e
 
 -- what was asked since it was found so
 Since : LinkState → Noted → Type 0
-Since first noted = (now : LinkState) → noted.link_state ≡ Some now → (asked : List Asked) × (noted.asked ≡ asked ++ header first) × Ran first asked now
+Since first noted = (now : LinkState) → noted.link_state ≡ Some now → (asked : List Asked) × (noted.asked ≡ asked ++ header first) × LinkRan first asked now
 
 since_next : (first : LinkState) (event : Event) (wire : Wire) (known : Option LinkState) (before : List Asked)
-    → ((now : LinkState) → known ≡ Some now → (asked : List Asked) × (before ≡ asked ++ header first) × Ran first asked now)
-    → (now : LinkState) → moved_on event wire known ≡ Some now
-    → (asked : List Asked) × (told event wire known ∷ before ≡ asked ++ header first) × Ran first asked now
+    → ((now : LinkState) → known ≡ Some now → (asked : List Asked) × (before ≡ asked ++ header first) × LinkRan first asked now)
+    → (now : LinkState) → moved_where_known event wire known ≡ Some now
+    → (asked : List Asked) × (told event wire known ∷ before ≡ asked ++ header first) × LinkRan first asked now
 since_next first event wire None before since now e = absurd (none_is_some now e)
 since_next first event wire (Some link_state) before since now e =
     let so_far = since link_state refl in
@@ -124,13 +124,13 @@ since_on first (next ∷ log) noted since =
 -- what is not known stays so
 none_on : (log : List (Event × Wire)) (noted : Noted) → noted.link_state ≡ None → (noted_on noted log).link_state ≡ None
 none_on [] noted none = none
-none_on (next ∷ log) noted none = none_on log (noted_next noted next) (ap (moved_on next.0 next.1) none)
+none_on (next ∷ log) noted none = none_on log (noted_next noted next) (ap (moved_where_known next.0 next.1) none)
 
 -- where the link state is known, a turn found one, which did not dial, and from there all was asked that was noted
 pub ran_since : (found : List (Found × Wire)) (log : List (Event × Wire)) (now : LinkState) → (noted_in found log).link_state ≡ Some now
-    → (first : LinkState) × (asked : List Asked) × (first.dialled ≡ false) × ((noted_in found log).asked ≡ asked ++ header first) × Ran first asked now
+    → (first : LinkState) × (asked : List Asked) × (first.dialled ≡ false) × ((noted_in found log).asked ≡ asked ++ header first) × LinkRan first asked now
 unfolding Since
 ran_since [] log now e = absurd (none_is_some now (sym (none_on log (noted_first []) refl) ∙ e))
 ran_since (found ∷ more) log now e =
-    let since = since_on (found_at found) log (noted_first (found ∷ more)) (λ link_state is. ([], refl, the_same (found_at found) link_state is)) now e in
-    (found_at found, since.0, refl, since.1, since.2)
+    let since = since_on (link_found_at found) log (noted_first (found ∷ more)) (λ link_state is. ([], refl, the_same (link_found_at found) link_state is)) now e in
+    (link_found_at found, since.0, refl, since.1, since.2)

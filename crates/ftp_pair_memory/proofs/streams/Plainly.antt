@@ -8,8 +8,8 @@ use Rattle.ftp_ports.specs.Asking.{Asked}
 use Rattle.ftp_ports.specs.Actions.{Action, Done, Ended, Heard, Led, Other, Read, Said, Stand, read_by, read_in, said_by, said_in, with_owner}
 use Rattle.ftp_ports.specs.Channel.{IsEnded, IsHad, Channel}
 use Rattle.ftp_ports.specs.Machine as machine
-use Rattle.ftp_ports.specs.Machine.{AreWanted, Call, Called, Held, IsFairEnd, IsRefused, IsWanted, LeavesFlushed, Machine, side_of}
-use Rattle.laws_drivers.specs.control.Touches.{had_by, left_by, touch_in, touch_of}
+use Rattle.ftp_ports.specs.Machine.{AreWanted, Call, Called, Held, IsFairEnd, IsConnectionRefused, IsWanted, LeavesFlushed, Machine, side_of}
+use Rattle.laws_drivers.specs.control.Touches.{had_by, touch_of_leaving, touch_in, touch_of}
 use Rattle.ftp_pair_memory.specs.streams.Plain.{plain, plain_asked, plain_call, plain_held, plain_channel, quiet}
 
 -- ---- what was asked
@@ -30,7 +30,7 @@ wanted want [] is = is
 wanted want (asked ∷ []) is = wanted_one want asked is
 wanted want (asked ∷ next ∷ more) is = is
 
-refused : (want : Wants) (asked : List Asked) → IsRefused want asked → IsRefused want (map plain_asked asked)
+refused : (want : Wants) (asked : List Asked) → IsConnectionRefused want asked → IsConnectionRefused want (map plain_asked asked)
 refused want (asking.NotCame ∷ []) is = is
 refused want (asking.NotConnected endpoint ∷ []) is = is
 refused want other is = absurd is
@@ -66,7 +66,7 @@ touch_had (asking.NotCame ∷ []) = refl
 touch_had (asking.NotConnected endpoint ∷ []) = refl
 touch_had other = refl
 
-touch_left : (asked : Asked) → left_by (plain_asked asked) ≡ left_by asked
+touch_left : (asked : Asked) → touch_of_leaving (plain_asked asked) ≡ touch_of_leaving asked
 touch_left (asking.Came host left written) = refl
 touch_left (asking.Connected endpoint left written) = refl
 touch_left (asking.Ended left written) = refl

@@ -10,11 +10,11 @@ use Rattle.ftp_ports.specs.Channel.{Channel}
 use Rattle.ftp_ports.specs.Machine.{Machine, held, move_of, side_of}
 use Rattle.ftp_driver.specs.Standing.{channel_at}
 use Rattle.laws_drivers.specs.control.Between.{Awaits, Between, Far, Has, Has_ended, Has_lost, Has_not, Hold, IsOver, Is_called, Near, Ways, Who}
-use Rattle.ftp_pair_memory.specs.streams.LinkState.{LinkState, IsAt, IsSeen, Ran, between_at, between_by, called_by, hold_by, mark}
+use Rattle.ftp_pair_memory.specs.streams.LinkState.{LinkState, IsAtLinkState, IsSeen, LinkRan, between_at, between_by, called_by, hold_by, mark}
 use Rattle.ftp_pair_memory.specs.streams.Claims.{Happening, ways_at}
 use Rattle.ftp_pair_memory.specs.streams.PortTables.{asked_of}
 use Rattle.ftp_pair_memory.specs.streams.PortTableMoves.{link_state_at, header, hold_at, is_ended, is_out, known_by, left_in, shown_end, shown_hold, went_in}
-use Rattle.ftp_pair_memory.specs.streams.MemoryEnds.{KnowsHolder, IsKnown, Meets, link_state_of, between_both, came_in, listens_of, mark_in, octets_of, of_two, plain_in, told_in, told_channel}
+use Rattle.ftp_pair_memory.specs.streams.MemoryEnds.{KnowsHolder, IsKnown, Meets, link_state_of, between_both, came_of_wire, listens_of, mark_of_wire, octets_of, of_two, plain_in, told_in, told_channel}
 use Rattle.ftp_pair_memory.specs.streams.Order.{CameAlone, CountedAlone, WentAlone}
 use Rattle.ftp_pair_memory.specs.streams.Plain.{plain, plain_channel, quiet}
 use Rattle.ftp_pair_memory.specs.declared.streams.port_table.Stay.{Stay}
@@ -119,8 +119,8 @@ found_same one other e dialled =
 
 -- ---- what is seen of it
 
-left_seen : (stream : Option Wire) (ended : Bool) → is_some stream ≡ true → octets_of (told_by mark_in stream) ≡ mark ended
-    → told_by left_in stream ≡ Some (octets_of (told_by came_in stream) ++ mark ended)
+left_seen : (stream : Option Wire) (ended : Bool) → is_some stream ≡ true → octets_of (told_by mark_of_wire stream) ≡ mark ended
+    → told_by left_in stream ≡ Some (octets_of (told_by came_of_wire stream) ++ mark ended)
 left_seen (Some wire) ended stands marked = ap (λ l. Some (wire.came.items ++ l)) marked
 left_seen None ended stands marked = absurd (true≢false (sym stands))
 
@@ -153,7 +153,7 @@ second_of is e one other = ap (λ s. of_two s one other) e
 
 -- what ports know, and what is seen beside
 module _ (m : MemoryEnd) (asked : Option (List Asked)) (agrees : KnowsHolder m)
-    (marked : (plain_in m.stream).stands ≡ true → told_in mark_in m.stream ≡ mark (is_ended m.memory_ports.port_table.wire.closed)) where
+    (marked : (plain_in m.stream).stands ≡ true → told_in mark_of_wire m.stream ≡ mark (is_ended m.memory_ports.port_table.wire.closed)) where
   channel : Channel
   channel = channel_at left_in went_in asked m.stream []
 
@@ -165,7 +165,7 @@ module _ (m : MemoryEnd) (asked : Option (List Asked)) (agrees : KnowsHolder m)
   seen_so true stands =
       let port_table = m.memory_ports.port_table in
       let other = port_table.wire in
-      let came = first_of (plain_in m.stream).stands stands (told_in came_in m.stream) other.came.items in
+      let came = first_of (plain_in m.stream).stands stands (told_in came_of_wire m.stream) other.came.items in
       let went = first_of (plain_in m.stream).stands stands (told_in went_in m.stream) other.went.items in
       let hold = first_of (plain_in m.stream).stands stands (hold_by (plain_in m.stream).fate) (hold_at port_table.stay) in (
         out_is port_table.stay (sym agrees ∙ stands),
@@ -178,11 +178,11 @@ module _ (m : MemoryEnd) (asked : Option (List Asked)) (agrees : KnowsHolder m)
       let other = port_table.wire in (
         over_is port_table.stay (sym agrees ∙ stands),
         ap (λ h. link_state_made h (link_state_of m).came (link_state_of m).went (is_ended other.closed) port_table.calls port_table.dialled port_table.listens port_table.host) (second_of (plain_in m.stream).stands stands (hold_by (plain_in m.stream).fate) (hold_at port_table.stay))
-            ∙ ap (λ c. link_state_made (hold_at port_table.stay) c (link_state_of m).went (is_ended other.closed) port_table.calls port_table.dialled port_table.listens port_table.host) (second_of (plain_in m.stream).stands stands (told_in came_in m.stream) other.came.items)
+            ∙ ap (λ c. link_state_made (hold_at port_table.stay) c (link_state_of m).went (is_ended other.closed) port_table.calls port_table.dialled port_table.listens port_table.host) (second_of (plain_in m.stream).stands stands (told_in came_of_wire m.stream) other.came.items)
             ∙ ap (λ w. link_state_made (hold_at port_table.stay) other.came.items w (is_ended other.closed) port_table.calls port_table.dialled port_table.listens port_table.host) (second_of (plain_in m.stream).stands stands (told_in went_in m.stream) other.went.items),
       )
 
-  is_at : IsAt (channel_at left_in went_in asked m.stream []) (link_state_at m.memory_ports.port_table.stay m.memory_ports.port_table.wire m.memory_ports.port_table.calls m.memory_ports.port_table.dialled m.memory_ports.port_table.listens m.memory_ports.port_table.host) (link_state_of m)
+  is_at : IsAtLinkState (channel_at left_in went_in asked m.stream []) (link_state_at m.memory_ports.port_table.stay m.memory_ports.port_table.wire m.memory_ports.port_table.calls m.memory_ports.port_table.dialled m.memory_ports.port_table.listens m.memory_ports.port_table.host) (link_state_of m)
   unfolding channel known
   is_at = seen_so (plain_in m.stream).stands refl
 
@@ -232,7 +232,7 @@ module _ (who : Who) (end : Machine) (actions : List (Action (side_of end))) (e0
   unfolding first
   shown_first = meets.begins.asked
 
-  since : (found : LinkState) × (asked : List Asked) × (found.dialled ≡ false) × (asked_of own_3.memory_ports.port_table ≡ asked ++ header found) × Ran found asked last
+  since : (found : LinkState) × (asked : List Asked) × (found.dialled ≡ false) × (asked_of own_3.memory_ports.port_table ≡ asked ++ header found) × LinkRan found asked last
   unfolding last
   since =
       let port_table = own_3.memory_ports.port_table in
@@ -250,22 +250,22 @@ module _ (who : Who) (end : Machine) (actions : List (Action (side_of end))) (e0
   unfolding first
   found_first = found_same since.0 first both.1 (since.2 ∙ sym undialled)
 
-  first_at : IsAt (told_channel own_1) first (link_state_of own_1)
+  first_at : IsAtLinkState (told_channel own_1) first (link_state_of own_1)
   unfolding first
   first_at = is_at own_1 (Some (asked_of own_1.memory_ports.port_table)) meets.begins.agrees meets.begins.mark
 
-  last_at : IsAt (told_channel own_2) last (link_state_of own_3)
+  last_at : IsAtLinkState (told_channel own_2) last (link_state_of own_3)
   unfolding last
   last_at =
       let asked = Some (asked_of own_2.memory_ports.port_table) in
-      subst (λ l. IsAt l (link_state_at own_3.memory_ports.port_table.stay own_3.memory_ports.port_table.wire own_3.memory_ports.port_table.calls own_3.memory_ports.port_table.dialled own_3.memory_ports.port_table.listens own_3.memory_ports.port_table.host) (link_state_of own_3))
+      subst (λ l. IsAtLinkState l (link_state_at own_3.memory_ports.port_table.stay own_3.memory_ports.port_table.wire own_3.memory_ports.port_table.calls own_3.memory_ports.port_table.dialled own_3.memory_ports.port_table.listens own_3.memory_ports.port_table.host) (link_state_of own_3))
       (is_known.channel left_in went_in asked) (is_at own_3 asked is_known.agrees is_known.mark)
 
   happening : Happening who actions (held e0 (told_channel own_1))
       (held e1 (told_channel own_2)) (link_state_of own_1) (link_state_of own_3) (link_state_of peer_1) up down
   happening =
       happens who end actions _ _ first last (link_state_of own_1) (link_state_of own_3) (link_state_of peer_1) (header first) (asked_in move_of actions) up down led first_at last_at
-      (ap Some shown_first) (ap Some (ap asked_of (sym is_known.port_table) ∙ asked_all)) (subst (λ a. Ran first a last) both.0 (subst (λ f. Ran f since.1 last) found_first since.4))
+      (ap Some shown_first) (ap Some (ap asked_of (sym is_known.port_table) ∙ asked_all)) (subst (λ a. LinkRan first a last) both.0 (subst (λ f. LinkRan f since.1 last) found_first since.4))
       meets.begins.knows
 
   before_same : (control : Ways) → between_by who (link_state_of own_1) (link_state_of peer_1) control ≡ between_both who own peer control

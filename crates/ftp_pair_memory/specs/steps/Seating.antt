@@ -6,7 +6,7 @@ use Rattle.laws_drivers.specs.control.Between.{Between, Near, Ways}
 use Rattle.ftp_pair_memory.specs.streams.MemoryEnds.{link_state_of, between_both, listens_of, plain_in}
 use Rattle.ftp_pair_memory.specs.streams.Order.{Hosts}
 use Rattle.ftp_server_driver.specs.alone.Side.{Timed}
-use Rattle.ftp_pair_memory.specs.steps.Taking.{Ends, ends}
+use Rattle.ftp_pair_memory.specs.steps.Taking.{Ends, both_ends}
 use Rattle.ftp_pair_memory.specs.declared.steps.slots.Line.{Line}
 use Rattle.ftp_pair_memory.specs.declared.steps.slots.Slot.{Slot}
 
@@ -31,6 +31,6 @@ abbrev pub hosts_of : {N F : Type 0} → (client : Slot N) → (server : Slot F)
 hosts_of client server = record { near = (link_state_of client.memory_end).host; far = (link_state_of server.memory_end).host }
 
 -- all of that
-abbrev pub ends_of : {N F : Type 0} → (far : F → Timed) → (near : N → NearEnd) → (client : Slot N) → (server : Slot F) → Line → Ends
-ends_of far near client server line =
-    ends (held_at far server) (held_at near client) (between_of client server line) (told_by client server) (hosts_of client server)
+abbrev pub both_ends_of : {N F : Type 0} → (far : F → Timed) → (near : N → NearEnd) → (client : Slot N) → (server : Slot F) → Line → Ends
+both_ends_of far near client server line =
+    both_ends (held_at far server) (held_at near client) (between_of client server line) (told_by client server) (hosts_of client server)

@@ -23,8 +23,8 @@ pub record Ends : Type 0 where
   pub listens : ℕ
   pub hosts : Hosts
 
-abbrev pub ends : Held Timed → Held NearEnd → Between → (listens : ℕ) → Hosts → Ends
-ends server client between listens hosts =
+abbrev pub both_ends : Held Timed → Held NearEnd → Between → (listens : ℕ) → Hosts → Ends
+both_ends server client between listens hosts =
     record { server = server; client = client; between = between; listens = listens; hosts = hosts }
 
 -- actions of both led from here to there, in an order in which each could happen, and in which each port that was told was the next one; and who came was each
@@ -89,13 +89,13 @@ Begins op old new = Done {side = client_side} (Other (Begun op)) (quiet old) (qu
 pub record Answered (op : Op (List ℕ)) (answer : Said) (old new : Ends) : Type 0 where
   pub begun : Held NearEnd
   pub begins : Begins op old.client begun
-  pub settled : Settled answer (ends old.server begun old.between old.listens old.hosts) new
+  pub settled : Settled answer (both_ends old.server begun old.between old.listens old.hosts) new
 
 -- so it is where an answer is given; else nothing is said
-abbrev pub Settles : {A : Type 0} → Option (Answer A) → (old new : Ends) → Type 0
-Settles (Some answer) old new = Settled (said_of answer) old new
-Settles None old new = ⊤
+abbrev pub SettlesAnswer : {A : Type 0} → Option (Answer A) → (old new : Ends) → Type 0
+SettlesAnswer (Some answer) old new = Settled (said_of answer) old new
+SettlesAnswer None old new = ⊤
 
-abbrev pub Asks : {A : Type 0} → Op (List ℕ) → Option (Answer A) → (old new : Ends) → Type 0
-Asks op (Some answer) old new = Answered op (said_of answer) old new
-Asks op None old new = ⊤
+abbrev pub AsksAnswered : {A : Type 0} → Op (List ℕ) → Option (Answer A) → (old new : Ends) → Type 0
+AsksAnswered op (Some answer) old new = Answered op (said_of answer) old new
+AsksAnswered op None old new = ⊤

@@ -5,7 +5,7 @@ use Rattle.ftp_ports.specs.Asking.{Asked}
 use Rattle.ftp_ports.specs.Actions.{Action, Led, read_in, said_in}
 use Rattle.ftp_ports.specs.Machine.{Held, Machine, side_of}
 use Rattle.laws_drivers.specs.control.Between.{Far, Near, Ways, Who}
-use Rattle.ftp_pair_memory.specs.streams.LinkState.{LinkState, IsAt, Knows, Ran, between_by}
+use Rattle.ftp_pair_memory.specs.streams.LinkState.{LinkState, IsAtLinkState, Knows, LinkRan, between_by}
 use Rattle.ftp_pair_memory.specs.streams.Order.{CameAlone, CountedAlone, WentAlone}
 use Rattle.ftp_pair_memory.specs.streams.Plain.{plain, plain_held, quiet}
 use Rattle.ftp_server_driver.specs.alone.Side.{server_machine}
@@ -27,15 +27,15 @@ pub record Happening (who : Who) {end : Machine} (actions : List (Action (side_o
   pub host : now.host ≡ own.host
 
 -- so it is where ports know in which link state the data connection was before and is after, and told all that was asked between; so much was told before
-abbrev pub Happens : Who → Machine → Type 0
-Happens who end =
+abbrev pub HappensAtPorts : Who → Machine → Type 0
+HappensAtPorts who end =
     (actions : List (Action (side_of end))) (old new : Held end.Here) (first last own now peer : LinkState) (header asked : List Asked) (up down : List ℕ)
-    → Led actions (quiet old) (quiet new) → IsAt old.channel first own → IsAt new.channel last now
-    → old.channel.asked ≡ Some header → new.channel.asked ≡ Some (asked ++ header) → Ran first asked last → Knows own peer
+    → Led actions (quiet old) (quiet new) → IsAtLinkState old.channel first own → IsAtLinkState new.channel last now
+    → old.channel.asked ≡ Some header → new.channel.asked ≡ Some (asked ++ header) → LinkRan first asked last → Knows own peer
     → Happening who actions old new own now peer up down
 
 abbrev pub NearTurnsHappen : Type 0
-NearTurnsHappen = Happens Near client_machine
+NearTurnsHappen = HappensAtPorts Near client_machine
 
 abbrev pub FarTurnsHappen : Type 0
-FarTurnsHappen = Happens Far server_machine
+FarTurnsHappen = HappensAtPorts Far server_machine

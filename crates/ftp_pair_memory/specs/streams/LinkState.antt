@@ -61,9 +61,9 @@ Steps Shut old new = new ≡ old
 Steps Lost old new = new ≡ old
 
 -- one after another, the last one first
-abbrev pub Ran : (first : LinkState) → List Asked → (now : LinkState) → Type 0
-Ran first [] now = now ≡ first
-Ran first (asked ∷ before) now = (mid : LinkState) × Ran first before mid × Steps asked mid now
+abbrev pub LinkRan : (first : LinkState) → List Asked → (now : LinkState) → Type 0
+LinkRan first [] now = now ≡ first
+LinkRan first (asked ∷ before) now = (mid : LinkState) × LinkRan first before mid × Steps asked mid now
 
 -- ---- beside the end
 
@@ -81,8 +81,8 @@ IsSeen true channel known own =
     × (own ≡ record known { hold = hold_by channel.fate; came = own.came; went = own.went })
 IsSeen false channel known own = IsOver known.hold × (own ≡ known)
 
-abbrev pub IsAt : Channel → (known own : LinkState) → Type 0
-IsAt channel known own = IsSeen channel.stands channel known own
+abbrev pub IsAtLinkState : Channel → (known own : LinkState) → Type 0
+IsAtLinkState channel known own = IsSeen channel.stands channel known own
 
 -- ---- both ends
 

@@ -12,11 +12,11 @@ use Rattle.ftp_pair_memory.specs.streams.PortTableMoves.{link_state_at, header, 
 use Rattle.ftp_pair_memory.specs.declared.streams.memory_end.MemoryEnd.{MemoryEnd}
 use Rattle.ftp_pair_memory.specs.declared.streams.wire.Wire.{Wire}
 
-abbrev pub came_in : Wire → Option (List ℕ)
-came_in wire = Some wire.came.items
+abbrev pub came_of_wire : Wire → Option (List ℕ)
+came_of_wire wire = Some wire.came.items
 
-abbrev pub mark_in : Wire → Option (List ℕ)
-mark_in wire = Some (mark (is_ended wire.closed))
+abbrev pub mark_of_wire : Wire → Option (List ℕ)
+mark_of_wire wire = Some (mark (is_ended wire.closed))
 
 -- what an end sees of it, where its stream tells this, and where it tells nothing
 abbrev pub channel_in : (Wire → Option (List ℕ)) → Data Wire → Channel
@@ -42,7 +42,7 @@ of_two false here there = there
 
 -- what is still to be read, and what was written and not brought on yet
 abbrev pub came_at : MemoryEnd → List ℕ
-came_at memory_end = of_two (plain_in memory_end.stream).stands (told_in came_in memory_end.stream) memory_end.memory_ports.port_table.wire.came.items
+came_at memory_end = of_two (plain_in memory_end.stream).stands (told_in came_of_wire memory_end.stream) memory_end.memory_ports.port_table.wire.came.items
 
 abbrev pub went_at : MemoryEnd → List ℕ
 went_at memory_end = of_two (plain_in memory_end.stream).stands (told_in went_in memory_end.stream) memory_end.memory_ports.port_table.wire.went.items
@@ -75,7 +75,7 @@ abbrev pub KnowsHolder : MemoryEnd → Type 0
 KnowsHolder memory_end = (plain_in memory_end.stream).stands ≡ is_out memory_end.memory_ports.port_table.stay
 
 -- the end sees the same but for the octets, and its ports know the same
-pub record IsStill (old new : MemoryEnd) : Type 0 where
+pub record IsSameButOctets (old new : MemoryEnd) : Type 0 where
   pub channel : plain_in new.stream ≡ plain_in old.stream
   pub stay : new.memory_ports.port_table.stay ≡ old.memory_ports.port_table.stay
   pub calls : new.memory_ports.port_table.calls ≡ old.memory_ports.port_table.calls
@@ -88,13 +88,13 @@ pub record Lifts (wire : Wire) (old new : MemoryEnd) : Type 0 where
   pub agrees : KnowsHolder old
   pub came : wire.came.items ≡ came_at old
   pub went : wire.went.items ≡ went_at old
-  pub still : IsStill old new
+  pub still : IsSameButOctets old new
 
-pub record Lowers (wire : Wire) (old new : MemoryEnd) : Type 0 where
+pub record LowersWire (wire : Wire) (old new : MemoryEnd) : Type 0 where
   pub came : came_at new ≡ wire.came.items
   pub went : went_at new ≡ wire.went.items
-  pub mark : (plain_in new.stream).stands ≡ true → told_in mark_in new.stream ≡ mark (is_ended wire.closed)
-  pub still : IsStill old new
+  pub mark : (plain_in new.stream).stands ≡ true → told_in mark_of_wire new.stream ≡ mark (is_ended wire.closed)
+  pub still : IsSameButOctets old new
 
 -- ---- a turn
 
@@ -124,7 +124,7 @@ pub record AnswersDial (dialler other dialler_now other_now : MemoryEnd) : Type 
 -- a turn of an end can begin: octets were brought on, and its ports know what they are to know
 pub record IsPrepared (own_now peer_now : MemoryEnd) : Type 0 where
   pub agrees : KnowsHolder own_now
-  pub mark : (plain_in own_now.stream).stands ≡ true → told_in mark_in own_now.stream ≡ mark (link_state_of own_now).ended
+  pub mark : (plain_in own_now.stream).stands ≡ true → told_in mark_of_wire own_now.stream ≡ mark (link_state_of own_now).ended
   pub asked : asked_of own_now.memory_ports.port_table
       ≡ header (link_state_at own_now.memory_ports.port_table.stay own_now.memory_ports.port_table.wire own_now.memory_ports.port_table.calls false own_now.memory_ports.port_table.listens
       own_now.memory_ports.port_table.host)
@@ -163,7 +163,7 @@ pub record IsKnown (old new : MemoryEnd) : Type 0 where
   pub channel : (remaining contents : Wire → Option (List ℕ)) (asked : Option (List Asked))
       → channel_at remaining contents asked new.stream [] ≡ channel_at remaining contents asked old.stream []
   pub agrees : KnowsHolder new
-  pub mark : (plain_in new.stream).stands ≡ true → told_in mark_in new.stream ≡ mark (is_ended new.memory_ports.port_table.wire.closed)
+  pub mark : (plain_in new.stream).stands ≡ true → told_in mark_of_wire new.stream ≡ mark (is_ended new.memory_ports.port_table.wire.closed)
   pub known : new.memory_ports.port_table.spoiled ≡ false
 
 -- ---- both ends

@@ -30,20 +30,20 @@ Went (turn ∷ before) first now = (mid : Between) × Went before first mid × C
 -- ---- ports
 
 -- So many ports were told before it and after it: each is the next one of a world, whichever end listens.
-abbrev pub Counts : Touch → (old new : ℕ) → Type 0
-Counts (Listens (Some port)) old new = (port ≡ port_at old) × (new ≡ next_listen old)
-Counts touch old new = new ≡ old
+abbrev pub CountsPorts : Touch → (old new : ℕ) → Type 0
+CountsPorts (Listens (Some port)) old new = (port ≡ port_at old) × (new ≡ next_listen old)
+CountsPorts touch old new = new ≡ old
 
 -- actions of one end
 module _ {end : Machine} where
   abbrev pub CountedAlone : List (Action (side_of end)) → (first now : ℕ) → Type 0
   CountedAlone [] first now = now ≡ first
-  CountedAlone (action ∷ before) first now = (mid : ℕ) × CountedAlone before first mid × Counts (touch_in action) mid now
+  CountedAlone (action ∷ before) first now = (mid : ℕ) × CountedAlone before first mid × CountsPorts (touch_in action) mid now
 
 -- actions of both
 abbrev pub CountsIn : Turn → (old new : ℕ) → Type 0
-CountsIn (Server action) old new = Counts (touch_in action) old new
-CountsIn (Client action) old new = Counts (touch_in action) old new
+CountsIn (Server action) old new = CountsPorts (touch_in action) old new
+CountsIn (Client action) old new = CountsPorts (touch_in action) old new
 
 abbrev pub Counted : List Turn → (first now : ℕ) → Type 0
 Counted [] first now = now ≡ first

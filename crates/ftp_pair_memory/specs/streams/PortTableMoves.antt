@@ -47,8 +47,8 @@ link_state_at stay wire calls dialled listens host = record {
 }
 
 -- that it was found so, as a turn began
-abbrev pub found_at : Found × Wire → LinkState
-found_at found = link_state_at found.0.stay found.1 found.0.calls false found.0.listens found.0.host
+abbrev pub link_found_at : Found × Wire → LinkState
+link_found_at found = link_state_at found.0.stay found.1 found.0.calls false found.0.listens found.0.host
 
 -- ---- what was asked
 
@@ -64,9 +64,9 @@ is_reached Has calls = false
 is_reached hold (Some port) = true
 is_reached hold None = false
 
-abbrev pub is_free : Hold → Bool
-is_free Has = false
-is_free hold = true
+abbrev pub is_free_hold : Hold → Bool
+is_free_hold Has = false
+is_free_hold hold = true
 
 abbrev pub is_dialled : Hold → Bool
 is_dialled Is_called = true
@@ -79,7 +79,7 @@ where_so false link_state = None
 -- the link state after what was asked, where that could be
 abbrev pub moved : Event → Wire → LinkState → Option LinkState
 moved (Events.Listened None) wire link_state = Some link_state
-moved (Events.Listened (Some port)) wire link_state = where_so (is_free link_state.hold) (listening link_state)
+moved (Events.Listened (Some port)) wire link_state = where_so (is_free_hold link_state.hold) (listening link_state)
 moved (Events.Came host) wire link_state = where_so (is_dialled link_state.hold) (handed link_state)
 moved Events.NotCame wire link_state = Some link_state
 moved (Events.Connected endpoint) wire link_state = where_so (is_reached link_state.hold link_state.calls) (dialling link_state)
@@ -88,9 +88,9 @@ moved Events.Ended wire link_state = where_so (is_back link_state.hold link_stat
 moved Events.Reset wire link_state = where_so (is_back link_state.hold link_state.ended (is_ended wire.closed)) (left_so Has_lost wire.came.items wire.went.items link_state)
 moved Events.Shut wire link_state = Some link_state
 
-abbrev pub moved_on : Event → Wire → Option LinkState → Option LinkState
-moved_on event wire None = None
-moved_on event wire (Some link_state) = moved event wire link_state
+abbrev pub moved_where_known : Event → Wire → Option LinkState → Option LinkState
+moved_where_known event wire None = None
+moved_where_known event wire (Some link_state) = moved event wire link_state
 
 -- these move nothing
 abbrev pub MovesNothing : Event → Type 0
@@ -154,10 +154,10 @@ pub record Noted : Type 0 where
 
 abbrev pub noted_first : List (Found × Wire) → Noted
 noted_first [] = record { link_state = None; asked = [] }
-noted_first (found ∷ more) = record { link_state = Some (found_at found); asked = header (found_at found) }
+noted_first (found ∷ more) = record { link_state = Some (link_found_at found); asked = header (link_found_at found) }
 
 abbrev pub noted_next : Noted → Event × Wire → Noted
-noted_next noted next = record { link_state = moved_on next.0 next.1 noted.link_state; asked = told next.0 next.1 noted.link_state ∷ noted.asked }
+noted_next noted next = record { link_state = moved_where_known next.0 next.1 noted.link_state; asked = told next.0 next.1 noted.link_state ∷ noted.asked }
 
 abbrev pub noted_on : Noted → List (Event × Wire) → Noted
 noted_on noted [] = noted

@@ -1,7 +1,7 @@
 // Both ends take turns.
 ghost use Rattle.std.specs.Prelude.{◌≡◌, IsTrue};
-ghost use Rattle.ftp_pair_memory.specs.steps.Seating.{ends_of, held_at};
-ghost use Rattle.ftp_pair_memory.specs.steps.Taking.{Asks, Begins, FarTurns, NearTurns, Rounds, Settles};
+ghost use Rattle.ftp_pair_memory.specs.steps.Seating.{both_ends_of, held_at};
+ghost use Rattle.ftp_pair_memory.specs.steps.Taking.{AsksAnswered, Begins, FarTurns, NearTurns, Rounds, SettlesAnswer};
 ghost use Rattle.ftp_server_driver.specs.alone.Side.{timed};
 
 use crate::steps::slots::{Line, Slot};
@@ -34,7 +34,7 @@ where
     F: Far<A, T>,
     C: Watch,
     O: Watches<F>,
-    ensures { NearTurns result (ends_of (timed F.server C.told) N.client client.old server.old line.old) (ends_of (timed F.server C.told) N.client client.new server.new line.new) }
+    ensures { NearTurns result (both_ends_of (timed F.server C.told) N.client client.old server.old line.old) (both_ends_of (timed F.server C.told) N.client client.new server.new line.new) }
 {
     if !meet(&mut client.memory_end, &mut server.memory_end) {
         return Course::Off;
@@ -71,7 +71,7 @@ where
     F: Far<A, T>,
     C: Watch,
     O: Watches<F>,
-    ensures { FarTurns result (ends_of (timed F.server C.told) N.client client.old server.old line.old) (ends_of (timed F.server C.told) N.client client.new server.new line.new) }
+    ensures { FarTurns result (both_ends_of (timed F.server C.told) N.client client.old server.old line.old) (both_ends_of (timed F.server C.told) N.client client.new server.new line.new) }
 {
     if !meet(&mut server.memory_end, &mut client.memory_end) {
         return Course::Off;
@@ -108,7 +108,7 @@ where
     F: Far<A, T>,
     C: Watch,
     O: Watches<F>,
-    ensures { Rounds result (ends_of (timed F.server C.told) N.client client.old server.old line.old) (ends_of (timed F.server C.told) N.client client.new server.new line.new) }
+    ensures { Rounds result (both_ends_of (timed F.server C.told) N.client client.old server.old line.old) (both_ends_of (timed F.server C.told) N.client client.new server.new line.new) }
 {
     match server_turn::<A, T, N, F, C, O>(client, server, line, most) {
         Course::On => client_turn::<A, T, N, F, C, O>(client, server, line, most),
@@ -130,7 +130,7 @@ where
     F: Far<A, T>,
     C: Watch,
     O: Watches<F>,
-    ensures { Settles result (ends_of (timed F.server C.told) N.client client.old server.old line.old) (ends_of (timed F.server C.told) N.client client.new server.new line.new) }
+    ensures { SettlesAnswer result (both_ends_of (timed F.server C.told) N.client client.old server.old line.old) (both_ends_of (timed F.server C.told) N.client client.new server.new line.new) }
 {
     let mut silent: u64 = 0;
     for _ in 0..TURNS {
@@ -184,7 +184,7 @@ where
     O: Watches<F>,
     // Witness: `edits/an_operation_is_answered_that_was_not_begun`, `one_that_broke_off_is_answered`, `octets_that_nobody_heard_are_let_go`,
     // `a_turn_is_not_prepared`; what it leads to: `transfers_asked_are_the_direct_run`.
-    ensures { Asks op result (ends_of (timed F.server C.told) N.client client.old server.old line.old) (ends_of (timed F.server C.told) N.client client.new server.new line.new) }
+    ensures { AsksAnswered op result (both_ends_of (timed F.server C.told) N.client client.old server.old line.old) (both_ends_of (timed F.server C.told) N.client client.new server.new line.new) }
 {
     if !begin::<A, N>(client, op) {
         return None;

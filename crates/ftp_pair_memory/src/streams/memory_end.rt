@@ -27,7 +27,7 @@ impl Drop for MemoryEnd {
 }
 
 impl MemoryEnd {
-    ghost use Rattle.ftp_pair_memory.specs.streams.MemoryEnds.{IsFresh, IsKnown, Lifts, Lowers};
+    ghost use Rattle.ftp_pair_memory.specs.streams.MemoryEnds.{IsFresh, IsKnown, Lifts, LowersWire};
 
     /// There is none, and this host is at the other end; each read or write moves at most so many octets, of none one.
     pub fn new(alloc: Global, peer: Host, most: usize) -> MemoryEnd
@@ -65,7 +65,7 @@ impl MemoryEnd {
 
     /// Puts it back.
     fn lower(&mut self, wire: Wire)
-        ensures { Lowers wire self.old self.new }
+        ensures { LowersWire wire self.old self.new }
     {
         match self.stream.exchange(wire) {
             Ok(_none) => {}

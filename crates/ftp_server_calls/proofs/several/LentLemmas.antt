@@ -17,7 +17,7 @@ use Rattle.laws_server.proofs.several.SlotLemmas.{get-set_same}
 use Rattle.laws_server.specs.several.Several.{Slot, Several, Turn, called_as, lent_to, in_slot_again}
 use Rattle.laws_server.specs.several.Swapping.{lent, swapped}
 use Rattle.ftp_server_calls.specs.several.Lent.{Lent, InSlot}
-use Rattle.ftp_server_calls.specs.several.Slots.{GivesIn, Slots, Turned, slot_of, several_of}
+use Rattle.ftp_server_calls.specs.several.Slots.{GivesIn, Slots, SlotTurned, slot_of, several_of}
 
 -- what holds of an outcome, where more is known of each
 pub ok_goes : {X E : Type 0} → (P Q : X → Type 0) (r : Result X E) → ((x : X) → P x → Q x) → IfOk r P → IfOk r Q
@@ -83,7 +83,7 @@ lent_gives cue gift old new table left failures failed made calm steady read rea
     )
 
 -- among several sessions
-pub turned_gives : (turn : Turn) (gift : Gift) (old new : Slots) → Turned turn gift old new → GivesIn turn gift old new
+pub turned_gives : (turn : Turn) (gift : Gift) (old new : Slots) → SlotTurned turn gift old new → GivesIn turn gift old new
 turned_gives turn gift old new t = λ calm steady read reading.
     let refusals : InSlot → ℕ = λ s. s.server.counts.refusals in
     let one : Gift × View = call read turn.cue (lent_to old.table (slot_of t.before)) in

@@ -14,9 +14,9 @@ use Rattle.laws_server.proofs.several.SlotLemmas.{get-set_same}
 use Rattle.laws_server.specs.several.Company.{given_to_us}
 use Rattle.laws_server.specs.several.Several.{Slot, Several, Turn, called, called_as, given_to, left_by_all}
 use Rattle.ftp_server_calls.proofs.several.LentLemmas.{turned_gives}
-use Rattle.ftp_server_calls.specs.several.Playing.{AreTaken, EachIsOwn, IsCalm, KeepsCompany, PlaysSeveral, Takes, TakesSome, given_by, ours_of, told_at, turn_of, turns_of}
+use Rattle.ftp_server_calls.specs.several.Playing.{AreTaken, EachIsOwn, IsCalm, KeepsCompany, PlaysSeveral, Takes, TakesSome, gifts_by_turns, ours_of, told_at, turn_of, turns_of}
 use Rattle.ftp_server_calls.specs.several.Lent.{InSlot}
-use Rattle.ftp_server_calls.specs.several.Slots.{Slots, Turned, refusals_at, slot_of, several_of}
+use Rattle.ftp_server_calls.specs.several.Slots.{Slots, SlotTurned, refusals_at, slot_of, several_of}
 use Rattle.ftp_server_calls.specs.declared.several.playing.Turn.{Turn as Held}
 
 -- a turn in which nothing failed is that of the definitions
@@ -29,16 +29,16 @@ takes_gives turn gift old new (inr nobody) calm read is =
     here ∙ sym (ap (λ (who : Option Slot). called_as read turn.slot turn.cue who (several_of old)) free)
 
 -- what a turn gave, and then the rest
-given_on : (read : Reading) (turn : Turn) (gift : Gift) (s t : Several) (gifts : List Gift) (turns : List Turn) → (gift, t) ≡ called read turn s → gifts ≡ given_by read turns t
-    → gift ∷ gifts ≡ given_by read (turn ∷ turns) s
-unfolding given_by
+given_on : (read : Reading) (turn : Turn) (gift : Gift) (s t : Several) (gifts : List Gift) (turns : List Turn) → (gift, t) ≡ called read turn s → gifts ≡ gifts_by_turns read turns t
+    → gift ∷ gifts ≡ gifts_by_turns read (turn ∷ turns) s
+unfolding gifts_by_turns
 given_on read turn gift s t gifts turns both rest =
-    let tail : gifts ≡ given_by read turns (called read turn s).1 = rest ∙ ap (λ (x : Gift × Several). given_by read turns x.1) both in
+    let tail : gifts ≡ gifts_by_turns read turns (called read turn s).1 = rest ∙ ap (λ (x : Gift × Several). gifts_by_turns read turns x.1) both in
     λ i. (both i).0 ∷ tail i
 
 gave_as : (read : Reading) → IsReading read → (calm : ℕ) (turns : List Turn) (gifts : List Gift) (old new : Slots) → AreTaken calm turns gifts old new
-    → take calm gifts ≡ given_by read (take calm turns) (several_of old)
-unfolding given_by
+    → take calm gifts ≡ gifts_by_turns read (take calm turns) (several_of old)
+unfolding gifts_by_turns
 gave_as read is zero turns gifts old new made = refl
 gave_as read is (suc calm) [] gifts old new made = absurd made
 gave_as read is (suc calm) (turn ∷ turns) [] old new made = absurd made
@@ -66,14 +66,14 @@ plays_as calm turns gifts old new made = record {
 
 -- ---- what some of them are given
 
-ours_given : (read : Reading) (ours : ℕ → Bool) (turns : List Turn) (s : Several) → ours_of ours turns (given_by read turns s) ≡ given_to_us read ours turns s
-unfolding given_by ours_of given_to_us
+ours_given : (read : Reading) (ours : ℕ → Bool) (turns : List Turn) (s : Several) → ours_of ours turns (gifts_by_turns read turns s) ≡ given_to_us read ours turns s
+unfolding gifts_by_turns ours_of given_to_us
 ours_given read ours [] s = refl
 ours_given read ours (turn ∷ turns) s =
     ap (λ (l : List Gift). if ours turn.slot then (called read turn s).0 ∷ l else l) (ours_given read ours turns (called read turn s).1)
 
-own_given : (read : Reading) (slot : ℕ) (turns : List Turn) (s : Several) → ours_of (λ other. eqb other slot) turns (given_by read turns s) ≡ given_to read slot turns s
-unfolding given_by ours_of given_to
+own_given : (read : Reading) (slot : ℕ) (turns : List Turn) (s : Several) → ours_of (λ other. eqb other slot) turns (gifts_by_turns read turns s) ≡ given_to read slot turns s
+unfolding gifts_by_turns ours_of given_to
 own_given read slot [] s = refl
 own_given read slot (turn ∷ turns) s =
     ap (λ (l : List Gift). if eqb turn.slot slot then (called read turn s).0 ∷ l else l) (own_given read slot turns (called read turn s).1)
@@ -118,7 +118,7 @@ nobody_takes turn s before after free kept = record {
 }
 
 -- somebody has it: what a program is told of failures tells whether something failed, where no device strays
-pub somebody_takes : (turn : Turn) (gift : Gift) (old new : Slots) (before after : List Gift) (was is : Told) (is_calm : Bool) → Turned turn gift old new → after ≡ before ++ gift ∷ []
+pub somebody_takes : (turn : Turn) (gift : Gift) (old new : Slots) (before after : List Gift) (was is : Told) (is_calm : Bool) → SlotTurned turn gift old new → after ≡ before ++ gift ∷ []
     → was ≡ told_at turn.slot old → is ≡ told_at turn.slot new → old.failures.strays ≡ 0 → new.failures.strays ≡ 0 → (is_calm ≡ true → is ≡ was) → (is_calm ≡ false → is ≢ was)
     → OneMore Takes IsCalm is_calm turn before after old new
 somebody_takes turn gift old new before after was is is_calm turned kept told_old told_new sure_old sure_new same moved = record {

@@ -7,9 +7,9 @@ use Rattle.ftp_server_model.specs.Play.{Gift, Nothing}
 use Rattle.ftp_server_model.specs.declared.counts.Counts.{Counts as Told}
 use Rattle.ftp_server_calls.specs.one.Cues.{cue_of}
 use Rattle.ftp_server_calls.specs.one.Order.{CalmFirst}
-use Rattle.laws_server.specs.several.Company.{AreInSlot, IsCompany, TurnsAreAt, alone, given_to_us, our_turns}
+use Rattle.laws_server.specs.several.Company.{AreInSlot, IsCompany, TurnsAreAt, alone_below, given_to_us, our_turns}
 use Rattle.laws_server.specs.several.Several.{Slot, Several, Turn, called, calls_of, left_by_all, played_on}
-use Rattle.ftp_server_calls.specs.several.Slots.{Slots, Turned, refusals_at, several_of}
+use Rattle.ftp_server_calls.specs.several.Slots.{Slots, SlotTurned, refusals_at, several_of}
 use Rattle.ftp_server_calls.specs.declared.several.playing.Turn.{Turn as Held}
 
 -- turns of a program, as the definitions have them
@@ -29,7 +29,7 @@ pub record IsNobody (turn : Turn) (gift : Gift) (old new : Slots) : Type 0 where
 
 -- a turn gave this, and left this
 abbrev pub Takes : Turn → Gift → (old new : Slots) → Type 0
-Takes turn gift old new = Turned turn gift old new ⊎ IsNobody turn gift old new
+Takes turn gift old new = SlotTurned turn gift old new ⊎ IsNobody turn gift old new
 
 -- nothing failed in it: no growth was refused to the session in the slot, and the tree's device neither failed nor strayed
 abbrev pub IsCalm : Turn → (old new : Slots) → Type 0
@@ -54,13 +54,13 @@ pub record TakesSome (turns : List Turn) (old new : Slots) : Type 0 where
 -- ---- what the definitions say of them
 
 -- what turns give, one after another
-unfoldable pub given_by : Reading → List Turn → Several → List Gift
-given_by read [] s = []
-given_by read (turn ∷ turns) s = (called read turn s).0 ∷ given_by read turns (called read turn s).1
+unfoldable pub gifts_by_turns : Reading → List Turn → Several → List Gift
+gifts_by_turns read [] s = []
+gifts_by_turns read (turn ∷ turns) s = (called read turn s).0 ∷ gifts_by_turns read turns (called read turn s).1
 
 -- the first turns gave what the definitions of several sessions say; where these are all, so is what was left
 pub record PlaysSeveral (calm : ℕ) (turns : List Turn) (gifts : List Gift) (old new : Slots) : Type 0 where
-  pub gave : (read : Reading) → IsReading read → take calm gifts ≡ given_by read (take calm turns) (several_of old)
+  pub gave : (read : Reading) → IsReading read → take calm gifts ≡ gifts_by_turns read (take calm turns) (several_of old)
   pub left : (read : Reading) → IsReading read → calm ≡ length turns → several_of new ≡ left_by_all read turns (several_of old)
 
 -- what some of the sessions were given
@@ -81,4 +81,4 @@ abbrev pub KeepsCompany : (calm : ℕ) → List Turn → List Gift → Slots →
 KeepsCompany calm turns gifts old =
     (read : Reading) (root : Names) (ours : ℕ → Bool) (roots : ℕ → Names) → IsReading read → IsCompany root ours roots → AreInSlot roots (several_of old).slots
     → TurnsAreAt read roots (take calm turns) (several_of old)
-    → ours_of ours (take calm turns) (take calm gifts) ≡ given_to_us read ours (our_turns ours (take calm turns)) (alone root (several_of old))
+    → ours_of ours (take calm turns) (take calm gifts) ≡ given_to_us read ours (our_turns ours (take calm turns)) (alone_below root (several_of old))

@@ -20,8 +20,8 @@ pub record Slots : Type 0 where
 abbrev pub in_slot_of : {F : Type 0} → (F → Server) → Held F → InSlot
 in_slot_of server sits = record { server = server sits.server; stood = sits.stood }
 
-abbrev pub slots_of : {A T F : Type 0} → (T → Table) → (T → Failures) → (F → Server) → Sessions A T F → Slots
-slots_of table failures server s = record { table = table s.tree; failures = failures s.tree; slots = map (in_slot_of server) s.slots.items }
+abbrev pub slots_seen : {A T F : Type 0} → (T → Table) → (T → Failures) → (F → Server) → Sessions A T F → Slots
+slots_seen table failures server s = record { table = table s.tree; failures = failures s.tree; slots = map (in_slot_of server) s.slots.items }
 
 -- as the definitions of several sessions see them
 abbrev pub slot_of : InSlot → Slot
@@ -31,7 +31,7 @@ abbrev pub several_of : Slots → Several
 several_of s = record { table = s.table; slots = map slot_of s.slots }
 
 -- the session in a slot made a call with the one tree, and all other sessions stay
-pub record Turned (turn : Turn) (gift : Gift) (old new : Slots) : Type 0 where
+pub record SlotTurned (turn : Turn) (gift : Gift) (old new : Slots) : Type 0 where
   pub before : InSlot
   pub after : InSlot
   pub sits : slice_get old.slots turn.slot ≡ Some before

@@ -18,7 +18,7 @@ pub struct Turn<A: Allocator + Copy> {
 }
 
 impl<A: Allocator + Copy, T: SureTree<A>, F: Lends<A, T>> Sessions<A, T, F> {
-    ghost use Rattle.ftp_server_calls.specs.several.Slots.{slots_of};
+    ghost use Rattle.ftp_server_calls.specs.several.Slots.{slots_seen};
     ghost use Rattle.ftp_server_calls.specs.several.Playing.{AreTaken, EachIsOwn, IsCalm, KeepsCompany, PlaysSeveral, Takes, TakesSome, told_at, turn_of, turns_of};
 
     /// Makes all of these turns in order, and says what each gave and in how many of the first of them nothing failed. A turn of a slot that nobody
@@ -27,22 +27,22 @@ impl<A: Allocator + Copy, T: SureTree<A>, F: Lends<A, T>> Sessions<A, T, F> {
     /// Refused memory for what they give, the turns before stand.
     pub fn play(&mut self, turns: &[Turn<A>]) -> Result<Played<A>, AllocError>
         // Witness of made: as of `play`.
-        ensures made { IfOk result (λ played. AreTaken played.calm (turns_of turns.now) (gifts_of played.gifts.items) (slots_of T.table T.failures F.Far.server self.old) (slots_of T.table T.failures F.Far.server self.new)) }
+        ensures made { IfOk result (λ played. AreTaken played.calm (turns_of turns.now) (gifts_of played.gifts.items) (slots_seen T.table T.failures F.Far.server self.old) (slots_seen T.table T.failures F.Far.server self.new)) }
 
         // Up to the first turn in which something failed they give what the definitions of several sessions say.
         // Witness of plays: as of `play`.
-        ensures plays { IfOk result (λ played. PlaysSeveral played.calm (turns_of turns.now) (gifts_of played.gifts.items) (slots_of T.table T.failures F.Far.server self.old) (slots_of T.table T.failures F.Far.server self.new)) }
+        ensures plays { IfOk result (λ played. PlaysSeveral played.calm (turns_of turns.now) (gifts_of played.gifts.items) (slots_seen T.table T.failures F.Far.server self.old) (slots_seen T.table T.failures F.Far.server self.new)) }
 
         // Each session is given what a server of its own gives, whose map is exchanged before each of its calls.
         // Witness of own, unseen: equations of what is given.
-        ensures own { IfOk result (λ played. EachIsOwn played.calm (turns_of turns.now) (gifts_of played.gifts.items) (slots_of T.table T.failures F.Far.server self.old)) }
+        ensures own { IfOk result (λ played. EachIsOwn played.calm (turns_of turns.now) (gifts_of played.gifts.items) (slots_seen T.table T.failures F.Far.server self.old)) }
 
         // Those below one root see nothing of others below roots that have no path with it in common.
-        ensures unseen { IfOk result (λ played. KeepsCompany played.calm (turns_of turns.now) (gifts_of played.gifts.items) (slots_of T.table T.failures F.Far.server self.old)) }
+        ensures unseen { IfOk result (λ played. KeepsCompany played.calm (turns_of turns.now) (gifts_of played.gifts.items) (slots_seen T.table T.failures F.Far.server self.old)) }
 
         // Witness of begun: the same relations, for the turns that were made.
         // Witness of begun: the same relations, for the calls that were made.
-        ensures begun { OnErr result (TakesSome (turns_of turns.now) (slots_of T.table T.failures F.Far.server self.old) (slots_of T.table T.failures F.Far.server self.new)) }
+        ensures begun { OnErr result (TakesSome (turns_of turns.now) (slots_seen T.table T.failures F.Far.server self.old) (slots_seen T.table T.failures F.Far.server self.new)) }
     {
         let played = self.play_all(turns)?;
         Ok(played)
@@ -50,8 +50,8 @@ impl<A: Allocator + Copy, T: SureTree<A>, F: Lends<A, T>> Sessions<A, T, F> {
 
     /// Makes all turns in order.
     fn play_all(&mut self, turns: &[Turn<A>]) -> Result<Played<A>, AllocError>
-        ensures made { IfOk result (λ played. AreTaken played.calm (turns_of turns.now) (gifts_of played.gifts.items) (slots_of T.table T.failures F.Far.server self.old) (slots_of T.table T.failures F.Far.server self.new)) }
-        ensures begun { OnErr result (TakesSome (turns_of turns.now) (slots_of T.table T.failures F.Far.server self.old) (slots_of T.table T.failures F.Far.server self.new)) }
+        ensures made { IfOk result (λ played. AreTaken played.calm (turns_of turns.now) (gifts_of played.gifts.items) (slots_seen T.table T.failures F.Far.server self.old) (slots_seen T.table T.failures F.Far.server self.new)) }
+        ensures begun { OnErr result (TakesSome (turns_of turns.now) (slots_seen T.table T.failures F.Far.server self.old) (slots_seen T.table T.failures F.Far.server self.new)) }
     {
         let mut gifts = Vec::new(self.alloc);
         let mut calm = 0;
@@ -67,8 +67,8 @@ impl<A: Allocator + Copy, T: SureTree<A>, F: Lends<A, T>> Sessions<A, T, F> {
 
     /// Makes a turn, and keeps what it gave; says whether nothing failed in it.
     fn take_turn(&mut self, turn: &Turn<A>, gifts: &mut Vec<Gift<A>, A>) -> Result<bool, AllocError>
-        ensures next { IfOk result (λ is_calm. OneMore Takes IsCalm is_calm (turn_of turn.now) (gifts_of gifts.old.items) (gifts_of gifts.new.items) (slots_of T.table T.failures F.Far.server self.old) (slots_of T.table T.failures F.Far.server self.new)) }
-        ensures back { OnErr result (slots_of T.table T.failures F.Far.server self.new ≡ slots_of T.table T.failures F.Far.server self.old) }
+        ensures next { IfOk result (λ is_calm. OneMore Takes IsCalm is_calm (turn_of turn.now) (gifts_of gifts.old.items) (gifts_of gifts.new.items) (slots_seen T.table T.failures F.Far.server self.old) (slots_seen T.table T.failures F.Far.server self.new)) }
+        ensures back { OnErr result (slots_seen T.table T.failures F.Far.server self.new ≡ slots_seen T.table T.failures F.Far.server self.old) }
     {
         gifts.reserve(1)?;
         if turn.slot >= self.len() {
@@ -84,7 +84,7 @@ impl<A: Allocator + Copy, T: SureTree<A>, F: Lends<A, T>> Sessions<A, T, F> {
     /// The growths that were refused to the session in a slot, and the failures that the tree of all has counted.
     fn told(&self, slot: usize) -> Counts
         requires { slot < vec_len self.now.slots }
-        ensures { result ≡ told_at slot (slots_of T.table T.failures F.Far.server self.now) }
+        ensures { result ≡ told_at slot (slots_seen T.table T.failures F.Far.server self.now) }
     {
         Counts {
             refusals: self.slots[slot].server.counts().refusals,

@@ -28,7 +28,7 @@ pub struct Sessions<A: Allocator + Copy, T: Drop, F: Drop> {
 }
 
 impl<A: Allocator + Copy, T: Tree<A>, F: Lends<A, T>> Sessions<A, T, F> {
-    ghost use Rattle.ftp_server_calls.specs.several.Slots.{GivesIn, Turned, slots_of};
+    ghost use Rattle.ftp_server_calls.specs.several.Slots.{GivesIn, SlotTurned, slots_seen};
 
     /// No session yet, over this tree.
     pub fn new(alloc: A, tree: T) -> Sessions<A, T, F>
@@ -79,14 +79,14 @@ impl<A: Allocator + Copy, T: Tree<A>, F: Lends<A, T>> Sessions<A, T, F> {
         // The call is made as its clause of `Far` says, with the tree of all, and all else stays.
         // Witness of turned: relations, each the clause of its call, and equations of all else; `edits/a_tree_is_not_taken_back`,
         // `edits/a_tree_is_lent_to_two`, `edits/another_session_is_called`, `edits/what_others_changed_is_not_asked`.
-        ensures turned { IfOk result (λ gift. Turned (record { slot = slot; cue = cue_of cue.now }) (gift_of gift) (slots_of T.table T.failures F.Far.server self.old) (slots_of T.table T.failures F.Far.server self.new)) }
+        ensures turned { IfOk result (λ gift. SlotTurned (record { slot = slot; cue = cue_of cue.now }) (gift_of gift) (slots_seen T.table T.failures F.Far.server self.old) (slots_seen T.table T.failures F.Far.server self.new)) }
 
         // Where no growth was refused to the session, and the device of the tree did not fail or stray, it is the turn of the definitions.
         // Witness of gives: an equation, where nothing failed; `edits/a_call_has_an_old_map`.
-        ensures gives { IfOk result (λ gift. GivesIn (record { slot = slot; cue = cue_of cue.now }) (gift_of gift) (slots_of T.table T.failures F.Far.server self.old) (slots_of T.table T.failures F.Far.server self.new)) }
+        ensures gives { IfOk result (λ gift. GivesIn (record { slot = slot; cue = cue_of cue.now }) (gift_of gift) (slots_seen T.table T.failures F.Far.server self.old) (slots_seen T.table T.failures F.Far.server self.new)) }
 
         // Witness of back: an equation; `edits/a_tree_is_lent_before_there_is_room`.
-        ensures back { OnErr result (slots_of T.table T.failures F.Far.server self.new ≡ slots_of T.table T.failures F.Far.server self.old) }
+        ensures back { OnErr result (slots_seen T.table T.failures F.Far.server self.new ≡ slots_seen T.table T.failures F.Far.server self.old) }
     {
         let in_slot = &mut self.slots[slot];
         lent::<A, T, F>(self.alloc, in_slot, &mut self.tree, cue)

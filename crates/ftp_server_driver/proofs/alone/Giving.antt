@@ -12,7 +12,7 @@ use Rattle.ftp_server_model.proofs.CountLemmas.{same_counts}
 use Rattle.ftp_server_model.specs.Calls.{connection_of, given_by, given_step, is_done, takes_given, to_give, wants, wants_of, with_connection}
 use Rattle.ftp_server_model.specs.Failing.{GiveFails, KeepsCourse, Late, LineFails, WaitingFails}
 use Rattle.ftp_server_model.specs.Far.{Server, Steps}
-use Rattle.ftp_server_model.specs.Heard.{code_in, turn_of}
+use Rattle.ftp_server_model.specs.Heard.{code_in, turn_of_line}
 use Rattle.ftp_server_model.specs.Machine.{completed, faulted, given_out, is_idle, obeyed, turned, waited}
 use Rattle.ftp_server_model.specs.Replies.{fixed_reply, reply_octets, said_octets}
 use Rattle.ftp_server_model.specs.View.{Transfer, View}
@@ -55,7 +55,7 @@ then_on v said mid w first on = (said ++ on.0, on.1 ∙ ap (λ l. l ++ on.0) fir
 obeyed_on : (heard : HeardLine (List ℕ)) (v : View) → OwesOn v (obeyed heard v)
 unfolding obeyed
 obeyed_on heard v =
-    let turn = turn_of heard v in
+    let turn = turn_of_line heard v in
     let mid : View = turned turn v in
     then_on v (said_octets turn.0 turn.1) mid (completed mid) refl (given_out_on mid.session.connection mid)
 

@@ -8,7 +8,7 @@ use Rattle.ftp_ports.specs.Actions.{Stand}
 use Rattle.ftp_server_driver.specs.alone.Side.{server_side}
 use Rattle.laws_server.proofs.several.SlotLemmas.{get-set_other, get-set_same}
 use Rattle.ftp_server_driver.proofs.shared.Whole.{one_drive}
-use Rattle.ftp_server_driver.specs.shared.Sharing.{EachIsOneDrive, Event, Happened, Looks, Shared, Turns, TurnsIn, turns_in}
+use Rattle.ftp_server_driver.specs.shared.Sharing.{EachIsOneDrive, SharingEvent, SharingHappened, Looks, Shared, Turns, TurnsIn, turns_in}
 use Rattle.ftp_server_driver.specs.shared.Turning.{AreTurns, Turn, told_by}
 
 -- who sits in a slot, and took these turns since
@@ -51,7 +51,7 @@ either_slot slot other turn turns first mid now told sits turned (inr differ) =
     (other_slot slot other turn turns first mid now differ.1 sits turned)
 
 -- each session took its turns one after another
-sits : (events : List Event) (start now : Shared) (slot : ℕ) (first : Stand server_side) → Happened events start now → slice_get start.slots slot ≡ Some first
+sits : (events : List SharingEvent) (start now : Shared) (slot : ℕ) (first : Stand server_side) → SharingHappened events start now → slice_get start.slots slot ≡ Some first
     → Sits slot (turns_in slot events) first now
 unfolding Sits
 sits [] start now slot first happened at = (first, ap (λ (s : Shared). slice_get s.slots slot) happened ∙ at, refl)

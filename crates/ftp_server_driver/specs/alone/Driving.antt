@@ -22,8 +22,8 @@ abbrev pub IsOver : Stand server_side → Type 0
 IsOver stand = wants stand.owner.end.server.view ≡ CloseAll
 
 -- it is found to be so
-abbrev pub IsDone : (old new : Timed) → Type 0
-IsDone old new = (new ≡ old) × (wants old.server.view ≡ CloseAll)
+abbrev pub IsFoundDone : (old new : Timed) → Type 0
+IsFoundDone old new = (new ≡ old) × (wants old.server.view ≡ CloseAll)
 
 -- all that the server said was written, and it heard all that was read but for what is not heard yet; it is done with the control
 -- connection, and its data connection was left last

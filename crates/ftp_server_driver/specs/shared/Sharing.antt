@@ -12,9 +12,9 @@ pub record Shared : Type 0 where
   pub slots : List (Stand server_side)
 
 -- a session takes a turn; or the tree becomes another, since it is looked at anew
-pub data Event : Type 0 where
-  Turns : (slot : ℕ) → (turn : Turn) → Event
-  Looks : (tree : Holding) → Event
+pub data SharingEvent : Type 0 where
+  Turns : (slot : ℕ) → (turn : Turn) → SharingEvent
+  Looks : (tree : Holding) → SharingEvent
 
 -- the session in a slot takes a turn: it is lent the tree that stands, and what it gives back stands from then on; all other sessions stay
 pub record TurnsIn (slot : ℕ) (turn : Turn) (old new : Shared) : Type 0 where
@@ -27,31 +27,31 @@ pub record TurnsIn (slot : ℕ) (turn : Turn) (old new : Shared) : Type 0 where
   pub others : new.slots ≡ slice_set old.slots slot after
 
 -- what each does
-abbrev pub Happens : Event → (old new : Shared) → Type 0
-Happens (Turns slot turn) old new = TurnsIn slot turn old new
-Happens (Looks tree) old new = new ≡ record old { tree = tree }
+abbrev pub SharingHappens : SharingEvent → (old new : Shared) → Type 0
+SharingHappens (Turns slot turn) old new = TurnsIn slot turn old new
+SharingHappens (Looks tree) old new = new ≡ record old { tree = tree }
 
 -- the turns of the session in a slot, in the same order
-abbrev pub turns_in : ℕ → List Event → List Turn
+abbrev pub turns_in : ℕ → List SharingEvent → List Turn
 turns_in slot [] = []
 turns_in slot (Looks tree ∷ before) = turns_in slot before
 turns_in slot (Turns other turn ∷ before) = if eqb other slot then turn ∷ turns_in slot before else turns_in slot before
 
 -- a turn is told what the last one of the same session told, whatever happened since
-abbrev pub IsTold : Event → (before : List Event) → Type 0
-IsTold (Turns slot turn) before = turn.stood ≡ told_by (turns_in slot before)
-IsTold (Looks tree) before = ⊤
+abbrev pub IsTurnTold : SharingEvent → (before : List SharingEvent) → Type 0
+IsTurnTold (Turns slot turn) before = turn.stood ≡ told_by (turns_in slot before)
+IsTurnTold (Looks tree) before = ⊤
 
 -- events, the last one first
-abbrev pub Happened : List Event → (start now : Shared) → Type 0
-Happened [] start now = now ≡ start
-Happened (event ∷ before) start now = (mid : Shared) × Happened before start mid × Happens event mid now × IsTold event before
+abbrev pub SharingHappened : List SharingEvent → (start now : Shared) → Type 0
+SharingHappened [] start now = now ≡ start
+SharingHappened (event ∷ before) start now = (mid : Shared) × SharingHappened before start mid × SharingHappens event mid now × IsTurnTold event before
 
 -- Whatever the others do: all turns of a session are one drive, in which its tree is exchanged for the one that stands when it is its turn. It begins where
 -- no octets of a data connection are on their way or in hand, and takes no turn once its drive is over or broke off
 abbrev pub EachIsOneDrive : Type 0
 EachIsOneDrive =
-    (events : List Event) (start now : Shared) (slot : ℕ) (first : Stand server_side) (turn : Turn) (before : List Turn)
-    → Happened events start now → slice_get start.slots slot ≡ Some first → first.owner.channel.unwritten ≡ [] → first.owner.channel.untold ≡ []
+    (events : List SharingEvent) (start now : Shared) (slot : ℕ) (first : Stand server_side) (turn : Turn) (before : List Turn)
+    → SharingHappened events start now → slice_get start.slots slot ≡ Some first → first.owner.channel.unwritten ≡ [] → first.owner.channel.untold ≡ []
     → turns_in slot events ≡ turn ∷ before → AllGoOn before
     → (last : Stand server_side) × (slice_get now.slots slot ≡ Some last) × IsOneDrive turn before first last

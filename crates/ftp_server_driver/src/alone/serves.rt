@@ -4,7 +4,7 @@ ghost use Rattle.ftp_ports.specs.Asking.{Adds};
 ghost use Rattle.ftp_server_model.specs.Calls.{clock_step};
 ghost use Rattle.ftp_server_model.specs.Far.{Acts, Hears};
 ghost use Rattle.ftp_server_model.specs.Machine.{may_hear};
-ghost use Rattle.ftp_server_driver.specs.alone.Driving.{IsDone};
+ghost use Rattle.ftp_server_driver.specs.alone.Driving.{IsFoundDone};
 ghost use Rattle.ftp_server_driver.specs.alone.Side.{Timely, ends_line, rest_told, server_machine, timed};
 
 use crate::alone::clocked::{Clocked, Watches};
@@ -37,7 +37,7 @@ where
 
     ghost here = { timed F.server C.told };
 
-    ghost last = { λ over old new. IsDone old new };
+    ghost last = { λ over old new. IsFoundDone old new };
 
     ghost goes_on = { tt };
 

@@ -22,10 +22,10 @@ abbrev pub Mirrors : Option Table → Table → Type 0
 Mirrors kept table = (its : Table) → kept ≡ Some its → its ≡ table
 
 -- what it keeps has nothing at a path below a root, if what it keeps is known
-abbrev pub IsFree : (kept : Option Table) → (root path : Names) → Type 0
-IsFree kept root path = (its : Table) → kept ≡ Some its → node_at (under its root) path ≡ None
+abbrev pub IsPathFree : (kept : Option Table) → (root path : Names) → Type 0
+IsPathFree kept root path = (its : Table) → kept ≡ Some its → node_at (under its root) path ≡ None
 
 -- A file is written over what stands in the folder only where the map has something at that path too: where the map has nothing, it is written
 -- where nothing stands, so what came into the folder meanwhile is not replaced.
 abbrev pub SparesUnknown : Table → (kept : Option Table) → (root path : Names) → Type 0
-SparesUnknown table kept root path = node_at (under table root) path ≡ None → IsFree kept root path
+SparesUnknown table kept root path = node_at (under table root) path ≡ None → IsPathFree kept root path

@@ -1,7 +1,7 @@
 // A folder outside memory, as a mirrored tree uses it.
 ghost use Rattle.std.specs.Prelude.{◌≡◌, ℕ, Option, OnErr, OnOk, true};
 ghost use Rattle.ftp_tree.specs.Tree.{Table, freed, installed, made, moved, removed};
-ghost use Rattle.ftp_tree_memory.specs.trees.Folder.{HasFailed, IsFree, IsKept, changed_below};
+ghost use Rattle.ftp_tree_memory.specs.trees.Folder.{HasFailed, IsPathFree, IsKept, changed_below};
 
 use crate::trees::content::Content;
 use ftp_facts::Moment;
@@ -101,6 +101,6 @@ pub trait Folder: Drop {
         // Witness of done, failed: as of `make_dir`.
         ensures done { OnOk result (IsKept (changed_below root.now (λ part. installed part path.now content.now moment.seconds)) (kept self.old) (kept self.new) (failures self.old) (failures self.new)) }
         // Witness of free: of a folder: `put` and `install` of `Mirror`, whose clause `spares` needs it.
-        ensures free { OnOk result (IsFree (kept self.old) root.now path.now) }
+        ensures free { OnOk result (IsPathFree (kept self.old) root.now path.now) }
         ensures failed { OnErr result (HasFailed (kept self.old) (kept self.new) (failures self.old) (failures self.new)) };
 }

@@ -4,7 +4,7 @@ ghost use Rattle.ftp_tree.specs.Change.{IsDone, IsRefused, Refuses, Tells, never
 ghost use Rattle.ftp_tree.specs.Sound.{IsSoundTree};
 ghost use Rattle.ftp_tree.specs.Tree.{freed, installed, made, moved, octets_or_none, removed, under, with_part};
 ghost use Rattle.ftp_tree.specs.Tree.{delete_refusal, install_refusal, make_refusal, onto_refusal, remove_refusal, rename_refusal};
-ghost use Rattle.ftp_tree_memory.specs.trees.Folder.{IsFree, IsKept, Mirrors, SparesUnknown, changed_below};
+ghost use Rattle.ftp_tree_memory.specs.trees.Folder.{IsPathFree, IsKept, Mirrors, SparesUnknown, changed_below};
 
 use crate::trees::content::Content;
 use crate::trees::device::Folder;
@@ -478,7 +478,7 @@ fn put_new<A: Allocator + Copy, B: Allocator + Copy, C: Allocator + Copy, D: Fol
     ensures tree { OnOk result (tree.new ≡ with_part tree.old root.now (installed (under tree.old root.now) path.now content.old moment.seconds)) }
     ensures taken { OnOk result (content.new ≡ []) }
     ensures kept { OnOk result (IsKept (changed_below root.now (λ part. installed part path.now content.old moment.seconds)) (D.kept folder.old) (D.kept folder.new) (D.failures folder.old) (D.failures folder.new)) }
-    ensures free { OnOk result (IsFree (D.kept folder.old) root.now path.now) }
+    ensures free { OnOk result (IsPathFree (D.kept folder.old) root.now path.now) }
     ensures same { OnErr result ((tree.new ≡ tree.old) × (content.new ≡ content.old) × (D.kept folder.new ≡ D.kept folder.old)) }
     ensures fault { IfErr result (λ fault. Refuses None fault (never_strayed (D.failures folder.old)) (never_strayed (D.failures folder.new))) }
 {

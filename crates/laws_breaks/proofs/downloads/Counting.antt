@@ -9,7 +9,7 @@ use Rattle.ftp_client_model.specs.View.{Receiving}
 use Rattle.ftp_client_model.specs.declared.client.Abort.TheVariants as Aborts
 use Rattle.ftp_client_model.specs.declared.client.Ending.TheVariants as Endings
 use Rattle.ftp_pieces.specs.Machine.{after}
-use Rattle.ftp_mode.specs.Block.{count_of as count_in, has}
+use Rattle.ftp_mode.specs.Block.{block_count as count_in, has}
 use Rattle.ftp_mode.specs.Count.{next}
 use Rattle.ftp_mode.specs.Fault.{is_no_length}
 use Rattle.ftp_mode.specs.Reading.{Place, Reading, after_block, at_head, at_high, at_low, data_begins, ended, escaped, failed, going, inside, marker_begins, marking, outside, place_step, plain, read_step, reader}

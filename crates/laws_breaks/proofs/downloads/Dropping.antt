@@ -17,7 +17,7 @@ use Rattle.ftp_server_model.specs.declared.session.ServerLink.TheVariants as Dat
 use Rattle.laws_world.specs.Claims.{Beginning, IsFair, state_of}
 use Rattle.laws_world.specs.World.{Broken, Mark, World, marked_last}
 use Rattle.laws_agreement.proofs.Chunks.{both_empty}
-use Rattle.laws_drivers.specs.control.Alone.{ClientIsCalm, reported_by, reports_in}
+use Rattle.laws_drivers.specs.control.Alone.{ClientIsCalm, reports_of, reports_in}
 use Rattle.laws_drivers.specs.events.Moments.{AreMoments, begun_at, begun_by, number_in}
 use Rattle.laws_drivers.specs.control.Between.{Between, CanTurn, Client as ByClient, Has_lost}
 use Rattle.laws_drivers.proofs.world.Moves.{take_front}
@@ -39,7 +39,7 @@ use Rattle.laws_transfers.proofs.EitherEnd.{AreAlike}
 use Rattle.laws_transfers.proofs.Known.{AreCarried}
 use Rattle.laws_transfers.proofs.Lost.{is_lost}
 use Rattle.laws_transfers.proofs.Running.{aborted_halts}
-use Rattle.laws_breaks.specs.downloads.Actions.{ClientSuffers, Marks}
+use Rattle.laws_breaks.specs.downloads.Actions.{ClientSuffers, MayMarkBreak}
 use Rattle.laws_breaks.specs.downloads.Claims.{ReportAlike}
 use Rattle.laws_transfers.proofs.Aborted.{aborted_ends}
 use Rattle.laws_breaks.proofs.downloads.Aborted.{Waits, halt_waits}
@@ -186,7 +186,7 @@ module _ (read : Reading) (reads : IsReading read) (moments : ℕ → ℕ) (time
       -- so it does on, where a step of one that was not told is known
       drops_on : (was : Held Client) → Again read reads moments timed b fair (action ∷ actions) (unbroken next) count server (beside was new) w.marks
           → Awaiting was.end.view → new.owner.end.view ≡ told was.end.view → next.near ≡ Has_lost → Leftover new.owner.channel
-          → ((marks : List (List Mark)) → Marks action client.owner marks marks)
+          → ((marks : List (List Mark)) → MayMarkBreak action client.owner marks marks)
           → IsPlainBy Unsent was.end.view
           → Drops (Then action client.owner Are) (action ∷ actions) next count server new
       drops_on was got awaiting view hold channel none unsent = record {
@@ -206,7 +206,7 @@ module _ (read : Reading) (reads : IsReading read) (moments : ℕ → ℕ) (time
 
       -- nothing is done of one that was not told
       idles_on : beside d.was new ≡ beside d.was client → unbroken next ≡ unbroken between
-          → begun_by (moments (number_in actions)) action ≡ [] → reported_by action ≡ []
+          → begun_by (moments (number_in actions)) action ≡ [] → reports_of action ≡ []
           → Again read reads moments timed b fair (action ∷ actions) (unbroken next) count server (beside d.was new) w.marks
       idles_on same ways begins reports =
           subst (λ (c : Stand client_side). Again read reads moments timed b fair (action ∷ actions) (unbroken next) count server c w.marks) (sym same)

@@ -36,7 +36,7 @@ use Rattle.laws_agreement.specs.Over.{OverRuns}
 use Rattle.laws_agreement.specs.PeekStages.{AtHalt, Gave, Gives as Halting, Halt, Halted, Halts}
 use Rattle.laws_agreement.specs.Rising.{Closing, Declined, Lift, Offered, Risen, Rising, Settled, Shut, Unjoined, Vanished, held, lift_passes}
 use Rattle.laws_agreement.specs.Runs.{IsFetching}
-use Rattle.laws_agreement.specs.Stages.{Answers, Aside as LeavesAside, AtFetch, Awaits, Carries, Closed, Course, Dialled, Dials, Dismissed, Early, Ended, Given, Giving, Holds, IsLasting, Leaving, LinkLeft, LinkOpen, LinkParting, Lost, PortAsked, PortDenied, PortSaid, PortTaken, PortTold, PortWanted, Ported, Refusing, Restarts, Retrieves, Rises, Severed, Tells, Unaccepted, Unclosed, Unopened, behind_opening, early_far, far_link, gives_on, heard_by, is_passing, replied_of, replies_in, tie_of}
+use Rattle.laws_agreement.specs.Stages.{Answers, Aside as LeavesAside, AtFetch, Awaits, Carries, Closed, Course, Dialled, Dials, Dismissed, Early, Ended, Given, Giving, Holds, IsLasting, Leaving, LinkLeft, LinkOpen, LinkParting, Lost, PortAsked, PortDenied, PortSaid, PortTaken, PortTold, PortWanted, Ported, Refusing, Restarts, Retrieves, Rises, Severed, Tells, Unaccepted, Unclosed, Unopened, replies_behind_opening, early_far, far_link, gives_on, heard_by, is_passing, replied_of, replies_in, tie_of}
 use Rattle.laws_agreement.proofs.FetchRuns.{pushed_client, serving_first}
 use Rattle.laws_agreement.proofs.FetchServed.{leads_still}
 use Rattle.laws_agreement.proofs.Rests.{near_form}
@@ -82,7 +82,7 @@ pub record Gives (orders : List Order) (w : World) : Type 0 where
   pub base : Near
   pub held : List ℕ
   pub near : w.near ≡ near.hears (downloading loads.op (replied_of (heard_by begun)) loads.decoder loads.mark (calm base)) held
-  pub row : FlowsRow (behind_opening (heard_by begun) []) held (w.control_to_client ++ w.far.owed)
+  pub row : FlowsRow (replies_behind_opening (heard_by begun) []) held (w.control_to_client ++ w.far.owed)
   pub link : w.link ≡ Opened
   pub quiet : w.control_to_server ≡ []
 

@@ -7,7 +7,7 @@ use Rattle.ftp_ports.specs.Channel.{Channel}
 use Rattle.ftp_ports.specs.Machine.{Aside, Break, Closed, End, Failed, Gave, Got, Left, LetGo, MayLeave, Opened, Received, Refused, Waited, Wrote, awaits, leaves, seen}
 use Rattle.ftp_ports.specs.declared.whole.Fate.{Fate}
 use Rattle.ftp_ports.specs.declared.whole.Fate.TheVariants as Fates
-use Rattle.ftp_client_driver.specs.Side.{Reporting, Starting, client_side, is_under_way}
+use Rattle.ftp_client_driver.specs.Side.{Reporting, Starting, client_side, is_operation_under_way}
 use Rattle.ftp_client_model.specs.Calls as near
 use Rattle.ftp_client_model.specs.Calls.{hears, is_sound, may_hear, receives}
 use Rattle.ftp_client_model.specs.Plan.{count_of}
@@ -22,14 +22,14 @@ use Rattle.laws_world.specs.Claims.{Beginning, IsFair}
 use Rattle.laws_world.specs.World.{Mark, World}
 use Rattle.laws_agreement.proofs.Chunks.{cuts}
 use Rattle.laws_drivers.proofs.world.Moves.{take_front}
-use Rattle.laws_drivers.specs.control.Alone.{reported_by}
+use Rattle.laws_drivers.specs.control.Alone.{reports_of}
 use Rattle.laws_drivers.specs.events.Moments.{AreMoments, begun_at, begun_by, number_in}
 use Rattle.laws_drivers.specs.control.Between.{Between, CanTurn, Client as ByClient, Has_ended, Hold}
 use Rattle.laws_drivers.proofs.events.Holding.{both, is_sound as is_whole}
 use Rattle.laws_drivers.proofs.events.Plain.{IsPlainBy, hears_plain}
 use Rattle.laws_transfers.proofs.Called.{BreaksNone}
 use Rattle.laws_transfers.proofs.Known.{AreCarried}
-use Rattle.laws_breaks.specs.downloads.Actions.{ClientSuffers, Marks}
+use Rattle.laws_breaks.specs.downloads.Actions.{ClientSuffers, MayMarkBreak}
 use Rattle.laws_breaks.proofs.downloads.Feeding.{Gives}
 use Rattle.laws_breaks.proofs.downloads.Lagging.{OfMarks, Then}
 use Rattle.laws_breaks.proofs.downloads.Last.{LastAll}
@@ -99,7 +99,7 @@ module _ (read : Reading) (reads : IsReading read) (moments : ℕ → ℕ) (time
     seen_same channel q is = ap (λ x. seen x channel) is
 
     module _ (action : Action client_side) (next : Between) (new : Stand client_side) (calm : new.owner.end.refusals ≡ client.owner.end.refusals)
-        (hold : next.far ≡ between.far) (unmarked : (marks : List (List Mark)) → Marks action client.owner marks marks)
+        (hold : next.far ≡ between.far) (unmarked : (marks : List (List Mark)) → MayMarkBreak action client.owner marks marks)
         (begins : begun_by (moments (number_in actions)) action ≡ []) where
       -- it goes on, where a step of one that heard nothing of it is known
       goes_on : (view : Near) (queue heard : List ℕ)
@@ -138,7 +138,7 @@ module _ (read : Reading) (reads : IsReading read) (moments : ℕ → ℕ) (time
 
       -- nothing is done of one that heard nothing of it
       idles : new.owner.channel ≡ client.owner.channel → behind next ≡ behind between
-          → reported_by action ≡ []
+          → reports_of action ≡ []
           → Again read reads moments timed b fair (action ∷ actions) (behind next) count p.were (unaware p.refusals n p.queue new.owner.channel) w.marks
       idles channel same reports =
           subst (λ (l : Channel). Again read reads moments timed b fair (action ∷ actions) (behind next) count p.were (unaware p.refusals n p.queue l) w.marks)
@@ -148,7 +148,7 @@ module _ (read : Reading) (reads : IsReading read) (moments : ℕ → ℕ) (time
 
       -- it holds the same
       stays : new.owner.end.view ≡ c → new.owner.channel ≡ client.owner.channel → behind next ≡ behind between
-          → new.unheard ++ next.control.to_client ≡ client.unheard ++ between.control.to_client → reported_by action ≡ []
+          → new.unheard ++ next.control.to_client ≡ client.unheard ++ between.control.to_client → reports_of action ≡ []
           → P (Then action client.owner Are) (action ∷ actions) next count server new
       stays view channel same queue reports =
           goes_on n p.queue p.heard (idles channel same reports) p.unsent (view ∙ p.view) (p.split ∙ ap (λ o. p.heard ++ o) (sym queue)) p.late
@@ -276,10 +276,10 @@ module _ (read : Reading) (reads : IsReading read) (moments : ℕ → ℕ) (time
         whole : is_whole client.owner.channel.fate ≡ true
         whole = whole_now read reads moments timed b fair actions carried between count server client p
 
-        busy : is_under_way c.job ≡ true
-        busy = ap (λ (v : Near). is_under_way v.job) now.is
+        busy : is_operation_under_way c.job ≡ true
+        busy = ap (λ (v : Near). is_operation_under_way v.job) now.is
 
-        by : (fate : Fate) → client.owner.channel.fate ≡ fate → MayLeave (is_under_way c.job ≡ false) (near.wants c) fate → ⊥
+        by : (fate : Fate) → client.owner.channel.fate ≡ fate → MayLeave (is_operation_under_way c.job ≡ false) (near.wants c) fate → ⊥
         by Fates.Sound is may = elim may [ inl leaving ↦ true≢false (sym leaving ∙ ap leaves now_wants) | inr done ↦ both busy done ]
         by Fates.Failed is may = both busy may
         by Fates.Broken is may = both whole (ap is_whole is)
@@ -348,7 +348,7 @@ module _ (read : Reading) (reads : IsReading read) (moments : ℕ → ℕ) (time
     follows (Other (Left (Reset left written))) unbroken next new is can did = absurd (leaves_not (Reset left written) new did)
     follows (Other (Left Shut)) unbroken next new is can did = absurd (leaves_not Shut new did)
     follows (Other Closed) unbroken next new is can did =
-        absurd (wants_not Want.CloseData refl (did.0.2 (ap (λ (v : Near). is_sound v.standing) now.is) (ap (λ (v : Near). is_under_way v.job) now.is)))
+        absurd (wants_not Want.CloseData refl (did.0.2 (ap (λ (v : Near). is_sound v.standing) now.is) (ap (λ (v : Near). is_operation_under_way v.job) now.is)))
     follows (Other Failed) unbroken next new is can did =
         let then_stand : Stand client_side = unaware p.refusals n p.queue new.owner.channel in
         goes_on (Other Failed) next new is.1 (ap (λ (m : Between). m.far) can) (λ marks. refl) refl n p.queue p.heard

@@ -22,7 +22,7 @@ use Rattle.ftp_server_model.specs.declared.session.ServerLink.TheVariants as Dat
 use Rattle.laws_world.specs.Claims.{Beginning, IsFair, state_of}
 use Rattle.laws_world.specs.World.{Broken, Mark, World, marked_last}
 use Rattle.laws_agreement.proofs.Chunks.{both_empty}
-use Rattle.laws_drivers.specs.control.Alone.{ClientIsCalm, reported_by}
+use Rattle.laws_drivers.specs.control.Alone.{ClientIsCalm, reports_of}
 use Rattle.laws_drivers.specs.events.Moments.{AreMoments, begun_at, begun_by, number_in}
 use Rattle.laws_drivers.specs.control.Between.{Between, CanTurn, Client as ByClient, Has, Has_lost, Near as TheClient, with_hold}
 use Rattle.laws_drivers.proofs.world.Moves.{take_front}
@@ -35,7 +35,7 @@ use Rattle.laws_transfers.proofs.ClientTaking.{taking_is}
 use Rattle.laws_transfers.specs.Refusals.{ClientTries}
 use Rattle.laws_transfers.proofs.Known.{AreCarried, is_giving}
 use Rattle.laws_transfers.proofs.Simulating.{asks, known, runs}
-use Rattle.laws_breaks.specs.downloads.Actions.{ClientSuffers, HasTaken, Marks}
+use Rattle.laws_breaks.specs.downloads.Actions.{ClientSuffers, HasTaken, MayMarkBreak}
 use Rattle.laws_breaks.proofs.downloads.ClientBroken.{broken_plain, broken_sound, client_broken}
 use Rattle.laws_breaks.proofs.downloads.Faults.{Loads, faulted_plain, loads_taken}
 use Rattle.laws_breaks.proofs.downloads.Feeding.{Feeding, is_final, pushed_gives, world_feeds}
@@ -97,7 +97,7 @@ OfMarks = List (List Mark) → Type 0
 
 -- of those that an action of the client makes
 abbrev pub Then : Action client_side → Held Client → OfMarks → OfMarks
-Then action at Are marks = (old : List (List Mark)) × Are old × Marks action at old marks
+Then action at Are marks = (old : List (List Mark)) × Are old × MayMarkBreak action at old marks
 
 abbrev is_nothing : Wants → Bool
 is_nothing Want.Nothing = true
@@ -220,7 +220,7 @@ module _ (read : Reading) (reads : IsReading read) (moments : ℕ → ℕ) (time
       -- so it lags on, where a step of one that was not told is known
       lags_on : (was : Held Client) → Again read reads moments timed b fair (action ∷ actions) (unbroken next) count server (beside was new) w.marks
           → Loading was.end.view → new.owner.end.view ≡ told was.end.view → next.near ≡ Has_lost → Leftover new.owner.channel
-          → ((marks : List (List Mark)) → Marks action client.owner marks marks)
+          → ((marks : List (List Mark)) → MayMarkBreak action client.owner marks marks)
           → ((came : ℕ) → HasTaken was.end.view.job came → HasTaken n.job came) → IsPlainBy Unsent was.end.view → StaysFresh next new
           → Lags (Then action client.owner Are) (action ∷ actions) next count server new
       lags_on was got loads view hold channel none back unsent fresh = record {
@@ -247,7 +247,7 @@ module _ (read : Reading) (reads : IsReading read) (moments : ℕ → ℕ) (time
 
       -- nothing is done of one that was not told
       idles_on : beside l.was new ≡ beside l.was client → unbroken next ≡ unbroken between
-          → begun_by (moments (number_in actions)) action ≡ [] → reported_by action ≡ []
+          → begun_by (moments (number_in actions)) action ≡ [] → reports_of action ≡ []
           → Again read reads moments timed b fair (action ∷ actions) (unbroken next) count server (beside l.was new) w.marks
       idles_on same ways begins reports =
           subst (λ (c : Stand client_side). Again read reads moments timed b fair (action ∷ actions) (unbroken next) count server c w.marks) (sym same)

@@ -16,7 +16,7 @@ use Rattle.ftp_reply.specs.declared.code.TheConstants.{BROKEN, MARK, NO_CONNECTI
 use Rattle.ftp_wire.specs.Decoder.{Decoder, decoded_octet, octet_says}
 use Rattle.ftp_client_model.specs.Calls as near
 use Rattle.ftp_client_model.specs.Calls.{data_fault, event_taken, events_taken, hears, hears_octet, is_sound, line_taken, link_wants, receives, wants}
-use Rattle.ftp_client_model.specs.Dialogue.{answered, answers_once_over, carries_on, finishes_read, is_refusal, judged, judged_reply, marked_flow, sends_abort, with_reply}
+use Rattle.ftp_client_model.specs.Dialogue.{answered, answers_once_over, carries_on, finishes_read, is_refusal_code, judged, judged_reply, marked_flow, sends_abort, with_reply}
 use Rattle.ftp_client_model.specs.Octets.{broken_answer, content_answer, has_settled, last_mark, settled_of}
 use Rattle.ftp_client_model.specs.Plan.{count_of}
 use Rattle.ftp_client_model.specs.Replies.{Closing, Completion, Displaced, Intermediate, Negative, Preliminary, Verdict, verdict_of}
@@ -182,7 +182,7 @@ module _ (op : Op (List ℕ)) where
 
   pub judges : (code : ℕ) (flow : Flow) → has_settled (count_of op) flow ≡ false
       → (answer : Said) × (judged Endings.Broken Aborts.Unsent code op flow ≡ Some answer)
-  judges code flow few = by (is_refusal code) (code == NO_CONNECTION) (code == BROKEN)
+  judges code flow few = by (is_refusal_code code) (code == NO_CONNECTION) (code == BROKEN)
     where
       cut : Bool → Option Said
       cut enough = if enough then content_answer op (settled_of flow) else Some (broken_answer flow)

@@ -6,7 +6,7 @@ use Rattle.ftp_ports.specs.Actions.{Calls, Action, Done, Other, Stand}
 use Rattle.ftp_ports.specs.Channel.{Channel, with_fate}
 use Rattle.ftp_ports.specs.Machine.{Break, Failed, Left, MayLeave}
 use Rattle.ftp_ports.specs.declared.whole.Fate.TheVariants as Fates
-use Rattle.ftp_client_driver.specs.Side.{client_side, is_under_way}
+use Rattle.ftp_client_driver.specs.Side.{client_side, is_operation_under_way}
 use Rattle.ftp_client_model.specs.Calls as near
 use Rattle.ftp_client_model.specs.Calls.{control_end, report_of}
 use Rattle.ftp_client_model.specs.Dialogue.{is_unsent}
@@ -37,7 +37,7 @@ use Rattle.laws_transfers.proofs.Known.{AreCarried, is_giving}
 use Rattle.laws_transfers.proofs.Lost.{is_lost}
 use Rattle.laws_transfers.proofs.Reaching.{serving_near}
 use Rattle.laws_breaks.specs.downloads.Claims.{ReportAlike}
-use Rattle.laws_breaks.specs.downloads.Actions.{AsksAll, ClientSuffers, HasTaken, IsToldShort, IsYielding, Marks, ServerYields}
+use Rattle.laws_breaks.specs.downloads.Actions.{AsksAll, ClientSuffers, HasTaken, IsToldShort, IsYielding, MayMarkBreak, ServerYields}
 use Rattle.laws_breaks.proofs.downloads.BothBroken.{broke, sends_far}
 use Rattle.laws_breaks.proofs.downloads.ClientBroken.{broken_channel}
 use Rattle.laws_breaks.proofs.downloads.Drained.{BreaksNot, dried, dried_step, dried_told}
@@ -70,8 +70,8 @@ short_on (Other Break) unbroken actions at = absurd unbroken
 short_on action unbroken actions at = inr tt
 
 -- what an action but a break marks is of no matter to what the client holds
-marks_same : (action : Action client_side) → BreaksNone action → (at other : client_side.End) (old new : List (List Mark)) → Marks action at old new
-    → Marks action other old new
+marks_same : (action : Action client_side) → BreaksNone action → (at other : client_side.End) (old new : List (List Mark)) → MayMarkBreak action at old new
+    → MayMarkBreak action other old new
 marks_same (Other Break) unbroken at other old new is = absurd unbroken
 marks_same action unbroken at other old new is = is
 
@@ -282,9 +282,9 @@ module _ (read : Reading) (reads : IsReading read) (moments : ℕ → ℕ) (time
           → Kept (Then (Other (Left (Reset left written))) old.owner Are) (Other (Left (Reset left written)) ∷ actions) q (listened_in before) server new
       resets_there left written is can did =
           let c : Common old.owner.end.view e.other = common old.owner.end.view e.other e.broke.apart in
-          let may : MayLeave (is_under_way e.other.job ≡ false) (near.wants e.other) old.owner.channel.fate =
-          subst (λ w. MayLeave (is_under_way e.other.job ≡ false) w old.owner.channel.fate) (sym c.wants)
-          (subst (λ j. MayLeave (is_under_way j ≡ false) (near.wants old.owner.end.view) old.owner.channel.fate) (sym c.job) did.0.2.0) in
+          let may : MayLeave (is_operation_under_way e.other.job ≡ false) (near.wants e.other) old.owner.channel.fate =
+          subst (λ w. MayLeave (is_operation_under_way e.other.job ≡ false) w old.owner.channel.fate) (sym c.wants)
+          (subst (λ j. MayLeave (is_operation_under_way j ≡ false) (near.wants old.owner.end.view) old.owner.channel.fate) (sym c.job) did.0.2.0) in
           let after : Stand client_side = with_view e.other new in
           let does : Calls {side = client_side} (Left (Reset left written)) there after =
           ((ap (λ (x : Member). record x { view = e.other }) did.0.0, did.0.1, (may, did.0.2.1, tt)), ap (with_view e.other) did.1) in

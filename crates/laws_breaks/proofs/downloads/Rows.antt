@@ -19,7 +19,7 @@ use Rattle.laws_dialogues.specs.Stage.{calm}
 use Rattle.laws_world.specs.Agreement.{Order}
 use Rattle.laws_world.specs.World.{World}
 use Rattle.laws_agreement.specs.Cut.{FlowsRow}
-use Rattle.laws_agreement.specs.Stages.{behind_opening, heard_by, replied_of}
+use Rattle.laws_agreement.specs.Stages.{replies_behind_opening, heard_by, replied_of}
 use Rattle.laws_breaks.specs.downloads.Late.{downloading}
 use Rattle.laws_breaks.proofs.downloads.Feeding.{Gives}
 use Rattle.laws_breaks.proofs.downloads.Late.{IsFew, down, goes_open}
@@ -105,7 +105,7 @@ module _ (begun : List Order) (w : World) (g : Gives begun w) where
       behind : coming ++ breaking ≡ heard ++ rest
       behind = append_assoc w.control_to_client w.far.owed breaking ∙ is
 
-      by : (begun : Bool) → w.near ≡ hears (base (replied_of (heard_by begun))) g.held → FlowsRow (behind_opening (heard_by begun) []) g.held coming
+      by : (begun : Bool) → w.near ≡ hears (base (replied_of (heard_by begun))) g.held → FlowsRow (replies_behind_opening (heard_by begun) []) g.held coming
           → Steady g.loads.op d g.loads.mark (hears w.near heard)
       by true near row =
           subst (Steady g.loads.op d g.loads.mark) (sym (ap (λ v. hears v heard) (near ∙ ap (hears (base Replies.Begun)) row.0)))

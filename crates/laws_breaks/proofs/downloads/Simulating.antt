@@ -36,7 +36,7 @@ use Rattle.laws_transfers.proofs.Known.{AreCarried, Known, both_carried, is_near
 use Rattle.laws_transfers.proofs.Lost.{with_lost}
 use Rattle.laws_transfers.proofs.Simulating.{asks, known, never}
 use Rattle.ftp_server_model.specs.declared.session.ServerLink.TheVariants as Data
-use Rattle.laws_breaks.specs.downloads.Actions.{AsksAll, ClientSuffers, HasTaken, IsShort, IsToldAfter, Marks, ServerYields, SuffersAlong}
+use Rattle.laws_breaks.specs.downloads.Actions.{AsksAll, ClientSuffers, HasTaken, IsShort, IsToldAfter, MayMarkBreak, ServerYields, SuffersAlong}
 use Rattle.laws_breaks.proofs.downloads.BothTold.{told_after, told_first, told_last}
 use Rattle.laws_breaks.proofs.downloads.ClientBroken.{broken_closing, broken_channel, broken_plain, broken_sound, client_broken, closing_by, closing_plain, closing_sound}
 use Rattle.laws_breaks.proofs.downloads.Drained.{BreaksNot, IsLone, dried, dried_step, dried_told}
@@ -132,7 +132,7 @@ module _ (read : Reading) (reads : IsReading read) (moments : ℕ → ℕ) (time
     old_known = known read reads moments timed b fair actions p count server old _ o.at carried
 
     -- it goes on beside both
-    on : (action : Action client_side) (marks : List (List Mark)) → Marks action old.owner o.marks marks → (m : List (List Mark)) → m ≡ marks
+    on : (action : Action client_side) (marks : List (List Mark)) → MayMarkBreak action old.owner o.marks marks → (m : List (List Mark)) → m ≡ marks
         → Again read reads moments timed b fair (action ∷ actions) q count server new m → IsPlainBy Unsent new.owner.end.view
         → W (Then action old.owner Are) (action ∷ actions) q count server new
     on action marks marked m same got unsent =
@@ -278,7 +278,7 @@ module _ (read : Reading) (reads : IsReading read) (moments : ℕ → ℕ) (time
 
     -- as where none breaks
     pub steps_on : (action : Action client_side) → BreaksNone action → ClientSuffers action old.owner new.owner → ClientTries action old.owner new.owner
-        → Marks action old.owner o.marks (marked_by action o.marks) → CanTurn (Client action) p q → Done action old new
+        → MayMarkBreak action old.owner o.marks (marked_by action o.marks) → CanTurn (Client action) p q → Done action old new
         → W (Then action old.owner Are) (action ∷ actions) q count server new
     steps_on action unbroken is tries marks can did =
         on action (marked_by action o.marks) marks (marked_by action w.marks) (ap (marked_by action) o.marked)

@@ -15,7 +15,7 @@ use Rattle.ftp_server_model.specs.View.{Session, View as Far}
 use Rattle.laws_world.specs.Agreement.{Order}
 use Rattle.laws_world.specs.Claims.{Beginning, IsFair, world_of}
 use Rattle.laws_world.specs.World.{Mark}
-use Rattle.laws_drivers.specs.control.Alone.{ServerIsCalm, reported_by, reports_in}
+use Rattle.laws_drivers.specs.control.Alone.{ServerIsCalm, reports_of, reports_in}
 use Rattle.laws_drivers.specs.events.Moments.{AreMoments, IsToldAt, begun_at, begun_by, last_of, number_in}
 use Rattle.laws_drivers.specs.control.Between.{Between, CanTurn, Client, Has}
 use Rattle.laws_drivers.proofs.control.Worlds.{LeadsOn, leads_then}
@@ -47,7 +47,7 @@ module _ (read : Reading) (reads : IsReading read) (moments : ℕ → ℕ) (time
       {old : Stand client_side} (o : At actions between count server old) (marks : List (List Mark)) (next : Between) (new : Stand client_side) → Type 0
   Went action actions {between} {count} {server} {old} o marks next new =
       GoesTo read (begun_by (moments (number_in actions)) action) (orders_after (moments (number_in actions)) action (begun_at moments actions)) next count server new
-      (reports_in actions ++ reported_by action) marks o.world
+      (reports_in actions ++ reports_of action) marks o.world
 
   -- a world is beside both again, with these marks
   abbrev pub Again : (actions : List (Action client_side)) (between : Between) (count : ℕ) (server : Stand server_side) (client : Stand client_side)
@@ -64,7 +64,7 @@ module _ (read : Reading) (reads : IsReading read) (moments : ℕ → ℕ) (time
           leads = leads_then read begun (begun_by (moments (number_in actions)) action) (world_of b) o.world went.world o.leads went.leads;
           last = went.moment;
           ahead = went.ahead;
-          together = subst (λ l. Together read l went.moment went.ahead next count server new (reports_in actions ++ reported_by action) went.world)
+          together = subst (λ l. Together read l went.moment went.ahead next count server new (reports_in actions ++ reports_of action) went.world)
               (orders_are (moments (number_in actions)) action begun) went.together;
           serves = o.serves;
           plain = plain;
@@ -99,7 +99,7 @@ module _ (read : Reading) (reads : IsReading read) (moments : ℕ → ℕ) (time
 
   -- an action that begins and reports nothing, and does nothing
   pub idle_again : (action : Action client_side) (actions : List (Action client_side)) {between : Between} {count : ℕ} {server : Stand server_side}
-      {client : Stand client_side} (o : At actions between count server client) → begun_by (moments (number_in actions)) action ≡ [] → reported_by action ≡ []
+      {client : Stand client_side} (o : At actions between count server client) → begun_by (moments (number_in actions)) action ≡ [] → reports_of action ≡ []
       → Again (action ∷ actions) between count server client o.world.marks
   idle_again action actions {between} {count} {server} {client} o begins reports =
       let begun : begun_at moments (action ∷ actions) ≡ begun_at moments actions =

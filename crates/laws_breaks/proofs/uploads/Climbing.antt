@@ -21,7 +21,7 @@ use Rattle.ftp_server_model.specs.declared.session.ServerLink.{ServerLink}
 use Rattle.laws_world.specs.Agreement.{Order, Single, Tries}
 use Rattle.laws_world.specs.Events.{ControlToClient, is_closed_by_near, pushed}
 use Rattle.laws_world.specs.World.{ClosedByNear, Mark, Stands, World, counted}
-use Rattle.laws_dialogues.specs.Fetches.{Ask, IsAsk, IsSteady, Rise, busy, kept, linked}
+use Rattle.laws_dialogues.specs.Fetches.{Ask, IsAsk, IsSteadySession, Rise, busy, kept, linked}
 use Rattle.laws_dialogues.specs.Stage.{Answering, Asking, Way}
 use Rattle.laws_agreement.specs.Cut.{Cut, PlacedAt, world_at}
 use Rattle.laws_agreement.specs.Follows.{Phase}
@@ -133,7 +133,7 @@ module _ (read : Reading) (state : State) (ask : Ask) (good : IsAsk ask) (own : 
           (count : ℕ) → w.near.job ≡ sending ask.op replied left mark → s.base.came ≡ count → is_final replied ≡ false → lift_state state ask rise lift ≡ state
           → CameOver (lift_far state ask rise lift) state (sending ask.op replied left mark) count → Climbing ask.op w
       rises_so rise lift h replied left mark count job counts unfinal same came =
-          let steady : IsSteady state (kept s.base.near s.base.far) = subst (λ v. IsSteady v (kept s.base.near s.base.far)) same h.steady in
+          let steady : IsSteadySession state (kept s.base.near s.base.far) = subst (λ v. IsSteadySession v (kept s.base.near s.base.far)) same h.steady in
           record {
             replied = replied;
             left = left;

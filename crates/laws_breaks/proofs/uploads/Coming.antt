@@ -20,7 +20,7 @@ use Rattle.ftp_wire.proofs.DecoderLemmas.{decodes, what_is_settled}
 use Rattle.laws_world.specs.Outcome.{Stored, upload_of}
 use Rattle.laws_world.specs.World.{World, counted}
 use Rattle.laws_drivers.proofs.control.Taken.{idle_of}
-use Rattle.laws_dialogues.specs.Fetches.{Ask, HasUpload, IsSteady, Rise, kept, kept_of, over}
+use Rattle.laws_dialogues.specs.Fetches.{Ask, HasUpload, IsSteadySession, Rise, kept, kept_of, excess_of}
 use Rattle.laws_dialogues.specs.Uploads.{Note}
 use Rattle.laws_dialogues.proofs.Texts.{ReadsFar, decoded_grows, far_both, text_reads}
 use Rattle.laws_dialogues.proofs.Uploads.{kept_long}
@@ -57,7 +57,7 @@ module _ (state : State) (ask : Ask) (rise : Rise) (upload : HasUpload ask rise)
       (far_sound (no_octets ask.settings) came refl (far_both (no_octets ask.settings) came coming all).0 (omega (arith, few)))
 
   -- one that passes a limit is such a front of the operation's upload
-  rise_passes : is_some (over rise state (length content)) ≡ true → PassesLimit (upload_of state ask.op) state came
+  rise_passes : is_some (excess_of rise state (length content)) ≡ true → PassesLimit (upload_of state ask.op) state came
   rise_passes past =
       let k = upload.known_so state in
       let put : Stored = record { path = rise.path state; kept = kept_of rise state; start = k.start; octets = rise.octets; how = ask.how } in
@@ -79,7 +79,7 @@ module _ (state : State) (ask : Ask) (rise : Rise) (upload : HasUpload ask rise)
   rise_came true mark notes climbs replied left heard = (came, rise_passes (climbs.2 refl), refl)
 
 -- what the direct run sees of a steady session
-pub steady_direct : (state : State) (n : Near) (f : Far) → IsSteady state (kept n f) → state.known ≡ true → direct_of f.session ≡ state
+pub steady_direct : (state : State) (n : Near) (f : Far) → IsSteadySession state (kept n f) → state.known ≡ true → direct_of f.session ≡ state
 steady_direct state n f steady known =
     λ i. record { table = steady.table i; root = steady.root known i; cwd = steady.cwd i; known = sym known i; rights = steady.rights known i }
 

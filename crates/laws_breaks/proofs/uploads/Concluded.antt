@@ -10,7 +10,7 @@ use Rattle.ftp_path.specs.Path.{Names}
 use Rattle.ftp_server_model.specs.Calls.{break_step, breaks, is_upload}
 use Rattle.ftp_server_model.specs.Machine.{at_break, end_refusal, ends_by, breaks_off}
 use Rattle.ftp_server_model.specs.Replies.{fixed_reply}
-use Rattle.ftp_server_model.specs.Texts.{code_of}
+use Rattle.ftp_server_model.specs.Texts.{fixed_reply_code}
 use Rattle.ftp_server_model.specs.View.{Session, Transfer, View as Far}
 use Rattle.ftp_server_model.specs.Walk.{refusal_text}
 use Rattle.ftp_server_model.specs.declared.reply.FixedReply.{FixedReply}
@@ -44,10 +44,10 @@ transfer_shut moment (Transfers.Download rest) s = (refl, refl, refl)
 transfer_shut moment (Transfers.Listing rest) s = (refl, refl, refl)
 
 -- such a reply refuses
-transfer_refuses : (moment : ℕ) (transfer : Transfer) (s : Session) → verdict_of (code_of (at_break moment transfer s).1) ≡ Negative
+transfer_refuses : (moment : ℕ) (transfer : Transfer) (s : Session) → verdict_of (fixed_reply_code (at_break moment transfer s).1) ≡ Negative
 transfer_refuses moment (Transfers.Upload path keep d) s = off (is_overtaken keep)
   where
-    by_why : (why : Refusal) → verdict_of (code_of (refusal_text why)) ≡ Negative
+    by_why : (why : Refusal) → verdict_of (fixed_reply_code (refusal_text why)) ≡ Negative
     by_why Refusals.LocalFault = refl
     by_why Refusals.NoRoom = refl
     by_why Refusals.BadArgument = refl
@@ -58,11 +58,11 @@ transfer_refuses moment (Transfers.Upload path keep d) s = off (is_overtaken kee
     by_why Refusals.TooMuch = refl
     by_why Refusals.BadName = refl
 
-    by : (why : Option Refusal) → verdict_of (code_of (ends_by why moment path keep (broken d).content Texts.Broken s).1) ≡ Negative
+    by : (why : Option Refusal) → verdict_of (fixed_reply_code (ends_by why moment path keep (broken d).content Texts.Broken s).1) ≡ Negative
     by None = refl
     by (Some why) = by_why why
 
-    off : (late : Bool) → verdict_of (code_of (breaks_off late moment path keep d s).1) ≡ Negative
+    off : (late : Bool) → verdict_of (fixed_reply_code (breaks_off late moment path keep d s).1) ≡ Negative
     off true = refl
     off false = by (end_refusal path keep (broken d).content s)
 transfer_refuses moment Transfers.OverLimit s = refl
@@ -77,7 +77,7 @@ pub record Concludes (v : Far) : Type 0 where
   pub free : session.connection ≡ Data.Free
   pub life : session.life ≡ v.session.life
   pub unshut : session.closing ≡ v.session.closing
-  pub refuses : verdict_of (code_of text) ≡ Negative
+  pub refuses : verdict_of (fixed_reply_code text) ≡ Negative
 
 -- of a server that takes octets, and wants no close
 pub break_concludes : (v : Far) → v.session.closing ≡ false → is_upload v.session.connection ≡ true → Concludes v

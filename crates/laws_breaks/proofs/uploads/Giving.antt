@@ -17,7 +17,7 @@ use Rattle.ftp_reply.specs.Reader.{Between, Faulty, Gathered, GoesOn, Heard, Say
 use Rattle.ftp_reply.specs.Values.{mark_value}
 use Rattle.ftp_reply.specs.declared.code.TheConstants.{BROKEN, MARK, NO_CONNECTION}
 use Rattle.ftp_client_model.specs.Calls.{event_taken, events_taken, gives_data, hears, hears_octet, line_taken, wants}
-use Rattle.ftp_client_model.specs.Dialogue.{answered, carries_on, finishes_read, has_begun, is_refusal, judged, judged_reply, marked_flow, with_reply}
+use Rattle.ftp_client_model.specs.Dialogue.{answered, carries_on, finishes_read, has_begun, is_refusal_code, judged, judged_reply, marked_flow, with_reply}
 use Rattle.ftp_client_model.specs.Octets.{broken_answer, content_answer, has_settled, settled_of}
 use Rattle.ftp_client_model.specs.Plan.{count_of}
 use Rattle.ftp_client_model.specs.Replies.{Closing, Completion, Displaced, Intermediate, Negative, Preliminary, Verdict, verdict_of}
@@ -49,7 +49,7 @@ module _ (op : Op (List ℕ)) (all : count_of op ≡ None) where
 
   -- the answer after a final reply
   judges : (code : ℕ) (mark : Option ℕ) → (answer : Said) × (judged Endings.Ours Aborts.Unsent code op (Sending [] mark) ≡ Some answer)
-  judges code mark = by (is_refusal code) (code == NO_CONNECTION) (code == BROKEN)
+  judges code mark = by (is_refusal_code code) (code == NO_CONNECTION) (code == BROKEN)
     where
       flow : Flow
       flow = Sending [] mark

@@ -22,7 +22,7 @@ use Rattle.laws_world.specs.World.{Broken, ClosedByNear, Mark, World, marked_las
 use Rattle.laws_agreement.proofs.Chunks.{cuts}
 use Rattle.laws_drivers.proofs.world.Moves.{take_front}
 use Rattle.laws_drivers.proofs.world.Served.{rests}
-use Rattle.laws_drivers.specs.control.Alone.{reported_by}
+use Rattle.laws_drivers.specs.control.Alone.{reports_of}
 use Rattle.laws_drivers.specs.events.Moments.{AreMoments, begun_at, begun_by, last_of, number_in}
 use Rattle.laws_drivers.specs.control.Between.{Between, CanTurn, Client as ByClient}
 use Rattle.laws_drivers.proofs.control.Taken.{taken_none}
@@ -32,7 +32,7 @@ use Rattle.laws_drivers.proofs.events.Plain.{IsPlainBy, hears_plain}
 use Rattle.laws_transfers.proofs.Beside.{rested}
 use Rattle.laws_transfers.proofs.Known.{AreCarried, is_near_held}
 use Rattle.laws_transfers.proofs.Simulating.{asks}
-use Rattle.laws_breaks.specs.downloads.Actions.{Marks}
+use Rattle.laws_breaks.specs.downloads.Actions.{MayMarkBreak}
 use Rattle.laws_breaks.proofs.downloads.Drained.{dried}
 use Rattle.laws_breaks.proofs.downloads.Lagging.{OfMarks, Then}
 use Rattle.laws_breaks.proofs.downloads.Preceding.{behind, unaware}
@@ -92,7 +92,7 @@ module _ (read : Reading) (reads : IsReading read) (moments : ℕ → ℕ) (time
 
   module _ (action : Action client_side) (begins : begun_by (moments (number_in actions)) action ≡ []) (next : Between) (new : Stand client_side)
       (calm : new.owner.end.refusals ≡ old.owner.end.refusals) (hold : next.far ≡ p.far)
-      (unmarked : (marks : List (List Mark)) → Marks action old.owner marks marks) (number : number_in (action ∷ actions) ≡ number_in actions)
+      (unmarked : (marks : List (List Mark)) → MayMarkBreak action old.owner marks marks) (number : number_in (action ∷ actions) ≡ number_in actions)
       (stands : new.owner.channel.stands ≡ old.owner.channel.stands) where
     asked : AskAll (begun_at moments (action ∷ actions))
     asked = subst AskAll (sym (begun_same action begins)) puts
@@ -237,7 +237,7 @@ module _ (read : Reading) (reads : IsReading read) (moments : ℕ → ℕ) (time
     -- where one that heard nothing of it does nothing
     pub stays : new.owner.end.view ≡ c → new.owner.channel ≡ old.owner.channel → behind next ≡ behind p
         → new.unheard ++ next.control.to_client ≡ old.unheard ++ p.control.to_client
-        → reported_by action ≡ [] → After
+        → reports_of action ≡ [] → After
     stays view channel same queue reports =
         goes_on n l.queue l.heard
         (subst (λ (x : Channel). Again read reads moments timed b fair (action ∷ actions) (behind next) count were (unaware l.refusals n l.queue x) w.marks)

@@ -20,7 +20,7 @@ use Rattle.ftp_server_model.specs.declared.session.ServerLink.{ServerLink}
 use Rattle.ftp_server_model.specs.declared.session.ServerLink.TheVariants as Data
 use Rattle.laws_world.specs.Claims.{Beginning, IsFair}
 use Rattle.laws_world.specs.World.{World}
-use Rattle.laws_drivers.specs.control.Alone.{reported_by, reports_in}
+use Rattle.laws_drivers.specs.control.Alone.{reports_of, reports_in}
 use Rattle.laws_drivers.specs.events.Moments.{AreMoments, begun_at, begun_by, number_in}
 use Rattle.laws_drivers.specs.control.Between.{Between, CanTurn, Client as ByClient, Has, Has_ended, Has_lost, Hold, Is_called}
 use Rattle.laws_drivers.proofs.control.Taken.{taken, taken_wants}
@@ -34,7 +34,7 @@ use Rattle.laws_transfers.proofs.Beside.{Together, is_taking}
 use Rattle.laws_transfers.proofs.ClientStays.{client_keeps}
 use Rattle.laws_transfers.proofs.Known.{AreCarried, Known, is_giving, is_near_held}
 use Rattle.laws_transfers.proofs.Simulating.{known}
-use Rattle.laws_breaks.specs.downloads.Actions.{IsSuffering, Marks}
+use Rattle.laws_breaks.specs.downloads.Actions.{IsSuffering, MayMarkBreak}
 use Rattle.laws_breaks.proofs.downloads.Faults.{closing_same}
 use Rattle.laws_breaks.proofs.downloads.Lagging.{OfMarks, Then, Whole, feeding_at}
 use Rattle.laws_breaks.proofs.downloads.Simulating.{steps_on}
@@ -212,7 +212,7 @@ module _ (read : Reading) (reads : IsReading read) (moments : ℕ → ℕ) (time
 
     -- nothing is done of one that has left
     idles : (action : Action client_side) → new ≡ with_owner new.owner old → new.owner.end ≡ old.owner.end → lost q ≡ lost p
-        → begun_by (moments (number_in actions)) action ≡ [] → reported_by action ≡ [] → Marks action old.owner o.marks o.marks
+        → begun_by (moments (number_in actions)) action ≡ [] → reports_of action ≡ [] → MayMarkBreak action old.owner o.marks o.marks
         → new.owner.channel.stands ≡ old.owner.channel.stands → is_left q.far ≡ true → Leaves (Then action old.owner Are) (action ∷ actions) q count server new
     idles action is end ways begins reports marks stands far =
         let got = idle_again read reads moments timed b fair action actions o.at begins reports in

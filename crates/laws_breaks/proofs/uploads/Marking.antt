@@ -7,7 +7,7 @@ use Rattle.ftp_ends.specs.declared.link.Wants.{Wants}
 use Rattle.ftp_ends.specs.declared.link.Wants.TheVariants as Want
 use Rattle.ftp_server_driver.specs.alone.Side.{Timed, server_side}
 use Rattle.ftp_server_model.specs.Calls as far
-use Rattle.laws_drivers.specs.control.Alone.{reported_by, reports_in}
+use Rattle.laws_drivers.specs.control.Alone.{reports_of, reports_in}
 use Rattle.laws_drivers.specs.events.Moments.{begun_at, begun_by, number_in}
 use Rattle.laws_drivers.specs.control.Between.{Client as ByClient, Server as ByServer, Turn, client_actions, server_actions}
 use Rattle.laws_drivers.proofs.world.Known.{is_receive}
@@ -86,7 +86,7 @@ same_reports [] start now led = refl
 same_reports (ByServer (Other Break) ∷ before) start now led =
     cut_reports (far.wants led.0.owner.end.server.view) (marking before start led.0 led.1) ∙ same_reports before start led.0 led.1
 same_reports (ByServer action ∷ before) start now led = same_reports before start led.0 led.1
-same_reports (ByClient action ∷ before) start now led = ap (λ r. r ++ reported_by action) (same_reports before start now led)
+same_reports (ByClient action ∷ before) start now led = ap (λ r. r ++ reports_of action) (same_reports before start now led)
 
 -- ---- what was begun
 

@@ -7,7 +7,7 @@ use Rattle.ftp_ports.specs.Actions.{Calls, Action, Stand}
 use Rattle.ftp_ports.specs.Machine.{Left, MayLeave, leaves}
 use Rattle.ftp_ports.specs.declared.whole.Fate.{Fate}
 use Rattle.ftp_ports.specs.declared.whole.Fate.TheVariants as Fates
-use Rattle.ftp_client_driver.specs.Side.{client_side, is_under_way}
+use Rattle.ftp_client_driver.specs.Side.{client_side, is_operation_under_way}
 use Rattle.ftp_client_model.specs.Calls as near
 use Rattle.ftp_client_model.specs.Calls.{hears, is_busy, is_sound, may_hear, report_of}
 use Rattle.ftp_client_model.specs.Dialogue.{has_begun}
@@ -217,8 +217,8 @@ module _ (read : Reading) (reads : IsReading read) (moments : ℕ → ℕ) (time
   busy_now = ap is_busy ups.is
 
   -- its operation is under way
-  pub under_way : is_under_way c.job ≡ true
-  under_way = ap (λ (v : Near). is_under_way v.job) ups.is
+  pub under_way : is_operation_under_way c.job ≡ true
+  under_way = ap (λ (v : Near). is_operation_under_way v.job) ups.is
 
   -- it has not failed
   pub sound_now : is_sound c.standing ≡ true
@@ -275,7 +275,7 @@ module _ (read : Reading) (reads : IsReading read) (moments : ℕ → ℕ) (time
           by_whole false is =
               absurd (both (ap is_near_held (link_now read reads moments timed b fair actions puts p count server old l)) (l.at.together.keeping.over is))
 
-      by : (fate : Fate) → old.owner.channel.fate ≡ fate → MayLeave (is_under_way c.job ≡ false) (near.wants c) fate → ⊥
+      by : (fate : Fate) → old.owner.channel.fate ≡ fate → MayLeave (is_operation_under_way c.job ≡ false) (near.wants c) fate → ⊥
       by Fates.Sound is may = elim may [
         | inl leaving ↦ true≢false (sym leaving ∙ ap leaves c_wants ∙ up_leaves ups.replied)
         | inr done ↦ both under_way done

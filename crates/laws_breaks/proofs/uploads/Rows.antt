@@ -14,7 +14,7 @@ use Rattle.ftp_client_model.specs.declared.client.Replied.TheVariants as Replies
 use Rattle.ftp_client_model.proofs.RepliesInFlight.{reply_is_heard}
 use Rattle.ftp_operation.specs.declared.op.Op.{Op}
 use Rattle.ftp_server_model.specs.Replies.{fixed_reply}
-use Rattle.ftp_server_model.specs.Texts.{code_of}
+use Rattle.ftp_server_model.specs.Texts.{fixed_reply_code}
 use Rattle.ftp_server_model.specs.View.{Session}
 use Rattle.ftp_server_model.specs.declared.reply.FixedReply.{FixedReply}
 use Rattle.laws_agreement.proofs.Sessions.{fixed}
@@ -43,7 +43,7 @@ module _ (s : Session) (text : FixedReply) where
   reply = fixed_reply text
 
   module _ (op : Op (List ℕ)) (all : count_of op ≡ None) (first : ℕ) (more : List ℕ) (mark : Option ℕ) (n : Near)
-      (refuses : verdict_of (code_of text) ≡ Negative) where
+      (refuses : verdict_of (fixed_reply_code text) ≡ Negative) where
     abbrev up : Replied → Near
     up replied = uploading op replied (first ∷ more) mark (calm n)
 

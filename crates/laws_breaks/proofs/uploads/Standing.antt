@@ -21,7 +21,7 @@ use Rattle.laws_world.specs.Agreement.{Order}
 use Rattle.laws_world.specs.Claims.{Beginning, IsFair}
 use Rattle.laws_drivers.proofs.world.Moves.{drop_front, take_front}
 use Rattle.laws_drivers.specs.world.Ahead.{is_open}
-use Rattle.laws_drivers.specs.control.Alone.{reported_by, reports_in}
+use Rattle.laws_drivers.specs.control.Alone.{reports_of, reports_in}
 use Rattle.laws_drivers.specs.events.Moments.{AreMoments, begun_at, begun_by, number_in}
 use Rattle.laws_drivers.specs.control.Between.{Between}
 use Rattle.laws_drivers.proofs.events.FarForms.{none_later}
@@ -201,7 +201,7 @@ module _ (read : Reading) (reads : IsReading read) (moments : ℕ → ℕ) (time
   -- an action that begins and reports nothing is of no matter either
   pub undone : (action : Action client_side) (actions : List (Action client_side)) {between : Between} {count : ℕ} {server : Stand server_side}
       {client : Stand client_side} (o : At read reads moments timed b fair (action ∷ actions) between count server client)
-      → begun_by (moments (number_in actions)) action ≡ [] → reported_by action ≡ []
+      → begun_by (moments (number_in actions)) action ≡ [] → reports_of action ≡ []
       → Again read reads moments timed b fair actions between count server client o.world.marks
   undone action actions {between} {count} {server} {client} o begins reports =
       let begun : begun_at moments (action ∷ actions) ≡ begun_at moments actions =

@@ -38,7 +38,7 @@ use Rattle.laws_drivers.proofs.events.Holding.{both}
 use Rattle.laws_drivers.proofs.events.Plain.{IsPlain, IsPlainBy, IsPlainJob, Whatever, hears_plain}
 use Rattle.laws_transfers.proofs.Known.{AreCarried}
 use Rattle.laws_breaks.specs.downloads.Claims.{ReportAlike}
-use Rattle.laws_breaks.specs.downloads.Actions.{IsSuffering, Marks}
+use Rattle.laws_breaks.specs.downloads.Actions.{IsSuffering, MayMarkBreak}
 use Rattle.laws_breaks.proofs.downloads.Lagging.{OfMarks}
 use Rattle.laws_breaks.proofs.downloads.Preceding.{behind, unaware}
 use Rattle.laws_breaks.proofs.downloads.Steps.{Again, client_step, idle_again}
@@ -360,7 +360,7 @@ module _ (read : Reading) (reads : IsReading read) (moments : ℕ → ℕ) (time
   -- ---- where one that heard nothing of the reply does the same, and holds the same
 
   module _ (action : Action client_side) (next : Between) (new : Stand client_side) (calm : ClientIsCalm old.owner new.owner)
-      (begins : begun_by (moments (number_in actions)) action ≡ []) (unmarked : (marks : List (List Mark)) → Marks action old.owner marks marks)
+      (begins : begun_by (moments (number_in actions)) action ≡ []) (unmarked : (marks : List (List Mark)) → MayMarkBreak action old.owner marks marks)
       (number : number_in (action ∷ actions) ≡ number_in actions) (hold : next.far ≡ p.far) (view : new.owner.end.view ≡ c)
       (stands : new.owner.channel.stands ≡ old.owner.channel.stands) (other : new ≡ with_owner new.owner old)
       (ways : next.control.to_client ≡ p.control.to_client) where

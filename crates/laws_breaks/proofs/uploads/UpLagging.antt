@@ -26,7 +26,7 @@ use Rattle.laws_world.specs.Events.{ControlToClient, pushed}
 use Rattle.laws_world.specs.World.{ClosedByNear, Mark, Opened as IsOpened, World}
 use Rattle.laws_agreement.proofs.Chunks.{both_empty}
 use Rattle.laws_agreement.specs.Rising.{sending}
-use Rattle.laws_drivers.specs.control.Alone.{ClientIsCalm, reported_by}
+use Rattle.laws_drivers.specs.control.Alone.{ClientIsCalm, reports_of}
 use Rattle.laws_drivers.specs.events.Moments.{AreMoments, begun_at, begun_by, number_in}
 use Rattle.laws_drivers.specs.control.Between.{Between, CanTurn, Client as ByClient, Has_lost}
 use Rattle.laws_drivers.proofs.world.Moves.{take_front}
@@ -37,7 +37,7 @@ use Rattle.laws_transfers.proofs.Called.{BreaksNone, StaysFresh, near_fresh}
 use Rattle.laws_transfers.proofs.Known.{AreCarried, Known}
 use Rattle.laws_transfers.proofs.Simulating.{known, runs}
 use Rattle.laws_transfers.specs.Refusals.{ClientTries}
-use Rattle.laws_breaks.specs.downloads.Actions.{Marks}
+use Rattle.laws_breaks.specs.downloads.Actions.{MayMarkBreak}
 use Rattle.laws_breaks.proofs.downloads.Feeding.{is_final}
 use Rattle.laws_breaks.proofs.downloads.Lagging.{OfMarks, Then, beside, is_failed, unbroken}
 use Rattle.laws_breaks.proofs.downloads.Steps.{Again, At, client_step, idle_again}
@@ -181,7 +181,7 @@ module _ (read : Reading) (reads : IsReading read) (moments : ℕ → ℕ) (time
       -- so it lags on, where a step of one that was not told is known
       lags_on : (was : Held Client) → Again read reads moments timed b fair (action ∷ actions) (unbroken next) count server (beside was new) w.marks
           → Lifts was.end.view new.owner.end.view → (was.end.view.closing ≡ true → has_octets was.channel.unwritten ≡ true) → next.near ≡ Has_lost
-          → Spent new.owner.channel → ((marks : List (List Mark)) → Marks action client.owner marks marks) → IsPlainBy Unsent was.end.view → StaysFresh next new
+          → Spent new.owner.channel → ((marks : List (List Mark)) → MayMarkBreak action client.owner marks marks) → IsPlainBy Unsent was.end.view → StaysFresh next new
           → UpLags (Then action client.owner Are) (action ∷ actions) next count server new
       lags_on was got lifts due hold channel none unsent fresh = record {
         was = was;
@@ -206,7 +206,7 @@ module _ (read : Reading) (reads : IsReading read) (moments : ℕ → ℕ) (time
 
       -- nothing is done of one that was not told
       idles_on : beside l.was new ≡ beside l.was client → unbroken next ≡ unbroken between
-          → begun_by (moments (number_in actions)) action ≡ [] → reported_by action ≡ []
+          → begun_by (moments (number_in actions)) action ≡ [] → reports_of action ≡ []
           → Again read reads moments timed b fair (action ∷ actions) (unbroken next) count server (beside l.was new) w.marks
       idles_on same ways begins reports =
           subst (λ (c : Stand client_side). Again read reads moments timed b fair (action ∷ actions) (unbroken next) count server c w.marks) (sym same)

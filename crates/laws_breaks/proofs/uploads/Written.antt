@@ -1,7 +1,7 @@
 -- A client that is beside a world and was told that its data connection broke has no octet unwritten: so it stays, whatever it does.
 use Rattle.std.proofs.Common.{◌≡◌, Bool, true, false, true≢false, [], refl, sym, ap, ◌∙◌}
 use Rattle.ftp_ports.specs.Actions.{Action, Done, Ended, Heard, Other, Read, Said as Says, Stand}
-use Rattle.ftp_ports.specs.Channel.{Asks, Breaks, Ends, Fails, Gives, Channel, Leaves, Move, Moves, Notes, Opens, Reads, Stays, Stops, Takes, Waits, Writes}
+use Rattle.ftp_ports.specs.Channel.{Asks, Breaks, Ends, Fails, Gives, Channel, Leaves, Move, MovesChannel, Notes, Opens, Reads, Stays, Stops, Takes, Waits, Writes}
 use Rattle.ftp_ports.specs.Machine.{move_of}
 use Rattle.ftp_ports.specs.declared.whole.Fate.{Fate}
 use Rattle.ftp_ports.specs.declared.whole.Fate.TheVariants as Fates
@@ -28,7 +28,7 @@ module _ (old new : Channel) (written : IsWritten old) where
   as_before : new.fate ≡ old.fate → new.unwritten ≡ old.unwritten → IsWritten new
   as_before fate unwritten e = unwritten ∙ written (ap is_broken (sym fate) ∙ e)
 
-  move_written : (move : Move) → (is_breaking move ≡ true → old.unwritten ≡ []) → Moves move old new → IsWritten new
+  move_written : (move : Move) → (is_breaking move ≡ true → old.unwritten ≡ []) → MovesChannel move old new → IsWritten new
   move_written Stays none m = as_before (ap (λ (l : Channel). l.fate) m) (ap (λ (l : Channel). l.unwritten) m)
   move_written (Waits lost) none m = as_before m.holds.fate m.holds.unwritten
   move_written (Reads octets) none m = is_now Fates.Sound (m.fate ∙ m.is_open.1) refl

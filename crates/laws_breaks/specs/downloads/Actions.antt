@@ -20,7 +20,7 @@ use Rattle.laws_drivers.specs.events.Actions.{Along}
 use Rattle.laws_drivers.specs.control.Alone.{ClientIsCalm, ServerIsCalm}
 use Rattle.laws_drivers.specs.control.Between.{Between, Client as ByClient, Happened, Has_lost, Server as ByServer, Turn, client_actions, server_actions}
 use Rattle.laws_transfers.specs.Actions.{IsServing}
-use Rattle.laws_transfers.specs.Refusals.{IsTrying, marked_by}
+use Rattle.laws_transfers.specs.Refusals.{IsAskingOrRefused, marked_by}
 use Rattle.laws_world.specs.World.{Broken, Mark, marked_last}
 use Rattle.ftp_server_driver.specs.alone.Side.{Timed, server_side}
 use Rattle.ftp_server_model.specs.Calls as far
@@ -47,16 +47,16 @@ YieldsAlong actions start now led = Along ServerYields actions start now led
 -- what it begins asks for all, so that none is a Peek; a read of its data connection fails; it is told of the break of one that failed, of which no octet is
 -- unwritten, where it wants octets or is to close it; it resets one of which none is unwritten; else it does what it does where none breaks
 abbrev pub IsSuffering : Action client_side → Held Client → Type 0
-IsSuffering (Other (Aside (Starting op))) at = IsTrying (Other (Aside (Starting op))) at × (count_of op ≡ None)
+IsSuffering (Other (Aside (Starting op))) at = IsAskingOrRefused (Other (Aside (Starting op))) at × (count_of op ≡ None)
 IsSuffering (Other Failed) at = ⊤
 IsSuffering (Other Break) at =
     (at.channel.fate ≡ Fates.Failed) × (at.channel.unwritten ≡ []) × ((wants at.end.view ≡ Want.Receive) ⊎ (at.end.view.closing ≡ true))
 IsSuffering (Other (Left (Reset left written))) at = at.channel.unwritten ≡ []
-IsSuffering action at = IsTrying action at
+IsSuffering action at = IsAskingOrRefused action at
 
 -- what it begins may be a Peek; else it does what it does where it asks for all
 abbrev pub IsPeeking : Action client_side → Held Client → Type 0
-IsPeeking (Other (Aside (Starting op))) at = IsTrying (Other (Aside (Starting op))) at
+IsPeeking (Other (Aside (Starting op))) at = IsAskingOrRefused (Other (Aside (Starting op))) at
 IsPeeking action at = IsSuffering action at
 
 -- so it does, and it was not refused memory
@@ -124,12 +124,12 @@ HasTaken (Transferring op transfer) came = TakenBy transfer.abort transfer.flow 
 HasTaken job came = ⊥
 
 -- a break may mark the operation that was begun last: it broke after as many octets as the client had taken of it as it was told
-abbrev pub Marks : Action client_side → Held Client → (old new : List (List Mark)) → Type 0
-Marks (Other Break) at old new = (new ≡ old) ⊎ ((came : ℕ) × HasTaken at.end.view.job came × (new ≡ marked_last (Broken came) old))
-Marks action at old new = new ≡ marked_by action old
+abbrev pub MayMarkBreak : Action client_side → Held Client → (old new : List (List Mark)) → Type 0
+MayMarkBreak (Other Break) at old new = (new ≡ old) ⊎ ((came : ℕ) × HasTaken at.end.view.job came × (new ≡ marked_last (Broken came) old))
+MayMarkBreak action at old new = new ≡ marked_by action old
 
 -- those of actions, the last one first
 abbrev pub AreMarks : (actions : List (Action client_side)) (start now : Stand client_side) → Led actions start now → List (List Mark) → Type 0
 AreMarks [] start now led marks = marks ≡ []
 AreMarks (action ∷ before) start now led marks =
-    (old : List (List Mark)) × AreMarks before start led.0 led.1 old × Marks action led.0.owner old marks
+    (old : List (List Mark)) × AreMarks before start led.0 led.1 old × MayMarkBreak action led.0.owner old marks

@@ -13,7 +13,7 @@ use Rattle.laws_drivers.specs.events.Actions.{Along}
 use Rattle.laws_drivers.specs.control.Alone.{ClientIsCalm, ServerIsCalm}
 use Rattle.laws_drivers.specs.control.Between.{Client as ByClient, Server as ByServer, Turn, client_actions, server_actions}
 use Rattle.laws_drivers.specs.events.Moments.{last_of, number_in}
-use Rattle.laws_breaks.specs.downloads.Actions.{IsSuffering, IsYielding, Marks}
+use Rattle.laws_breaks.specs.downloads.Actions.{IsSuffering, IsYielding, MayMarkBreak}
 use Rattle.laws_breaks.specs.uploads.Coming.{HasCome}
 use Rattle.laws_world.specs.World.{Broken, Mark, marked_last}
 use Rattle.ftp_server_driver.specs.alone.Side.{Timed, server_side}
@@ -83,4 +83,4 @@ AreMarks (ByServer (Other Break) ∷ before) start now led client_start client c
 AreMarks (ByServer action ∷ before) start now led client_start client client_led marks =
     AreMarks before start led.0 led.1 client_start client client_led marks
 AreMarks (ByClient action ∷ before) start now led client_start client client_led marks =
-    (old : List (List Mark)) × AreMarks before start now led client_start client_led.0 client_led.1 old × Marks action client_led.0.owner old marks
+    (old : List (List Mark)) × AreMarks before start now led client_start client_led.0 client_led.1 old × MayMarkBreak action client_led.0.owner old marks

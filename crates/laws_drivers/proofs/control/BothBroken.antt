@@ -10,11 +10,11 @@ use Rattle.ftp_server_model.specs.View.{View as Far}
 use Rattle.ftp_tree.specs.Tree.{Table}
 use Rattle.laws_world.specs.Agreement.{Agrees, Order, Single}
 use Rattle.laws_world.specs.Claims.{AgreesAlways, state_of}
-use Rattle.laws_drivers.specs.control.Alone.{ClientAttends, ClientIsCalm, IsAsking, IsServing, ServerAttends, ServerIsCalm, begun_in, reports_in}
+use Rattle.laws_drivers.specs.control.Alone.{ClientAttends, ClientIsCalm, IsAskingAlone, IsServingAlone, ServerAttends, ServerIsCalm, begun_in, reports_in}
 use Rattle.laws_drivers.specs.control.Between.{client_actions}
 use Rattle.laws_drivers.specs.control.Broken.{DrivesBrokenAgree, said_last}
 use Rattle.laws_drivers.specs.control.Claims.{Did}
-use Rattle.laws_drivers.specs.control.Over.{actions_in, orders_of}
+use Rattle.laws_drivers.specs.control.Over.{actions_in, orders_at_moment}
 use Rattle.laws_drivers.specs.events.Answers.{answers_of}
 use Rattle.laws_drivers.proofs.control.Breaking.{clients_are_cut, servers_are_cut}
 use Rattle.laws_drivers.proofs.control.Concluding.{parting_agrees_by}
@@ -33,14 +33,14 @@ drives_broken_agree_by always reading b fair moment timed asked op answer server
     let midst : List (Action client_side) = Says (said_last over.client_broke.breaks) ∷ over.client_broke.breaks.actions in
     let before = actions_in asked over.client_start over.mid over.answered in
     let rest : List (Action client_side) = Other (Begun op) ∷ before in
-    let last : Goes IsAsking ClientIsCalm ClientAttends midst over.begun c.stood = (c.led, c.alone) in
-    let attends = starts_so IsAsking ClientIsCalm ClientAttends midst over.begun c.stood last in
+    let last : Goes IsAskingAlone ClientIsCalm ClientAttends midst over.begun c.stood = (c.led, c.alone) in
+    let attends = starts_so IsAskingAlone ClientIsCalm ClientAttends midst over.begun c.stood last in
     let first = answers_go asked over.client_start over.mid over.answered in
-    let begun : Goes IsAsking ClientIsCalm ClientAttends rest over.client_start over.begun =
+    let begun : Goes IsAskingAlone ClientIsCalm ClientAttends rest over.client_start over.begun =
     ((over.mid, first.0, over.starts), (first.1, tt, over.client_calm, attends)) in
-    let all = goes_then IsAsking ClientIsCalm ClientAttends midst rest over.client_start over.begun c.stood last begun in
-    let client = subst (λ d. Goes IsAsking ClientIsCalm ClientAttends d over.client_start c.stood) (sym over.client_is) all in
-    let serves = subst (λ d. Goes IsServing ServerIsCalm ServerAttends d over.server_start s.served) (sym over.server_is) (s.led, s.alone) in
+    let all = goes_then IsAskingAlone ClientIsCalm ClientAttends midst rest over.client_start over.begun c.stood last begun in
+    let client = subst (λ d. Goes IsAskingAlone ClientIsCalm ClientAttends d over.client_start c.stood) (sym over.client_is) all in
+    let serves = subst (λ d. Goes IsServingAlone ServerIsCalm ServerAttends d over.server_start s.served) (sym over.server_is) (s.led, s.alone) in
     let did : Did b over.turns over.between s.served c.stood = record {
       server_start = over.server_start;
       client_start = over.client_start;
@@ -52,7 +52,7 @@ drives_broken_agree_by always reading b fair moment timed asked op answer server
       asks = client.1;
     } in
     let agree = parting_agrees_by always reading b fair moment timed over.turns over.between s.served c.stood did in
-    let orders_now : List Order = orders_of moment ((op, answer) ∷ asked) in
+    let orders_now : List Order = orders_at_moment moment ((op, answer) ∷ asked) in
     let answers_now : List Said = answers_of ((op, answer) ∷ asked) in
     let orders : begun_in moment (client_actions over.turns) ≡ orders_now =
     ap (begun_in moment) over.client_is ∙ midst_begins moment midst rest (over.midst, tt)

@@ -20,7 +20,7 @@ use Rattle.laws_drivers.specs.control.Broken.{ClientsAreCut, ServersAreCut}
 use Rattle.laws_drivers.proofs.control.Moments.{IsStill, still_is}
 use Rattle.laws_drivers.proofs.control.Simulating.{ends_so}
 use Rattle.laws_drivers.proofs.control.Worlds.{wants_none, wants_owed}
-use Rattle.laws_drivers.specs.control.Alone.{ClientAttends, ClientIsCalm, IsAsking, IsServing, ServerIsCalm}
+use Rattle.laws_drivers.specs.control.Alone.{ClientAttends, ClientIsCalm, IsAskingAlone, IsServingAlone, ServerIsCalm}
 
 -- the first of the first octets of a list are its first
 firsts : (n count : ℕ) (owed : List ℕ) → (m : ℕ) × (take n (take count owed) ≡ take m owed)
@@ -108,7 +108,7 @@ servers_are_cut cause failed start now broke alone calm =
     let cuts = broke.breaks.cuts in
     let breaks = cuts.breaks in
     let mid = cuts.mid in
-    let attends = ends_so IsServing ServerIsCalm ServerAttends broke.breaks.actions start mid cuts.led alone in
+    let attends = ends_so IsServingAlone ServerIsCalm ServerAttends broke.breaks.actions start mid cuts.led alone in
     let same : breaks.given.end.server.counts ≡ mid.owner.end.server.counts = ap (λ (at : Timed). at.server.counts) (sym breaks.lets.0) ∙ calm in
     let f = server_front breaks.wrote.0 broke.breaks.last mid.owner breaks.given attends same breaks.gives in
     let says = server_says (take breaks.wrote.0 broke.breaks.last) f.count mid broke.off.written attends f.is breaks.wrote.2 in
@@ -177,7 +177,7 @@ clients_are_cut cause failed start now said broke alone =
     let breaks = cuts.breaks in
     let mid = cuts.mid in
     let up = broke.gave_up in
-    let attends = ends_so IsAsking ClientIsCalm ClientAttends broke.breaks.actions start mid cuts.led alone in
+    let attends = ends_so IsAskingAlone ClientIsCalm ClientAttends broke.breaks.actions start mid cuts.led alone in
     let f = client_front breaks.wrote.0 broke.breaks.last mid.owner breaks.given breaks.gives in
     let says = client_says (take breaks.wrote.0 broke.breaks.last) f.count mid now.written f.is breaks.wrote.2 in
     let closed = ap near.report_of (up.closes.0.0 ∙ ap (λ (c : Client). near.data_closed c.view) (up.keeps ∙ up.stays)) in

@@ -10,10 +10,10 @@ use Rattle.ftp_operation.specs.declared.op.Op.{Op}
 use Rattle.ftp_server_driver.specs.alone.Side.{server_side}
 use Rattle.ftp_server_model.specs.Machine.{ReadingExists}
 use Rattle.laws_world.specs.Claims.{AgreesAlways, state_of}
-use Rattle.laws_drivers.specs.control.Alone.{ClientAttends, ClientIsCalm, IsAsking, IsServing, ServerAttends, ServerIsCalm, Throughout, begun_in, reports_in}
+use Rattle.laws_drivers.specs.control.Alone.{ClientAttends, ClientIsCalm, IsAskingAlone, IsServingAlone, ServerAttends, ServerIsCalm, Throughout, begun_in, reports_in}
 use Rattle.laws_drivers.specs.control.Between.{Between, Can, Client, Far, Happened, Server, Turn, client_actions, server_actions}
 use Rattle.laws_drivers.specs.control.Claims.{Did}
-use Rattle.laws_drivers.specs.control.Over.{AreAnswered, AreMidst, DrivesOverAreTheDirectRun, IsAnswer, IsMidst, ServedToItsEnd, actions_in, orders_of}
+use Rattle.laws_drivers.specs.control.Over.{AreAnswered, AreMidst, DrivesOverAreTheDirectRun, IsAnswerAlone, IsMidst, ServedToItsEnd, actions_in, orders_at_moment}
 use Rattle.laws_drivers.specs.control.Touches.{touch_in}
 use Rattle.laws_drivers.specs.events.Actions as all
 use Rattle.laws_drivers.specs.events.Answers.{actions_of_drive, actions_of_server, answers_of}
@@ -44,18 +44,18 @@ module _ {side : Side} (Is : Action side → Type 0) (Keeps : (old new : side.En
 
 -- the actions of a client's drives
 pub answers_go : (asked : List (Op (List ℕ) × Said)) (start now : Stand client_side) (answered : AreAnswered asked start now)
-    → Goes IsAsking ClientIsCalm ClientAttends (actions_in asked start now answered) start now
+    → Goes IsAskingAlone ClientIsCalm ClientAttends (actions_in asked start now answered) start now
 answers_go [] start now answered = (answered.1, subst (λ (s : Stand client_side). ClientAttends s.owner) (sym answered.1) answered.0)
 answers_go (asked ∷ before) start now answered =
     let by = answered.1 in
     let a = by.2 in
     let alone = by.3 in
     let first = answers_go before start by.0 (answered.0, by.1) in
-    let drive : Goes IsAsking ClientIsCalm ClientAttends (actions_of_drive a.drove) a.begun now = (a.drove.did.sums.led, alone.asks) in
-    let attends = starts_so IsAsking ClientIsCalm ClientAttends (actions_of_drive a.drove) a.begun now drive in
-    let begun : Goes IsAsking ClientIsCalm ClientAttends (Other (Begun asked.0) ∷ actions_in before start by.0 (answered.0, by.1)) start a.begun =
+    let drive : Goes IsAskingAlone ClientIsCalm ClientAttends (actions_of_drive a.drove) a.begun now = (a.drove.did.sums.led, alone.asks) in
+    let attends = starts_so IsAskingAlone ClientIsCalm ClientAttends (actions_of_drive a.drove) a.begun now drive in
+    let begun : Goes IsAskingAlone ClientIsCalm ClientAttends (Other (Begun asked.0) ∷ actions_in before start by.0 (answered.0, by.1)) start a.begun =
     ((by.0, first.0, a.begins), (first.1, tt, alone.calm, attends)) in
-    goes_then IsAsking ClientIsCalm ClientAttends (actions_of_drive a.drove) _ start a.begun now drive begun
+    goes_then IsAskingAlone ClientIsCalm ClientAttends (actions_of_drive a.drove) _ start a.begun now drive begun
 
 -- ---- what they began and reported
 
@@ -71,7 +71,7 @@ midst_all : (actions : List (Action client_side)) → AreMidst actions → all.A
 midst_all [] midst = tt
 midst_all (action ∷ before) midst = (midst_all before midst.0, midst_one action midst.1)
 
-in_midst : InMidst IsAnswer
+in_midst : InMidst IsAnswerAlone
 in_midst op answer old new a alone = midst_all a.drove.did.actions alone.midst
 
 -- they begin none
@@ -84,13 +84,13 @@ midst_reports actions before midst = moments.midst_reports actions before (midst
 
 -- so the drives begin the operations
 pub orders_are : (moment : ℕ) (asked : List (Op (List ℕ) × Said)) (start now : Stand client_side) (answered : AreAnswered asked start now)
-    → begun_in moment (actions_in asked start now answered) ≡ orders_of moment asked
-orders_are moment asked start now answered = drives.orders_are IsAnswer in_midst (λ n. moment) asked start now answered.1
+    → begun_in moment (actions_in asked start now answered) ≡ orders_at_moment moment asked
+orders_are moment asked start now answered = drives.orders_are IsAnswerAlone in_midst (λ n. moment) asked start now answered.1
 
 -- and report their answers
 pub answers_are : (asked : List (Op (List ℕ) × Said)) (start now : Stand client_side) (answered : AreAnswered asked start now)
     → reports_in (actions_in asked start now answered) ≡ answers_of asked
-answers_are asked start now answered = drives.answers_are IsAnswer in_midst asked start now answered.1
+answers_are asked start now answered = drives.answers_are IsAnswerAlone in_midst asked start now answered.1
 
 -- ---- without the server's last action
 
@@ -139,7 +139,7 @@ pub record Served (actions : List (Action server_side)) (turns : List Turn) (bet
   pub clients : client_actions turns_before ≡ client_actions turns
   pub happened : Happened turns_before between
   pub served : Stand server_side
-  pub goes : Goes IsServing ServerIsCalm ServerAttends (server_actions turns_before) start served
+  pub goes : Goes IsServingAlone ServerIsCalm ServerAttends (server_actions turns_before) start served
   pub table : now.owner.end.server.view.session.table ≡ served.owner.end.server.view.session.table
 
 -- its end is left out of the order
@@ -156,7 +156,7 @@ served_before (Other (Left Shut) ∷ Ended ∷ before) turns between start now l
       clients = unturned_client one ∙ unturned_client turns;
       happened = unturned_happened one between (subst IsIdle (sym one_is) ended) (unturned_happened turns between (subst IsIdle (sym is) left) happened);
       served = led.1.0;
-      goes = subst (λ d. Goes IsServing ServerIsCalm ServerAttends d start led.1.0) (sym both_is) (led.1.1, alone);
+      goes = subst (λ d. Goes IsServingAlone ServerIsCalm ServerAttends d start led.1.0) (sym both_is) (led.1.1, alone);
       table = ends_keep_the_map Shut led.1.0 now (led.0, (led.1.0, refl, led.1.2), led.2);
     }
 served_before actions turns between start now led alone is happened = absurd alone
@@ -169,7 +169,7 @@ drives_over_are_the_direct_run_by always reading b fair moment timed asked serve
     let s = served_before (actions_of_server over.drove) over.turns over.between over.server_start server over.drove.did.sums.led
     over.served over.server_is over.happened in
     let client_is : client_actions s.turns_before ≡ actions_in asked over.client_start over.client over.answered = s.clients ∙ over.client_is in
-    let client = subst (λ d. Goes IsAsking ClientIsCalm ClientAttends d over.client_start over.client) (sym client_is)
+    let client = subst (λ d. Goes IsAskingAlone ClientIsCalm ClientAttends d over.client_start over.client) (sym client_is)
     (answers_go asked over.client_start over.client over.answered) in
     let did : Did b s.turns_before over.between s.served over.client = record {
       server_start = over.server_start;
@@ -181,12 +181,12 @@ drives_over_are_the_direct_run_by always reading b fair moment timed asked serve
       serves = s.goes.1;
       asks = client.1;
     } in
-    let orders : begun_in moment (client_actions s.turns_before) ≡ orders_of moment asked =
+    let orders : begun_in moment (client_actions s.turns_before) ≡ orders_at_moment moment asked =
     ap (begun_in moment) client_is ∙ orders_are moment asked over.client_start over.client over.answered in
     let answers : reports_in (client_actions s.turns_before) ≡ answers_of asked =
     ap reports_in client_is ∙ answers_are asked over.client_start over.client over.answered in
     let told = ap length answers ∙ as_many (λ n. moment) asked ∙ ap length (sym orders) in
     let direct = drives_are_the_direct_run_by always reading b fair moment timed s.turns_before over.between s.served over.client did
-    (answered_free IsAnswer b over.server_start asked over.client_start over.client over.begins over.answered.1) told in
-    direct_same (state_of b) (begun_in moment (client_actions s.turns_before)) (orders_of moment asked) (reports_in (client_actions s.turns_before))
+    (answered_free IsAnswerAlone b over.server_start asked over.client_start over.client over.begins over.answered.1) told in
+    direct_same (state_of b) (begun_in moment (client_actions s.turns_before)) (orders_at_moment moment asked) (reports_in (client_actions s.turns_before))
     (answers_of asked) s.served.owner.end.server.view.session.table server.owner.end.server.view.session.table orders answers (sym s.table) direct

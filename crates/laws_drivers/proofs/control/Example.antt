@@ -28,7 +28,7 @@ use Rattle.ftp_reply.specs.Reader.{line_heard}
 use Rattle.ftp_reply.specs.Values.{path_value, quoted_value}
 use Rattle.ftp_tree.specs.Map.{Dir}
 use Rattle.ftp_tree.specs.Tree.{Table, node_at}
-use Rattle.laws_drivers.specs.control.Alone.{ClientAttends, ClientIsCalm, IsAsking, begun_in, reports_in}
+use Rattle.laws_drivers.specs.control.Alone.{ClientAttends, ClientIsCalm, IsAskingAlone, begun_in, reports_in}
 use Rattle.laws_drivers.specs.control.Between.{Client, nothing_yet, server_actions}
 use Rattle.laws_drivers.specs.control.Claims.{Begins}
 use Rattle.laws_drivers.specs.control.Example.{ExampleHasQuit, ExampleIsOver, ExampleIsPlayed, example, example_asked}
@@ -228,7 +228,7 @@ example_is_played table root =
     let a = answers table root in
     let start = near_at (client_first table) [] in
     let now = near_at (near_done table) [] in
-    let goes = subst (λ d. Goes IsAsking ClientIsCalm ClientAttends d start now) (sym a.client_is) (answers_go example_asked start now a.answered) in
+    let goes = subst (λ d. Goes IsAskingAlone ClientIsCalm ClientAttends d start now) (sym a.client_is) (answers_go example_asked start now a.answered) in
     record {
       turns = a.turns;
       server = far_at (record (far_told table) { owed = [] }) [];

@@ -7,8 +7,8 @@ use Rattle.ftp_ports.specs.Machine.{Closed, Left, move_of, seen, waits}
 use Rattle.ftp_ports.proofs.Courses.{carries}
 use Rattle.ftp_ports.proofs.Idling.{carrier}
 use Rattle.ftp_ports.proofs.Totals.{sums}
-use Rattle.ftp_client_driver.specs.Driving.{Drove as ClientDrove}
-use Rattle.ftp_client_driver.specs.Side.{Begun, Report, client_machine, client_side, is_under_way}
+use Rattle.ftp_client_driver.specs.Driving.{ClientDrove}
+use Rattle.ftp_client_driver.specs.Side.{Begun, Report, client_machine, client_side, is_operation_under_way}
 use Rattle.ftp_client_model.specs.Calls as near
 use Rattle.ftp_client_model.specs.View.{View as Near}
 use Rattle.ftp_client_model.specs.declared.client.Standing.TheVariants as Standings
@@ -20,7 +20,7 @@ use Rattle.ftp_server_driver.specs.alone.Side.{server_machine, server_side}
 use Rattle.ftp_server_model.specs.Calls as far
 use Rattle.ftp_server_model.specs.View.{View as Far}
 use Rattle.laws_world.specs.Claims.{Beginning}
-use Rattle.laws_drivers.specs.control.Alone.{ClientAttends, ClientIsCalm, IsAsking, IsServing, ServerAttends, ServerIsCalm}
+use Rattle.laws_drivers.specs.control.Alone.{ClientAttends, ClientIsCalm, IsAskingAlone, IsServingAlone, ServerAttends, ServerIsCalm}
 use Rattle.laws_drivers.specs.control.Between.{Can, Client, Far as TheServer, Happened, Server, Turn, client_actions, nothing_yet, server_actions}
 use Rattle.laws_drivers.specs.control.Claims.{Begins}
 use Rattle.laws_drivers.specs.control.Over.{AreAnswered, AreOver, actions_in}
@@ -35,26 +35,26 @@ use Rattle.laws_drivers.proofs.control.Playing.{Attends, Plays, between, far_at,
 pub record Answered (start : Stand server_side) (op : Op (List ℕ)) (said : Said) (client_start : Stand client_side) (v : Far) (n : Near) : Type 0 where
   pub turns : List Turn
   pub happened : Happened turns nothing_yet
-  pub far_goes : Goes IsServing ServerIsCalm ServerAttends (server_actions turns) start (far_at v [])
+  pub far_goes : Goes IsServingAlone ServerIsCalm ServerAttends (server_actions turns) start (far_at v [])
   pub answered : AreAnswered ((op, said) ∷ []) client_start (near_at n [])
   pub client_is : client_actions turns ≡ actions_in ((op, said) ∷ []) client_start (near_at n []) answered
 
 -- it reports, and its port is shut: the last actions of a drive, after others
 near_ends : (before : List (Action client_side)) (begun : Stand client_side) (said : Said) (n : Near) → near.report_of n ≡ Some said
-    → near.wants (near.reports n) ≡ Want.Nothing → is_under_way (near.reports n).job ≡ false → near.wants (near.data_closed (near.reports n)) ≡ Want.Nothing
-    → Goes IsAsking ClientIsCalm ClientAttends before begun (near_at n [])
-    → Goes IsAsking ClientIsCalm ClientAttends (Other Closed ∷ Other (Left Shut) ∷ Other (Report (Some said)) ∷ before) begun (near_at (near.data_closed (near.reports n)) [])
+    → near.wants (near.reports n) ≡ Want.Nothing → is_operation_under_way (near.reports n).job ≡ false → near.wants (near.data_closed (near.reports n)) ≡ Want.Nothing
+    → Goes IsAskingAlone ClientIsCalm ClientAttends before begun (near_at n [])
+    → Goes IsAskingAlone ClientIsCalm ClientAttends (Other Closed ∷ Other (Left Shut) ∷ Other (Report (Some said)) ∷ before) begun (near_at (near.data_closed (near.reports n)) [])
 near_ends before begun said n some wants done closed goes =
     let m : Near = near.reports n in
     let report : Action client_side = Other (Report (Some said)) in
     let shut : Action client_side = Other (Left Shut) in
-    let one = goes_on IsAsking ClientIsCalm ClientAttends report before begun (near_at n []) (near_at m []) tt refl wants
+    let one = goes_on IsAskingAlone ClientIsCalm ClientAttends report before begun (near_at n []) (near_at m []) tt refl wants
     (((sym some, (refl, refl)), refl, tt), refl) goes in
-    let two = goes_on IsAsking ClientIsCalm ClientAttends shut (report ∷ before) begun (near_at m []) (near_at m []) tt refl wants (
+    let two = goes_on IsAskingAlone ClientIsCalm ClientAttends shut (report ∷ before) begun (near_at m []) (near_at m []) tt refl wants (
       (refl, record { ended = refl; adds = tt; stands = refl; fate = refl; rest = refl; unwritten = refl; untold = refl }, (inr done, tt, tt)),
       refl,
     ) one in
-    goes_on IsAsking ClientIsCalm ClientAttends (Other Closed) (shut ∷ report ∷ before) begun (near_at m []) (near_at (near.data_closed m) []) tt refl closed
+    goes_on IsAskingAlone ClientIsCalm ClientAttends (Other Closed) (shut ∷ report ∷ before) begun (near_at m []) (near_at (near.data_closed m) []) tt refl closed
     (((refl, refl), (refl, refl), λ sound under. absurd (true≢false (sym under ∙ done))), refl) two
 
 -- an operation that is answered, step by step: it is begun, all is heard, and then come its drive's last actions
@@ -63,11 +63,11 @@ pub record Answering (start : Stand server_side) (op : Op (List ℕ)) (said : Sa
   pub begins : Done (Other (Begun op)) client_start (near_at first [])
   pub calm : ClientIsCalm client_start.owner (near_at first []).owner
   pub plays : Plays start (near_at first []) op [] v [] [] n []
-  pub last : Goes IsAsking ClientIsCalm ClientAttends (Other Closed ∷ Other (Left Shut) ∷ Other (Report (Some said)) ∷ []) (near_at n []) (near_at (near.data_closed (near.reports n)) [])
+  pub last : Goes IsAskingAlone ClientIsCalm ClientAttends (Other Closed ∷ Other (Left Shut) ∷ Other (Report (Some said)) ∷ []) (near_at n []) (near_at (near.data_closed (near.reports n)) [])
 
 pub near_answering : (start : Stand server_side) (op : Op (List ℕ)) (said : Said) (client_start : Stand client_side) (first : Near) (v : Far) (n : Near)
     → ClientIsCalm client_start.owner (near_at first []).owner → Done (Other (Begun op)) client_start (near_at first [])
-    → near.report_of n ≡ Some said → near.wants n ≡ Want.Nothing → near.wants (near.reports n) ≡ Want.Nothing → is_under_way (near.reports n).job ≡ false
+    → near.report_of n ≡ Some said → near.wants n ≡ Want.Nothing → near.wants (near.reports n) ≡ Want.Nothing → is_operation_under_way (near.reports n).job ≡ false
     → near.wants (near.data_closed (near.reports n)) ≡ Want.Nothing → Plays start (near_at first []) op [] v [] [] n [] → Answering start op said client_start v n
 near_answering start op said client_start first v n calm begins some waits wants done closed p = record {
   first = first;
@@ -79,7 +79,7 @@ near_answering start op said client_start first v n calm begins some waits wants
 
 pub near_answers : (start : Stand server_side) (op : Op (List ℕ)) (said : Said) (client_start : Stand client_side) (first : Near) (v : Far) (n : Near)
     → ClientAttends client_start.owner → ClientIsCalm client_start.owner (near_at first []).owner → Done (Other (Begun op)) client_start (near_at first [])
-    → near.report_of n ≡ Some said → near.wants (near.reports n) ≡ Want.Nothing → is_under_way (near.reports n).job ≡ false
+    → near.report_of n ≡ Some said → near.wants (near.reports n) ≡ Want.Nothing → is_operation_under_way (near.reports n).job ≡ false
     → near.wants (near.data_closed (near.reports n)) ≡ Want.Nothing → Plays start (near_at first []) op [] v [] [] n []
     → Answered start op said client_start v (near.data_closed (near.reports n))
 near_answers start op said client_start first v n attends calm begins some wants done closed p =
@@ -88,7 +88,7 @@ near_answers start op said client_start first v n attends calm begins some wants
     let shut : Action client_side = Other (Left Shut) in
     let all : List (Action client_side) = Other Closed ∷ shut ∷ report ∷ p.midst in
     let last = near_at (near.data_closed (near.reports n)) [] in
-    let three : Goes IsAsking ClientIsCalm ClientAttends all begun last = near_ends p.midst begun said n some wants done closed p.near_goes in
+    let three : Goes IsAskingAlone ClientIsCalm ClientAttends all begun last = near_ends p.midst begun said n some wants done closed p.near_goes in
     let totals = sums all begun last three.0 in
     let drove : ClientDrove begun last (Some said) = record {
       answer = said;
@@ -156,11 +156,11 @@ pub record Quitted (start : Stand server_side) (before : List (Action server_sid
 
 module _ (start : Stand server_side) (before : List (Action server_side)) where
   -- it did none yet
-  pub quit_first : (v : Far) → Goes IsServing ServerIsCalm ServerAttends before start (far_at v []) → Quitted start before quit_octets v [] []
+  pub quit_first : (v : Far) → Goes IsServingAlone ServerIsCalm ServerAttends before start (far_at v []) → Quitted start before quit_octets v [] []
   quit_first v goes = record { count = 0; actions = before; led = goes.0; served = goes.1; before_is = refl; happened = refl }
 
   -- one more
-  pub quit_turn : (action : Action server_side) → IsServing action → (up down next_up next_down : List ℕ) (v new : Far) (u next : List ℕ)
+  pub quit_turn : (action : Action server_side) → IsServingAlone action → (up down next_up next_down : List ℕ) (v new : Far) (u next : List ℕ)
       → Done action (far_at v u) (far_at new next)
       → Can TheServer (touch_in action) (between up down) (between next_up next_down) → Quitted start before up v u down → Quitted start before next_up new next next_down
   quit_turn action is up down next_up next_down v new u next done can q = record {

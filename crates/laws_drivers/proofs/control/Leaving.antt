@@ -19,15 +19,15 @@ use Rattle.laws_agreement.specs.Over.{OverRuns}
 use Rattle.laws_agreement.proofs.Beginning.{begins_follow}
 use Rattle.laws_agreement.proofs.OverRunning.{over_lead}
 use Rattle.laws_agreement.proofs.Still.{rest_world, seen}
-use Rattle.laws_dialogues.specs.Login.{Answers, AsksPass, AsksUser, AtFree, Greets, Place, WantsPass, standing_of}
+use Rattle.laws_dialogues.specs.Login.{Answers, AsksPass, AsksUser, AtFree, Greets, LoginPlace, WantsPass, standing_in_login}
 use Rattle.laws_dialogues.specs.Stage.{Answering, Asking, Way, rest}
 use Rattle.laws_world.specs.Agreement.{AreSingle, Order, Single, Tries}
 use Rattle.laws_world.specs.Claims.{AgreesAlways, Beginning, IsFair, state_of, world_of}
 use Rattle.laws_world.specs.World.{ClosedByNear, Gone, Link, World}
-use Rattle.laws_drivers.specs.control.Alone.{ClientAttends, ClientIsCalm, IsAsking, IsServing, ServerAttends, ServerIsCalm, begun_in, reports_in}
+use Rattle.laws_drivers.specs.control.Alone.{ClientAttends, ClientIsCalm, IsAskingAlone, IsServingAlone, ServerAttends, ServerIsCalm, begun_in, reports_in}
 use Rattle.laws_drivers.specs.control.Between.{Between, Turn, client_actions, server_actions}
 use Rattle.laws_drivers.specs.control.Claims.{Did}
-use Rattle.laws_drivers.specs.control.Over.{IsAnswer, orders_of}
+use Rattle.laws_drivers.specs.control.Over.{IsAnswerAlone, orders_at_moment}
 use Rattle.laws_drivers.specs.events.Answers.{answers_of}
 use Rattle.laws_drivers.specs.control.Quitting.{DrivesThatQuitAreTheDirectRun, quit_octets, quitting}
 use Rattle.laws_drivers.proofs.control.Concluding.{drives_are_the_direct_run_by}
@@ -97,7 +97,7 @@ is_entered Standings.Entered = true
 is_entered standing = false
 
 -- is not in the midst of the login
-pub not_logging : (place : Place) → is_entered (standing_of place) ≡ false
+pub not_logging : (place : LoginPlace) → is_entered (standing_in_login place) ≡ false
 unfolding is_entered
 not_logging Greets = refl
 not_logging AsksUser = refl
@@ -182,7 +182,7 @@ quits_next reading b fair moment timed turns between server client did free ente
     let f = free_by reading.0 (state_of b) begun w (in_single (λ n. moment) (client_actions turns)) alike.link alike.cutoff all runs in
     let standing : w.near.standing ≡ Standings.Entered = ap (λ (n : Near). n.standing) (alike.near ∙ reports_is v) ∙ entered in
     let idle = free_idle (state_of b) begun w f standing in
-    begins_quit server between (ends_so IsServing ServerIsCalm ServerAttends (server_actions turns) did.server_start server did.server_led did.serves)
+    begins_quit server between (ends_so IsServingAlone ServerIsCalm ServerAttends (server_actions turns) did.server_start server did.server_led did.serves)
     (sym alike.to_server ∙ idle.to_server) (sym (ap (λ (n : Far). n.ear) alike.far) ∙ idle.ear) (sym (ap (λ (n : Far). n.owed) alike.far) ∙ idle.owed)
 
 -- what both did before QUIT was written is the direct run, and after it the map stays
@@ -194,8 +194,8 @@ drives_that_quit_are_the_direct_run_by always reading b fair moment timed asked 
     let off = drove.sums.led.0 in
     let q = at_quit read reads over.count drove.actions over.server_start off drove.sums.led.1 over.served (quitting over.between) over.last
     over.happened_last in
-    let far = subst (λ d. Goes IsServing ServerIsCalm ServerAttends d over.server_start q.mid) (sym over.server_is) (q.led, q.serves) in
-    let near = subst (λ d. Goes IsAsking ClientIsCalm ClientAttends d over.client_start over.client) (sym over.client_is)
+    let far = subst (λ d. Goes IsServingAlone ServerIsCalm ServerAttends d over.server_start q.mid) (sym over.server_is) (q.led, q.serves) in
+    let near = subst (λ d. Goes IsAskingAlone ClientIsCalm ClientAttends d over.client_start over.client) (sym over.client_is)
     (answers_go asked over.client_start over.client over.answered) in
     let did : Did b over.turns over.between q.mid over.client = record {
       server_start = over.server_start;
@@ -207,16 +207,16 @@ drives_that_quit_are_the_direct_run_by always reading b fair moment timed asked 
       serves = far.1;
       asks = near.1;
     } in
-    let orders : begun_in moment (client_actions over.turns) ≡ orders_of moment asked =
+    let orders : begun_in moment (client_actions over.turns) ≡ orders_at_moment moment asked =
     ap (begun_in moment) over.client_is ∙ orders_are moment asked over.client_start over.client over.answered in
     let answers : reports_in (client_actions over.turns) ≡ answers_of asked =
     ap reports_in over.client_is ∙ answers_are asked over.client_start over.client over.answered in
     let told = ap length answers ∙ as_many (λ n. moment) asked ∙ ap length (sym orders) in
-    let free = answered_free IsAnswer b over.server_start asked over.client_start over.client over.begins over.answered.1 in
+    let free = answered_free IsAnswerAlone b over.server_start asked over.client_start over.client over.begins over.answered.1 in
     let direct = drives_are_the_direct_run_by always reading b fair moment timed over.turns over.between q.mid over.client did free told in
     let quits = q.quits q.mid.owner.end.server.view.session.table
     (quits_next reading b fair moment timed over.turns over.between q.mid over.client did free over.entered told) in
     let table : server.owner.end.server.view.session.table ≡ q.mid.owner.end.server.view.session.table =
     ap (λ (at : Timed). at.server.view.session.table) drove.sums.led.2.0.0 ∙ quits_table _ off over.last quits in
-    direct_same (state_of b) (begun_in moment (client_actions over.turns)) (orders_of moment asked) (reports_in (client_actions over.turns)) (answers_of asked)
+    direct_same (state_of b) (begun_in moment (client_actions over.turns)) (orders_at_moment moment asked) (reports_in (client_actions over.turns)) (answers_of asked)
     q.mid.owner.end.server.view.session.table server.owner.end.server.view.session.table orders answers (sym table) direct

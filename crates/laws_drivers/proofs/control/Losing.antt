@@ -10,10 +10,10 @@ use Rattle.ftp_server_model.specs.Machine.{ReadingExists}
 use Rattle.ftp_tree.specs.Tree.{Table}
 use Rattle.laws_world.specs.Agreement.{Agrees, Order, Single}
 use Rattle.laws_world.specs.Claims.{AgreesAlways, state_of}
-use Rattle.laws_drivers.specs.control.Alone.{ClientAttends, ClientIsCalm, IsAsking, IsServing, ServerAttends, ServerIsCalm, begun_in, reports_in}
+use Rattle.laws_drivers.specs.control.Alone.{ClientAttends, ClientIsCalm, IsAskingAlone, IsServingAlone, ServerAttends, ServerIsCalm, begun_in, reports_in}
 use Rattle.laws_drivers.specs.control.Between.{Between, Can, Client, Happened, Near, Server, Turn, client_actions, server_actions}
 use Rattle.laws_drivers.specs.control.Claims.{Did}
-use Rattle.laws_drivers.specs.control.Over.{AreMidst, AskedToItsEnd, DrivesLostAgree, actions_in, orders_of}
+use Rattle.laws_drivers.specs.control.Over.{AreMidst, AskedToItsEnd, DrivesLostAgree, actions_in, orders_at_moment}
 use Rattle.laws_drivers.specs.events.Answers.{actions_of_server, answers_of}
 use Rattle.laws_drivers.specs.control.Touches.{touch_in}
 use Rattle.laws_drivers.proofs.control.Concluding.{parting_agrees_by}
@@ -83,7 +83,7 @@ record Lost (rest : List (Action client_side)) (turns : List Turn) (between : Be
   pub clients : client_actions turns_before ≡ midst ++ rest
   pub is_midst : AreMidst midst
   pub stand : Stand client_side
-  pub goes : Goes IsAsking ClientIsCalm ClientAttends midst start stand
+  pub goes : Goes IsAskingAlone ClientIsCalm ClientAttends midst start stand
   pub ends : Done Ended stand told
 
 -- the end of the client is left out of the order
@@ -126,13 +126,13 @@ drives_lost_agree_by always reading b fair moment timed asked op answer server o
     let l = lost_before a.drove.did.actions a.drove.asked (Some answer) rest s.turns_before over.between a.begun led.1.1.0 led.1.1.1
     over.loses.asks over.loses.shut
     (s.clients ∙ over.client_is) s.happened in
-    let attends = starts_so IsAsking ClientIsCalm ClientAttends l.midst a.begun l.stand l.goes in
+    let attends = starts_so IsAskingAlone ClientIsCalm ClientAttends l.midst a.begun l.stand l.goes in
     let first = answers_go asked over.client_start over.mid over.answered in
-    let begun : Goes IsAsking ClientIsCalm ClientAttends rest over.client_start a.begun =
+    let begun : Goes IsAskingAlone ClientIsCalm ClientAttends rest over.client_start a.begun =
     ((over.mid, first.0, a.begins), (first.1, tt, over.loses.calm, attends)) in
-    let all = goes_then IsAsking ClientIsCalm ClientAttends l.midst rest over.client_start a.begun l.stand l.goes begun in
-    let client = subst (λ d. Goes IsAsking ClientIsCalm ClientAttends d over.client_start l.stand) (sym l.clients) all in
-    let serves = subst (λ d. Goes IsServing ServerIsCalm ServerAttends d over.server_start s.served) (sym l.servers) s.goes in
+    let all = goes_then IsAskingAlone ClientIsCalm ClientAttends l.midst rest over.client_start a.begun l.stand l.goes begun in
+    let client = subst (λ d. Goes IsAskingAlone ClientIsCalm ClientAttends d over.client_start l.stand) (sym l.clients) all in
+    let serves = subst (λ d. Goes IsServingAlone ServerIsCalm ServerAttends d over.server_start s.served) (sym l.servers) s.goes in
     let did : Did b l.turns_before over.between s.served l.stand = record {
       server_start = over.server_start;
       client_start = over.client_start;
@@ -144,7 +144,7 @@ drives_lost_agree_by always reading b fair moment timed asked op answer server o
       asks = client.1;
     } in
     let agree = parting_agrees_by always reading b fair moment timed l.turns_before over.between s.served l.stand did in
-    let orders : begun_in moment (client_actions l.turns_before) ≡ orders_of moment ((op, answer) ∷ asked) =
+    let orders : begun_in moment (client_actions l.turns_before) ≡ orders_at_moment moment ((op, answer) ∷ asked) =
     ap (begun_in moment) l.clients ∙ midst_begins moment l.midst rest l.is_midst
     ∙ ap (λ o. o ++ Single op moment ∷ []) (orders_are moment asked over.client_start over.mid over.answered) in
     let told : option_to_list (report_of (control_end l.stand.owner.end.view)) ≡ answer ∷ [] =
@@ -153,7 +153,7 @@ drives_lost_agree_by always reading b fair moment timed asked op answer server o
     ≡ answers_of ((op, answer) ∷ asked) =
     ap₂ (λ r o. r ++ o) (ap reports_in l.clients ∙ midst_reports l.midst rest l.is_midst ∙ append-nil (reports_in before)
     ∙ answers_are asked over.client_start over.mid over.answered) told in
-    let orders_now : List Order = orders_of moment ((op, answer) ∷ asked) in
+    let orders_now : List Order = orders_at_moment moment ((op, answer) ∷ asked) in
     let answers_now : List Said = answers_of ((op, answer) ∷ asked) in
     let said : List Said = reports_in (client_actions l.turns_before) ++ option_to_list (report_of (control_end l.stand.owner.end.view)) in
     let table : Table = s.served.owner.end.server.view.session.table in (

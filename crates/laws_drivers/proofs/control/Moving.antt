@@ -1,6 +1,6 @@
 -- Two actions of a data connection, of different ends, change places.
 use Rattle.std.proofs.Common.{◌≡◌, ℕ, Bool, true, false, true≢false, List, [], ◌++◌, None, Some, refl, sym, ap, subst, ◌∙◌, append_assoc}
-use Rattle.laws_drivers.specs.control.Between.{Between, Can, Far, Has, Has_ended, Has_lost, Has_not, Awaits, Hold, Is_called, IsStanding, Near, Who, coming, hold_of, peer, sent, with_coming, with_hold}
+use Rattle.laws_drivers.specs.control.Between.{Between, Can, Far, Has, Has_ended, Has_lost, Has_not, Awaits, Hold, Is_called, IsStanding, Near, Who, coming_to, hold_of, peer, sent, with_coming, with_hold}
 use Rattle.laws_drivers.specs.control.Swaps.{IsMoving, MovingActionsChangePlaces}
 use Rattle.laws_drivers.specs.control.Touches.{Touch, None_of_it, Says, Reads, Parts, Listens, Dials, Accepts, IsDenied, IsMissed, Writes, Takes, Ends, Resets, ToldEnd, ToldBreak}
 use Rattle.laws_drivers.proofs.control.Swapping.{same_rest}
@@ -34,11 +34,11 @@ to Broken = Has_lost
 abbrev CanAct : Who → Act → (old new : Between) → Type 0
 CanAct who Rests old new = new ≡ old
 CanAct who (Changes change) old new = From change (hold_of who old) × (new ≡ with_hold who (to change) old)
-CanAct who IsTold old new = (hold_of (peer who) old ≡ Has_ended) × (coming who old.data_ways ≡ []) × (new ≡ old)
+CanAct who IsTold old new = (hold_of (peer who) old ≡ Has_ended) × (coming_to who old.data_ways ≡ []) × (new ≡ old)
 CanAct who (Gives octets) old new = (hold_of who old ≡ Has) × (new ≡ record old { data_ways = sent who octets old.data_ways })
 CanAct who (Gets octets) old new =
-    (hold_of who old ≡ Has) × (coming who old.data_ways ≡ octets ++ coming who new.data_ways)
-    × (new ≡ record old { data_ways = with_coming who (coming who new.data_ways) old.data_ways })
+    (hold_of who old ≡ Has) × (coming_to who old.data_ways ≡ octets ++ coming_to who new.data_ways)
+    × (new ≡ record old { data_ways = with_coming who (coming_to who new.data_ways) old.data_ways })
 
 abbrev act_of : Touch → Act
 act_of (Accepts host) = Changes Accepted

@@ -1,8 +1,8 @@
 -- Orders in which each action can happen, where neighbours change places.
 use Rattle.std.proofs.Common.{◌≡◌, inl, inr, ℕ, Bool, true, false, true≢false, List, [], ◌∷◌, ◌++◌, None, Some, refl, sym, ap, subst, ◌∙◌}
-use Rattle.laws_drivers.specs.control.Alone.{ClientAttends, ClientIsCalm, IsAsking, IsServing, ServerAttends, ServerIsCalm}
-use Rattle.laws_drivers.specs.control.Between.{Between, Can, CanTurn, Client, Far, Happened, Near, Server, Turn, Who, coming, peer, with_coming}
-use Rattle.laws_drivers.specs.control.Swaps.{AreApart, AreFree, AreOfSameEnds, ActionsGoBehind, IsApartFrom, IsOfControl, NeighboursChangePlaces, OrdersLeaveOne, OrdersLeaveTheEnds, ReadsWritten}
+use Rattle.laws_drivers.specs.control.Alone.{ClientAttends, ClientIsCalm, IsAskingAlone, IsServingAlone, ServerAttends, ServerIsCalm}
+use Rattle.laws_drivers.specs.control.Between.{Between, Can, CanTurn, Client, Far, Happened, Near, Server, Turn, Who, coming_to, peer, with_coming}
+use Rattle.laws_drivers.specs.control.Swaps.{AreOfPeers, AreFree, AreOfSameEnds, ActionsGoBehind, IsApartFrom, IsOfControl, NeighboursChangePlaces, OrdersLeaveOne, OrdersLeaveTheEnds, ReadsWritten}
 use Rattle.laws_drivers.specs.control.Touches.{Touch, None_of_it, Says, Reads, Parts, Listens, Dials, Accepts, IsDenied, IsMissed, Writes, Takes, Ends, Resets, ToldEnd, ToldBreak, touch_in}
 use Rattle.laws_drivers.proofs.control.Ending.{Goes}
 use Rattle.laws_drivers.proofs.control.Mixing.{Changed, change_places}
@@ -16,7 +16,7 @@ can_once : (who : Who) (touch : Touch) (old one other : Between) → Can who tou
 can_once who None_of_it old one other a b = a ∙ sym b
 can_once who (Says octets) old one other a b = a ∙ sym b
 can_once who (Reads octets) old one other a b =
-    let rest = same_rest octets (coming who one.control) (coming who other.control) (sym a.0 ∙ b.0) in
+    let rest = same_rest octets (coming_to who one.control) (coming_to who other.control) (sym a.0 ∙ b.0) in
     a.1 ∙ ap (λ (l : List ℕ). record old { control = with_coming who l old.control }) rest ∙ sym b.1
 can_once who Parts old one other a b = a ∙ sym b
 can_once who (Listens None) old one other a b = a ∙ sym b
@@ -27,7 +27,7 @@ can_once who (IsDenied endpoint) old one other a b = a ∙ sym b
 can_once who IsMissed old one other a b = a ∙ sym b
 can_once who (Writes octets) old one other a b = a.1 ∙ sym b.1
 can_once who (Takes octets) old one other a b =
-    let rest = same_rest octets (coming who one.data_ways) (coming who other.data_ways) (sym a.1 ∙ b.1) in
+    let rest = same_rest octets (coming_to who one.data_ways) (coming_to who other.data_ways) (sym a.1 ∙ b.1) in
     a.2 ∙ ap (λ (l : List ℕ). record old { data_ways = with_coming who l old.data_ways }) rest ∙ sym b.2
 can_once who Ends old one other a b = a.1 ∙ sym b.1
 can_once who Resets old one other a b = a.1 ∙ sym b.1
@@ -52,7 +52,7 @@ orders_leave_one (turn ∷ before) one other a b =
 written_by : (who : Who) (touch : Touch) (old new : Between) → IsOfControl touch → Can who touch old new → ReadsWritten who touch old
 written_by who None_of_it old new is can = tt
 written_by who (Says octets) old new is can = tt
-written_by who (Reads octets) old new is can = (coming who new.control, can.0)
+written_by who (Reads octets) old new is can = (coming_to who new.control, can.0)
 written_by who touch old new is can = absurd is
 
 -- whatever they are of
@@ -69,7 +69,7 @@ is_far Near = false
 is_far Far = true
 
 -- in the other order
-swapped : (before : List Turn) (first second : Turn) (other now : Between) → AreApart first second → Happened (second ∷ before) other
+swapped : (before : List Turn) (first second : Turn) (other now : Between) → AreOfPeers first second → Happened (second ∷ before) other
     → Happened (second ∷ first ∷ before) now → Happened (first ∷ second ∷ before) now
 unfolding is_far
 swapped before (Server first) (Server second) other now apart alone both = absurd (true≢false (ap is_far apart.ends))
@@ -88,7 +88,7 @@ swapped before (Client first) (Server second) other now apart alone both =
     (change.0, (old, both.1.1, change.1), change.2)
 
 -- by the same ends
-same_ends : (before : List Turn) (first second : Turn) → AreApart first second → AreOfSameEnds (second ∷ first ∷ before) (first ∷ second ∷ before)
+same_ends : (before : List Turn) (first second : Turn) → AreOfPeers first second → AreOfSameEnds (second ∷ first ∷ before) (first ∷ second ∷ before)
 unfolding is_far
 same_ends before (Server first) (Server second) apart = absurd (true≢false (ap is_far apart.ends))
 same_ends before (Client first) (Client second) apart = absurd (true≢false (sym (ap is_far apart.ends)))
@@ -151,8 +151,8 @@ actions_go_behind later others before first other now apart alone happened = (
 
 pub orders_leave_the_ends : OrdersLeaveTheEnds
 orders_leave_the_ends b one other now server client same happened did =
-    let far = subst (λ d. Goes IsServing ServerIsCalm ServerAttends d did.server_start server) (sym same.server) (did.server_led, did.serves) in
-    let near = subst (λ d. Goes IsAsking ClientIsCalm ClientAttends d did.client_start client) (sym same.client) (did.client_led, did.asks) in
+    let far = subst (λ d. Goes IsServingAlone ServerIsCalm ServerAttends d did.server_start server) (sym same.server) (did.server_led, did.serves) in
+    let near = subst (λ d. Goes IsAskingAlone ClientIsCalm ClientAttends d did.client_start client) (sym same.client) (did.client_led, did.asks) in
     record {
       server_start = did.server_start;
       client_start = did.client_start;

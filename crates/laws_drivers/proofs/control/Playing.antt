@@ -22,7 +22,7 @@ use Rattle.ftp_server_model.specs.Machine.{IsReading, Reading, heard_events, hea
 use Rattle.ftp_server_model.specs.View.{View as Far, line_limit}
 use Rattle.ftp_server_model.specs.declared.heard.HeardLine.TheVariants.{Asks}
 use Rattle.ftp_server_model.specs.declared.session.Life.TheVariants as Lives
-use Rattle.laws_drivers.specs.control.Alone.{ClientAttends, ClientIsCalm, IsAsking, IsServing, ServerAttends, ServerIsCalm}
+use Rattle.laws_drivers.specs.control.Alone.{ClientAttends, ClientIsCalm, IsAskingAlone, IsServingAlone, ServerAttends, ServerIsCalm}
 use Rattle.laws_drivers.specs.control.Between.{Between, CanTurn, Client, Happened, Server, Turn, client_actions, nothing_yet, server_actions}
 use Rattle.laws_drivers.specs.control.Over.{AreMidst, IsMidst}
 use Rattle.laws_drivers.proofs.control.Ending.{Goes}
@@ -272,18 +272,18 @@ pub record Plays (start : Stand server_side) (begun : Stand client_side) (op : O
     (n : Near) (unheard_near : List ℕ) : Type 0 where
   pub turns : List Turn
   pub happened : Happened turns (between up down)
-  pub far_goes : Goes IsServing ServerIsCalm ServerAttends (server_actions turns) start (far_at v unheard)
+  pub far_goes : Goes IsServingAlone ServerIsCalm ServerAttends (server_actions turns) start (far_at v unheard)
   pub later : List Turn
   pub turns_are : turns ≡ later ++ Client (Other (Begun op)) ∷ []
   pub midst : List (Action client_side)
   pub are : AreMidst midst
   pub later_midst : client_actions later ≡ midst
   pub client_is : client_actions turns ≡ midst ++ Other (Begun op) ∷ []
-  pub near_goes : Goes IsAsking ClientIsCalm ClientAttends midst begun (near_at n unheard_near)
+  pub near_goes : Goes IsAskingAlone ClientIsCalm ClientAttends midst begun (near_at n unheard_near)
 
 module _ (start : Stand server_side) (begun : Stand client_side) (op : Op (List ℕ)) where
   -- an action of the server
-  pub far_turn : (action : Action server_side) → IsServing action → (up down next_up next_down : List ℕ) (v new : Far) (u next : List ℕ) (n : Near) (w : List ℕ)
+  pub far_turn : (action : Action server_side) → IsServingAlone action → (up down next_up next_down : List ℕ) (v new : Far) (u next : List ℕ) (n : Near) (w : List ℕ)
       → Attends new → Done action (far_at v u) (far_at new next) → CanTurn (Server action) (between up down) (between next_up next_down)
       → Plays start begun op up v u down n w → Plays start begun op next_up new next next_down n w
   far_turn action is up down next_up next_down v new u next n w at done can p =
@@ -291,7 +291,7 @@ module _ (start : Stand server_side) (begun : Stand client_side) (op : Op (List 
       record {
         turns = Server action ∷ p.turns;
         happened = (between up down, p.happened, can);
-        far_goes = goes_on IsServing ServerIsCalm ServerAttends action (server_actions p.turns) start (far_at v u) (far_at new next) is refl attends done p.far_goes;
+        far_goes = goes_on IsServingAlone ServerIsCalm ServerAttends action (server_actions p.turns) start (far_at v u) (far_at new next) is refl attends done p.far_goes;
         later = Server action ∷ p.later;
         turns_are = ap (λ l. Server action ∷ l) p.turns_are;
         midst = p.midst;
@@ -302,7 +302,7 @@ module _ (start : Stand server_side) (begun : Stand client_side) (op : Op (List 
       }
 
   -- an action of the client
-  pub near_turn : (action : Action client_side) → IsAsking action → IsMidst action → (up down next_up next_down : List ℕ) (v : Far) (u : List ℕ) (n new : Near)
+  pub near_turn : (action : Action client_side) → IsAskingAlone action → IsMidst action → (up down next_up next_down : List ℕ) (v : Far) (u : List ℕ) (n new : Near)
       (w next : List ℕ) → near.wants new ≡ Want.Nothing → Done action (near_at n w) (near_at new next)
       → CanTurn (Client action) (between up down) (between next_up next_down)
       → Plays start begun op up v u down n w → Plays start begun op next_up v u next_down new next
@@ -316,7 +316,7 @@ module _ (start : Stand server_side) (begun : Stand client_side) (op : Op (List 
     are = (p.are, amid);
     later_midst = ap (λ l. action ∷ l) p.later_midst;
     client_is = ap (λ l. action ∷ l) p.client_is;
-    near_goes = goes_on IsAsking ClientIsCalm ClientAttends action p.midst begun (near_at n w) (near_at new next) is refl wants done p.near_goes;
+    near_goes = goes_on IsAskingAlone ClientIsCalm ClientAttends action p.midst begun (near_at n w) (near_at new next) is refl wants done p.near_goes;
   }
 
   -- the server says all that it owes

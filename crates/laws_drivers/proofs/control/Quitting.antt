@@ -28,7 +28,7 @@ use Rattle.ftp_server_model.specs.declared.session.Transfer.TheVariants as Trans
 use Rattle.ftp_server_model.specs.declared.session.Way.TheVariants as Ways
 use Rattle.ftp_server_model.proofs.CommandsInFlight.{command_is_heard, in_pieces, line_is_heard}
 use Rattle.ftp_tree.specs.Tree.{Table}
-use Rattle.laws_drivers.specs.control.Alone.{IsServing, ServerIsCalm, ServesAlone}
+use Rattle.laws_drivers.specs.control.Alone.{IsServingAlone, ServerIsCalm, ServesAlone}
 use Rattle.laws_drivers.specs.control.Between.{Between, Can, Far as TheServer}
 use Rattle.laws_drivers.specs.control.Quitting.{HappenedAlone, ServedAndLeft, quit_octets}
 use Rattle.laws_drivers.specs.control.Touches.{touch_in}
@@ -246,7 +246,7 @@ module _ (read : Reading) (reads : IsReading read) (table : Table) where
         too_many octets few = omega (arith, few)
 
     -- an action
-    pub action_keeps : (action : Action server_side) → IsServing action → Done action old new → (a b : Between) → Can TheServer (touch_in action) a b → Quits table old a
+    pub action_keeps : (action : Action server_side) → IsServingAlone action → Done action old new → (a b : Between) → Can TheServer (touch_in action) a b → Quits table old a
         → Quits table new b
     action_keeps (Heard octets) is did a b can h = subst (Quits table new) (sym can) (heard_next octets a did h)
     action_keeps (Says octets) is did a b can h = says octets a b did (ap (λ (m : Between). m.control.to_server) can) h

@@ -15,7 +15,7 @@ use Rattle.laws_world.specs.Agreement.{Order}
 use Rattle.laws_world.specs.Claims.{Beginning, world_of}
 use Rattle.laws_world.specs.World.{World}
 use Rattle.laws_drivers.specs.control.Alike.{IsAlike}
-use Rattle.laws_drivers.specs.control.Alone.{AsksAlone, ClientAttends, ClientIsCalm, IsAsking, IsServing, ServerAttends, ServerIsCalm, ServesAlone, Throughout, begun_in, reported_by, reports_in}
+use Rattle.laws_drivers.specs.control.Alone.{AsksAlone, ClientAttends, ClientIsCalm, IsAskingAlone, IsServingAlone, ServerAttends, ServerIsCalm, ServesAlone, Throughout, begun_in, reports_of, reports_in}
 use Rattle.laws_drivers.specs.events.Moments.{begun_by}
 use Rattle.laws_drivers.specs.control.Between.{Between, CanTurn, Client, Happened, Server, Turn, client_actions, nothing_yet, server_actions}
 use Rattle.laws_drivers.specs.control.Claims.{Begins, DrivesAreOfWorlds}
@@ -30,13 +30,13 @@ ends_so Is Keeps Stands [] start now led held = held
 ends_so Is Keeps Stands (action ∷ before) start now led held = held.3
 
 -- what a client reports in an action
-pub reported_is : (said : Option Said) → reported_by (Other (Aside (Reporting said))) ≡ option_to_list said
+pub reported_is : (said : Option Said) → reports_of (Other (Aside (Reporting said))) ≡ option_to_list said
 reported_is None = refl
 reported_is (Some said) = refl
 
 module _ (read : Reading) (reads : IsReading read) (moment : ℕ) (timed : moment ≤ last_second) where
   -- an action of the server
-  server_goes : (action : Action server_side) → IsServing action → (old new : Stand server_side) (client : Stand client_side) (reports : List Said) (w : World)
+  server_goes : (action : Action server_side) → IsServingAlone action → (old new : Stand server_side) (client : Stand client_side) (reports : List Said) (w : World)
       → ServerIsCalm old.owner new.owner → ServerAttends old.owner → ServerAttends new.owner → ClientAttends client.owner → Done action old new
       → (a b : Between) → CanTurn (Server action) a b → IsAlike a.control old client reports w → Goes read [] b.control new client reports w
   server_goes (Heard octets) is old new client reports w calm before after asks did a b can alike =
@@ -54,10 +54,10 @@ module _ (read : Reading) (reads : IsReading read) (moment : ℕ) (timed : momen
   server_goes action is old new client reports w calm before after asks did a b can alike = absurd is
 
   -- an action of the client
-  client_goes : (action : Action client_side) → IsAsking action → (server : Stand server_side) (old new : Stand client_side) (reports : List Said) (w : World)
+  client_goes : (action : Action client_side) → IsAskingAlone action → (server : Stand server_side) (old new : Stand client_side) (reports : List Said) (w : World)
       → ClientIsCalm old.owner new.owner → ServerAttends server.owner → ClientAttends old.owner → ClientAttends new.owner → Done action old new
       → (a b : Between) → CanTurn (Client action) a b → IsAlike a.control server old reports w
-      → Goes read (begun_by moment action) b.control server new (reports ++ reported_by action) w
+      → Goes read (begun_by moment action) b.control server new (reports ++ reports_of action) w
   client_goes (Heard octets) is server old new reports w calm serves before after did a b can alike =
       subst (λ (m : Between). Goes read [] m.control server new (reports ++ []) w) (sym can)
       (client_heard read server old new reports w calm serves before after octets a.control alike did)
@@ -121,8 +121,8 @@ module _ (read : Reading) (reads : IsReading read) (moment : ℕ) (timed : momen
     reaches (Server action ∷ before) between happened server_start server client_start client begins server_led client_led serves asks =
         let old = reaches before happened.0 happened.1 server_start server_led.0 client_start client begins server_led.1 client_led serves.0 asks in
         let went = server_goes action serves.1 server_led.0 server client (reports_in (client_actions before)) old.0 serves.2
-        (ends_so IsServing ServerIsCalm ServerAttends (server_actions before) server_start server_led.0 server_led.1 serves.0) serves.3
-        (ends_so IsAsking ClientIsCalm ClientAttends (client_actions before) client_start client client_led asks)
+        (ends_so IsServingAlone ServerIsCalm ServerAttends (server_actions before) server_start server_led.0 server_led.1 serves.0) serves.3
+        (ends_so IsAskingAlone ClientIsCalm ClientAttends (client_actions before) client_start client client_led asks)
         server_led.2 happened.0 between happened.2 old.2 in
         let begun : List Order = begun_in moment (client_actions before) in (
           went.world,
@@ -132,8 +132,8 @@ module _ (read : Reading) (reads : IsReading read) (moment : ℕ) (timed : momen
     reaches (Client action ∷ before) between happened server_start server client_start client begins server_led client_led serves asks =
         let old = reaches before happened.0 happened.1 server_start server client_start client_led.0 begins server_led client_led.1 serves asks.0 in
         let went = client_goes action asks.1 server client_led.0 client (reports_in (client_actions before)) old.0 asks.2
-        (ends_so IsServing ServerIsCalm ServerAttends (server_actions before) server_start server server_led serves)
-        (ends_so IsAsking ClientIsCalm ClientAttends (client_actions before) client_start client_led.0 client_led.1 asks.0) asks.3 client_led.2
+        (ends_so IsServingAlone ServerIsCalm ServerAttends (server_actions before) server_start server server_led serves)
+        (ends_so IsAskingAlone ClientIsCalm ClientAttends (client_actions before) client_start client_led.0 client_led.1 asks.0) asks.3 client_led.2
         happened.0 between happened.2 old.2 in (
           went.world,
           leads_then read (begun_in moment (client_actions before)) (begun_by moment action) (world_of b) old.0 went.world old.1 went.leads,

@@ -17,7 +17,7 @@ use Rattle.ftp_server_model.specs.Machine.{Reading, waited}
 use Rattle.ftp_server_model.specs.View.{View as Far}
 use Rattle.ftp_server_model.specs.declared.session.Life.TheVariants as Lives
 use Rattle.ftp_tree.specs.Sound.{last_second}
-use Rattle.laws_world.specs.Agreement.{Leads, Order, Single, begun_by}
+use Rattle.laws_world.specs.Agreement.{Leads, Order, Single, begun_by_event}
 use Rattle.laws_world.specs.Claims.{AreTimed, IsTimed}
 use Rattle.laws_world.specs.Events.{ControlToClient, ControlToServer, Deliver, Delivers, DeliversBy, Event, Gives, Happens, Moves, Next, Takes, can_begin, can_happen, can_move, can_take, is_asked_for, is_gone, lends_none, operation_begins, pulled, pushed, taking}
 use Rattle.laws_world.specs.Serving.{after_event, collected, collected_by, far_served, far_served_by, near_served, near_served_by, served}
@@ -105,7 +105,7 @@ append_leads read (event ∷ front) given begun more old mid new leads rest = (
   leads.1,
   leads.2 ++ more,
   leads.3,
-  ap (λ b. b ++ more) leads.4 ∙ append_assoc (begun_by event leads.0) leads.2 more,
+  ap (λ b. b ++ more) leads.4 ∙ append_assoc (begun_by_event event leads.0) leads.2 more,
   append_leads read front given leads.2 more leads.1 mid new leads.5 rest,
 )
 
@@ -125,11 +125,11 @@ leads_then read begun more old mid new first second = record {
 
 -- one event that happens
 pub one_leads : (read : Reading) (event : Event) (old new : World) → IsTimed event → Happens read event old true new
-    → LeadsOn read (begun_by event true) old new
+    → LeadsOn read (begun_by_event event true) old new
 one_leads read event old new timed happens = record {
   events = event ∷ [];
   timed = (timed, tt);
-  leads = (true, new, [], happens, sym (append-nil (begun_by event true)), (refl, refl));
+  leads = (true, new, [], happens, sym (append-nil (begun_by_event event true)), (refl, refl));
 }
 
 -- ---- octets that are said, one by one

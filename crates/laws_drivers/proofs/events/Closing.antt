@@ -12,7 +12,7 @@ use Rattle.ftp_tree.specs.Tree.{Table}
 use Rattle.laws_drivers.specs.control.Alone.{ServerIsCalm}
 use Rattle.laws_drivers.specs.control.Between.{Between, Can, Far as TheServer}
 use Rattle.laws_drivers.specs.control.Quitting.{HappenedAlone, quit_octets, quitting}
-use Rattle.laws_drivers.specs.control.Touches.{left_by, touch_in}
+use Rattle.laws_drivers.specs.control.Touches.{touch_of_leaving, touch_in}
 use Rattle.laws_drivers.proofs.control.Quitting.{AtLine, Quits, action_keeps, keeps_at, none_waits}
 use Rattle.laws_drivers.specs.events.Actions.{IsLast}
 use Rattle.laws_drivers.proofs.events.Resting.{AtRest}
@@ -21,7 +21,7 @@ use Rattle.laws_drivers.proofs.events.Stands.{ServerServes}
 -- ---- actions behind it
 
 -- leaving a data connection moves no octet of the control connection
-left_control : (asked : Asked) (a b : Between) → Can TheServer (left_by asked) a b → b.control ≡ a.control
+left_control : (asked : Asked) (a b : Between) → Can TheServer (touch_of_leaving asked) a b → b.control ≡ a.control
 left_control (EndedBy left written) a b can = ap (λ (m : Between). m.control) can.1
 left_control (Reset left written) a b can = ap (λ (m : Between). m.control) can.1
 left_control (Listened port) a b can = ap (λ (m : Between). m.control) can

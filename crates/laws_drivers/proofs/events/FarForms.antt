@@ -17,7 +17,7 @@ use Rattle.ftp_server_model.specs.declared.session.ServerLink.TheVariants as Dat
 use Rattle.ftp_server_model.specs.declared.session.Transfer.TheVariants as Transfers
 use Rattle.ftp_server_model.specs.declared.session.Way.TheVariants as Ways
 use Rattle.laws_dialogues.specs.Fetches.{giving_of}
-use Rattle.laws_drivers.specs.world.Ahead.{Listens, Opens, accepts, ahead_of, far_ahead, is_asked, is_open}
+use Rattle.laws_drivers.specs.world.Ahead.{Listens, Opens, accepts, ahead_of, far_world_ahead, is_asked, is_open}
 use Rattle.laws_drivers.proofs.world.Hearing.{at_link, is_dialled, is_quiet}
 
 -- ---- what it wants
@@ -203,7 +203,7 @@ first_of_some (octet ∷ more) e = (octet, more, refl)
 
 -- of one whose transfer waits for who comes a world's is at the transfer, or says that it is over
 pub called_speaks : (transfer : Transfer) (v : Far)
-    → let u : Far = far_ahead Opens (at_link (Data.Opening transfer Ways.Accept) false v) in
+    → let u : Far = far_world_ahead Opens (at_link (Data.Opening transfer Ways.Accept) false v) in
     (is_transferring u.session.connection ≡ true) ⊎ (has_octets u.owed ≡ true)
 called_speaks (Transfers.Upload path keep d) v = inl refl
 called_speaks Transfers.OverLimit v = inl refl
@@ -226,7 +226,7 @@ told_passive (Data.Transferring transfer) e port v = absurd (true≢false (sym e
 
 -- and it says so
 pub told_speaks : (link : ServerLink Transfer) → is_asked link ≡ true → (port : ℕ) (closing : Bool) (v : Far)
-    → has_octets (far_ahead (Listens port) (at_link link closing v)).owed ≡ true
+    → has_octets (far_world_ahead (Listens port) (at_link link closing v)).owed ≡ true
 told_speaks (Data.Asked Asking.Pasv) e port closing v = some_last v.owed _ refl
 told_speaks (Data.Asked Asking.Epsv) e port closing v = some_last v.owed _ refl
 told_speaks Data.Free e port closing v = absurd (true≢false (sym e))

@@ -3,7 +3,7 @@ use Rattle.std.proofs.Common.{◌≡◌, ℕ, List, [], ◌∷◌, ◌++◌, Som
 use Rattle.ftp_ports.specs.Actions.{Action, Other}
 use Rattle.ftp_ports.specs.Machine.{Aside}
 use Rattle.ftp_client_driver.specs.Side.{Reporting, Starting, client_side}
-use Rattle.laws_drivers.specs.control.Alone.{reported_by, reports_in}
+use Rattle.laws_drivers.specs.control.Alone.{reports_of, reports_in}
 use Rattle.laws_drivers.specs.events.Actions.{AreMidst, IsMidst}
 use Rattle.laws_drivers.specs.events.Moments.{begun_at, begun_by, number_in}
 use Rattle.laws_world.specs.Agreement.{AreSingle, Order, Single, Tries}
@@ -36,7 +36,7 @@ midst_none : (moment : ℕ) (action : Action client_side) → IsMidst action →
 midst_none moment (Other (Aside (Starting op))) midst = absurd midst
 midst_none moment action midst = refl
 
-midst_said : (action : Action client_side) → IsMidst action → reported_by action ≡ []
+midst_said : (action : Action client_side) → IsMidst action → reports_of action ≡ []
 midst_said (Other (Aside (Reporting (Some said)))) midst = absurd midst
 midst_said action midst = refl
 

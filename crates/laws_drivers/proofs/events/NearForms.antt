@@ -10,7 +10,7 @@ use Rattle.ftp_operation.specs.Answer.{Said}
 use Rattle.ftp_operation.specs.Operation.{can_be_sent}
 use Rattle.ftp_operation.specs.declared.op.Op.{Op}
 use Rattle.ftp_command.specs.declared.command.Command.{Command}
-use Rattle.ftp_client_driver.specs.Side.{is_under_way}
+use Rattle.ftp_client_driver.specs.Side.{is_operation_under_way}
 use Rattle.ftp_client_model.specs.Calls as near
 use Rattle.ftp_client_model.specs.Calls.{data_end, data_opened, data_wants, ending_of, heard_flow, is_busy, is_busy_job, is_sound, link_wants, opened_by, over_by, receives, receives_octet, starts, started_by, transfer_under_way, unsendable_by}
 use Rattle.ftp_client_model.specs.Dialogue.{aborts_once_enough, answers_by, answers_once_over, carries_on, closes_once_given_by, finishes_by, finishes_read, has_begun, is_given, is_to_abort, judged, last_job, next_job, placed, sends_abort, sends_if}
@@ -165,10 +165,10 @@ busy_same n busy = by n.job busy
     by job e = refl
 
 -- one of which no operation is under way is not busy once its report is taken
-pub idle_free : (n : Near) → is_under_way n.job ≡ false → is_busy (taken n) ≡ false
+pub idle_free : (n : Near) → is_operation_under_way n.job ≡ false → is_busy (taken n) ≡ false
 idle_free n idle = by n.job idle
   where
-    by : (job : Job) → is_under_way job ≡ false → is_busy_job (idle_of job) ≡ false
+    by : (job : Job) → is_operation_under_way job ≡ false → is_busy_job (idle_of job) ≡ false
     by Idle e = refl
     by (Told said) e = refl
     by (Waiting op) e = absurd (true≢false e)

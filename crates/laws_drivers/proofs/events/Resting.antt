@@ -11,8 +11,8 @@ use Rattle.ftp_server_model.specs.declared.session.ServerLink.TheVariants as Dat
 use Rattle.ftp_server_model.specs.declared.session.Transfer.TheVariants as Transfers
 use Rattle.ftp_server_model.specs.declared.session.Way.TheVariants as Ways
 use Rattle.laws_world.specs.World.{World}
-use Rattle.laws_dialogues.specs.Dialogue.{is_aside}
-use Rattle.laws_drivers.specs.world.Ahead.{Ahead, Fits, Level, Listens, Opens, accepts, far_ahead, is_asked}
+use Rattle.laws_dialogues.specs.Dialogue.{is_set_aside}
+use Rattle.laws_drivers.specs.world.Ahead.{WorldAhead, Fits, Level, Listens, Opens, accepts, far_world_ahead, is_asked}
 
 -- ---- a world
 
@@ -20,7 +20,7 @@ use Rattle.laws_drivers.specs.world.Ahead.{Ahead, Fits, Level, Listens, Opens, a
 pub record IsIdle (f : Far) : Type 0 where
   pub ear : f.ear ≡ quiet
   pub owed : f.owed ≡ []
-  pub aside : is_aside f.session.connection ≡ true
+  pub aside : is_set_aside f.session.connection ≡ true
 
 pub record Idles (w : World) : Type 0 where
   pub to_server : w.control_to_server ≡ []
@@ -29,7 +29,7 @@ pub record Idles (w : World) : Type 0 where
 -- ---- the server of the drive
 
 -- what asks for nothing, and is asked for nothing, is not busy
-aside_idle : (link : ServerLink Transfer) → is_aside link ≡ true → is_connection_busy link ≡ false
+aside_idle : (link : ServerLink Transfer) → is_set_aside link ≡ true → is_connection_busy link ≡ false
 aside_idle Data.Free is = refl
 aside_idle (Data.Active endpoint) is = refl
 aside_idle Data.Passive is = refl
@@ -48,8 +48,8 @@ abbrev linked : ServerLink Transfer → Far → Far
 linked link v = record v { session = record v.session { connection = link } }
 
 -- a world's server that is ahead by an opening is not at rest
-opening_progresses : (transfer : Transfer) (v : Far) → is_aside (far_ahead Opens (linked (Data.Opening transfer Ways.Accept) v)).session.connection ≡ true
-    → (far_ahead Opens (linked (Data.Opening transfer Ways.Accept) v)).owed ≡ [] → ⊥
+opening_progresses : (transfer : Transfer) (v : Far) → is_set_aside (far_world_ahead Opens (linked (Data.Opening transfer Ways.Accept) v)).session.connection ≡ true
+    → (far_world_ahead Opens (linked (Data.Opening transfer Ways.Accept) v)).owed ≡ [] → ⊥
 opening_progresses (Transfers.Upload path keep d) v aside owed = true≢false (sym aside)
 opening_progresses Transfers.OverLimit v aside owed = true≢false (sym aside)
 opening_progresses (Transfers.Download []) v aside owed = not_some v.owed _ refl owed
@@ -57,8 +57,8 @@ opening_progresses (Transfers.Download (octet ∷ more)) v aside owed = true≢f
 opening_progresses (Transfers.Listing []) v aside owed = not_some v.owed _ refl owed
 opening_progresses (Transfers.Listing (octet ∷ more)) v aside owed = true≢false (sym aside)
 
-opens_progress : (link : ServerLink Transfer) → accepts link ≡ true → (v : Far) → is_aside (far_ahead Opens (linked link v)).session.connection ≡ true
-    → (far_ahead Opens (linked link v)).owed ≡ [] → ⊥
+opens_progress : (link : ServerLink Transfer) → accepts link ≡ true → (v : Far) → is_set_aside (far_world_ahead Opens (linked link v)).session.connection ≡ true
+    → (far_world_ahead Opens (linked link v)).owed ≡ [] → ⊥
 opens_progress Data.Passive is v aside owed = true≢false (sym aside)
 opens_progress (Data.Opening transfer Ways.Accept) is v aside owed = opening_progresses transfer v aside owed
 opens_progress (Data.Opening transfer (Ways.Connect endpoint)) is v aside owed = true≢false (sym is)
@@ -69,7 +69,7 @@ opens_progress Data.Ready is v aside owed = true≢false (sym is)
 opens_progress (Data.Transferring transfer) is v aside owed = true≢false (sym is)
 
 -- nor is one that is ahead by a port
-told_progresses : (port : ℕ) (link : ServerLink Transfer) → is_asked link ≡ true → (v : Far) → (far_ahead (Listens port) (linked link v)).owed ≡ [] → ⊥
+told_progresses : (port : ℕ) (link : ServerLink Transfer) → is_asked link ≡ true → (v : Far) → (far_world_ahead (Listens port) (linked link v)).owed ≡ [] → ⊥
 told_progresses port (Data.Asked Asking.Pasv) is v owed = not_some v.owed _ refl owed
 told_progresses port (Data.Asked Asking.Epsv) is v owed = not_some v.owed _ refl owed
 told_progresses port Data.Free is v owed = true≢false (sym is)
@@ -86,7 +86,7 @@ pub record AtRest (v : Far) : Type 0 where
   pub idle : is_connection_busy v.session.connection ≡ false
 
 -- so the drive's server is where the world's is
-pub rests_so : (ahead : Ahead) (v : Far) → Fits ahead v.session.connection → IsIdle (far_ahead ahead v) → AtRest v
+pub rests_so : (ahead : WorldAhead) (v : Far) → Fits ahead v.session.connection → IsIdle (far_world_ahead ahead v) → AtRest v
 rests_so Level v fits idle = record { ear = idle.ear; owed = idle.owed; idle = aside_idle v.session.connection idle.aside }
 rests_so Opens v fits idle = absurd (opens_progress v.session.connection fits v idle.aside idle.owed)
 rests_so (Listens port) v fits idle = absurd (told_progresses port v.session.connection fits v idle.owed)
@@ -96,5 +96,5 @@ pub idle_at : (moment : ℕ) (w f : Far) → w ≡ clock_step moment f → IsIdl
 idle_at moment w f is idle = record {
   ear = sym (ap (λ (v : Far). v.ear) is) ∙ idle.ear;
   owed = sym (ap (λ (v : Far). v.owed) is) ∙ idle.owed;
-  aside = sym (ap (λ (v : Far). is_aside v.session.connection) is) ∙ idle.aside;
+  aside = sym (ap (λ (v : Far). is_set_aside v.session.connection) is) ∙ idle.aside;
 }

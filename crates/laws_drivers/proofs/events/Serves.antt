@@ -13,7 +13,7 @@ use Rattle.ftp_server_model.specs.Calls.{close_step, control_step, given_step, l
 use Rattle.ftp_server_model.specs.Machine.{completed}
 use Rattle.ftp_server_model.specs.View.{View as Far}
 use Rattle.laws_drivers.specs.control.Alone.{ServerIsCalm}
-use Rattle.laws_drivers.specs.world.Ahead.{Level, Listens, Opens, accepts, far_ahead, is_asked}
+use Rattle.laws_drivers.specs.world.Ahead.{Level, Listens, Opens, accepts, far_world_ahead, is_asked}
 use Rattle.laws_drivers.proofs.world.Ahead.{far_is, keeps, opened_level}
 use Rattle.laws_drivers.proofs.world.Served.{far_wants}
 use Rattle.laws_drivers.specs.events.Actions.{IsPeer}
@@ -71,7 +71,7 @@ module _ (old new : Stand server_side) (before : ServerServes old.owner) where
       let asked : is_asked v.session.connection ≡ true =
       sym (asked_listens v.session.connection) ∙ ap is_listen (sym (far_wants v before.running unclosed)) ∙ ap is_listen did.0.2.0 in
       let kept = keeps (Listens port) v asked in
-      let is : far_ahead (Listens port) v ≡ close_step (listening_step port v) = far_is (Listens port) v unclosed in
+      let is : far_world_ahead (Listens port) v ≡ close_step (listening_step port v) = far_is (Listens port) v unclosed in
       let waiting : (listening_step port v).waiting ≡ v.waiting = ap (λ (x : Far). x.waiting) (sym is) ∙ kept.waiting in
       now_serves (listening_step port v) (did.0.0.0.done calm ∙ none_later (listening_step port v) (waiting ∙ before.none_waits))
       (ap (λ (x : Far). x.session.life) (sym is) ∙ kept.life) waiting
@@ -85,7 +85,7 @@ module _ (old new : Stand server_side) (before : ServerServes old.owner) where
       let waits : accepts v.session.connection ≡ true =
       sym (accepts_accepts v.session.connection) ∙ ap is_accepting (sym (far_wants v before.running unclosed)) ∙ ap is_accepting did.0.2.0 in
       let kept = keeps Opens v waits in
-      let level : far_ahead Level (opened_step host v) ≡ far_ahead Opens v = opened_level host v waits unclosed same in
+      let level : far_world_ahead Level (opened_step host v) ≡ far_world_ahead Opens v = opened_level host v waits unclosed same in
       let waiting : (opened_step host v).waiting ≡ v.waiting = ap (λ (x : Far). x.waiting) level ∙ kept.waiting in
       now_serves (opened_step host v) (did.0.0.0.0.done calm ∙ none_later (opened_step host v) (waiting ∙ before.none_waits))
       (ap (λ (x : Far). x.session.life) level ∙ kept.life) waiting

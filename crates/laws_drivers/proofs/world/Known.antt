@@ -11,7 +11,7 @@ use Rattle.ftp_server_model.specs.View.{Transfer}
 use Rattle.ftp_server_model.specs.declared.session.ServerLink.{ServerLink}
 use Rattle.ftp_server_model.specs.declared.session.ServerLink.TheVariants as FarData
 use Rattle.laws_world.specs.World.{Gone, World}
-use Rattle.laws_dialogues.specs.Dialogue.{is_aside}
+use Rattle.laws_dialogues.specs.Dialogue.{is_set_aside}
 use Rattle.laws_dialogues.specs.Stage.{Answering, Asking, Way}
 use Rattle.laws_agreement.specs.Cut.{Cut, PlacedAt, world_at}
 
@@ -45,7 +45,7 @@ pub record Idling (w : World) : Type 0 where
   pub far : is_transferring w.far.session.connection ≡ false
 
 -- no transfer is under way where nothing is asked for or waits
-pub aside_still : (link : ServerLink Transfer) → is_aside link ≡ true → is_transferring link ≡ false
+pub aside_still : (link : ServerLink Transfer) → is_set_aside link ≡ true → is_transferring link ≡ false
 aside_still FarData.Free is = refl
 aside_still (FarData.Active endpoint) is = refl
 aside_still FarData.Passive is = refl

@@ -13,7 +13,7 @@ use Rattle.laws_world.specs.Events.{is_closed_by_near}
 use Rattle.laws_world.specs.Serving.{link_closed_by_far, near_closes}
 use Rattle.laws_world.specs.World.{ClosedByFar, ClosedByNear, Gone, Link, Opened, World, next_listen, port_at}
 use Rattle.laws_drivers.proofs.control.Taken.{taken}
-use Rattle.laws_drivers.specs.world.Ahead.{Ahead, Fits, Level, Listened, Listens, far_ahead, is_asked}
+use Rattle.laws_drivers.specs.world.Ahead.{WorldAhead, Fits, Level, ListenedAhead, Listens, far_world_ahead, is_asked}
 use Rattle.laws_drivers.proofs.world.Ahead.{closed_is}
 use Rattle.laws_drivers.proofs.world.Served.{far_shut, far_told, near_shut, settled}
 
@@ -42,7 +42,7 @@ far_idle w unclosed none =
 -- ---- the server moved
 
 -- how a world's server is ahead of one that moved
-abbrev pub next_ahead : (asked : Bool) → (port : ℕ) → Ahead
+abbrev pub next_ahead : (asked : Bool) → (port : ℕ) → WorldAhead
 next_ahead true port = Listens port
 next_ahead false port = Level
 
@@ -57,8 +57,8 @@ fits_next (Data.Transferring transfer) port = refl
 
 pub record FarSettles (old new : World) : Type 0 where
   pub near : new.near ≡ old.near
-  pub far : new.far ≡ far_ahead (next_ahead (is_asked old.far.session.connection) (port_at old.listens)) old.far
-  pub listens : Listened (next_ahead (is_asked old.far.session.connection) (port_at old.listens)) old.listens new.listens
+  pub far : new.far ≡ far_world_ahead (next_ahead (is_asked old.far.session.connection) (port_at old.listens)) old.far
+  pub listens : ListenedAhead (next_ahead (is_asked old.far.session.connection) (port_at old.listens)) old.listens new.listens
   pub reports : new.reports ≡ old.reports
   pub same : Same old new
 
@@ -137,7 +137,7 @@ far_same w unclosed = by w.far.session.closing refl
 
 -- then it is told a port, if it wants one
 told_ahead : (link : ServerLink Transfer) (port : ℕ) (v : Far)
-    → (if is_asked link then listening_step port (close_step (at link v)) else close_step (at link v)) ≡ far_ahead (next_ahead (is_asked link) port) (at link v)
+    → (if is_asked link then listening_step port (close_step (at link v)) else close_step (at link v)) ≡ far_world_ahead (next_ahead (is_asked link) port) (at link v)
 told_ahead (Data.Asked Asking.Pasv) port v = refl
 told_ahead (Data.Asked Asking.Epsv) port v = refl
 told_ahead Data.Free port v = refl
@@ -150,12 +150,12 @@ told_ahead (Data.Transferring transfer) port v = refl
 -- a port is told or not
 told_same : (w : World) → is_closed_by_near w.link ≡ false → Same w (far_told w) × ((far_told w).near ≡ w.near)
     × ((far_told w).far ≡ (if is_asked w.far.session.connection then listening_step (port_at w.listens) w.far else w.far))
-    × Listened (next_ahead (is_asked w.far.session.connection) (port_at w.listens)) w.listens (far_told w).listens × ((far_told w).reports ≡ w.reports)
+    × ListenedAhead (next_ahead (is_asked w.far.session.connection) (port_at w.listens)) w.listens (far_told w).listens × ((far_told w).reports ≡ w.reports)
 told_same w unclosed = by (is_asked w.far.session.connection)
   where
     by : (asked : Bool) → let u : World = (if asked then record w { far = listening_step (port_at w.listens) w.far; listens = next_listen w.listens } else w) in
         Same w u × (u.near ≡ w.near) × (u.far ≡ (if asked then listening_step (port_at w.listens) w.far else w.far))
-        × Listened (next_ahead asked (port_at w.listens)) w.listens u.listens × (u.reports ≡ w.reports)
+        × ListenedAhead (next_ahead asked (port_at w.listens)) w.listens u.listens × (u.reports ≡ w.reports)
     by true = (
       record { to_server = refl; to_client = refl; data_to_server = refl; data_to_client = refl; control = refl; marks = refl; cutoff = refl; link = unclosed },
       refl,
@@ -182,7 +182,7 @@ far_settles w none unclosed link =
     let is : settled w ≡ record t { near = taken t.near; reports = t.reports ++ option_to_list (report_of t.near) } =
     ap (λ (x : World).
     let y : World = far_told (far_shut x) in record y { near = taken y.near; reports = y.reports ++ option_to_list (report_of y.near) }) first in
-    let far : t.far ≡ far_ahead (next_ahead (is_asked w.far.session.connection) (port_at w.listens)) w.far =
+    let far : t.far ≡ far_world_ahead (next_ahead (is_asked w.far.session.connection) (port_at w.listens)) w.far =
     told.2 ∙ (λ i. if is_asked (shut.2 i).session.connection then listening_step (port_at (shut.3 i)) (shut.2 i) else shut.2 i)
     ∙ told_ahead w.far.session.connection (port_at w.listens) w.far in
     record {
@@ -205,9 +205,9 @@ far_settles w none unclosed link =
   where
     told_listens : (t : World) → settled w ≡ record t { near = taken t.near; reports = t.reports ++ option_to_list (report_of t.near) }
         → (far_shut w).far ≡ close_step w.far → (far_shut w).listens ≡ w.listens
-        → Listened (next_ahead (is_asked (far_shut w).far.session.connection) (port_at (far_shut w).listens)) (far_shut w).listens t.listens
-        → Listened (next_ahead (is_asked w.far.session.connection) (port_at w.listens)) w.listens (settled w).listens
+        → ListenedAhead (next_ahead (is_asked (far_shut w).far.session.connection) (port_at (far_shut w).listens)) (far_shut w).listens t.listens
+        → ListenedAhead (next_ahead (is_asked w.far.session.connection) (port_at w.listens)) w.listens (settled w).listens
     told_listens t is far listens told =
-        subst (Listened (next_ahead (is_asked w.far.session.connection) (port_at w.listens)) w.listens) (sym (ap (λ (x : World). x.listens) is))
-        (subst (λ n. Listened (next_ahead (is_asked w.far.session.connection) (port_at n)) n t.listens) listens
-        (subst (λ (f : Far). Listened (next_ahead (is_asked f.session.connection) (port_at (far_shut w).listens)) (far_shut w).listens t.listens) far told))
+        subst (ListenedAhead (next_ahead (is_asked w.far.session.connection) (port_at w.listens)) w.listens) (sym (ap (λ (x : World). x.listens) is))
+        (subst (λ n. ListenedAhead (next_ahead (is_asked w.far.session.connection) (port_at n)) n t.listens) listens
+        (subst (λ (f : Far). ListenedAhead (next_ahead (is_asked f.session.connection) (port_at (far_shut w).listens)) (far_shut w).listens t.listens) far told))

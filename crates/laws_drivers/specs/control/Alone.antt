@@ -26,23 +26,23 @@ abbrev pub ClientAttends : Held Client → Type 0
 ClientAttends at = near.wants at.end.view ≡ Want.Nothing
 
 -- actions of a server beside the control connection alone
-abbrev pub IsServing : Action server_side → Type 0
-IsServing (Heard octets) = ⊤
-IsServing (Says octets) = ⊤
-IsServing (Read octets) = ⊤
-IsServing (Other (Aside asked)) = ⊤
-IsServing other = ⊥
+abbrev pub IsServingAlone : Action server_side → Type 0
+IsServingAlone (Heard octets) = ⊤
+IsServingAlone (Says octets) = ⊤
+IsServingAlone (Read octets) = ⊤
+IsServingAlone (Other (Aside asked)) = ⊤
+IsServingAlone other = ⊥
 
 -- those of a client: operations are begun, but no upload over breaks, and reports are taken; a drive that is over shuts its port
-abbrev pub IsAsking : Action client_side → Type 0
-IsAsking (Heard octets) = ⊤
-IsAsking (Says octets) = ⊤
-IsAsking (Read octets) = ⊤
-IsAsking (Other (Aside (Reporting said))) = ⊤
-IsAsking (Other (Aside (Starting op))) = ⊤
-IsAsking (Other (Left Shut)) = ⊤
-IsAsking (Other Closed) = ⊤
-IsAsking other = ⊥
+abbrev pub IsAskingAlone : Action client_side → Type 0
+IsAskingAlone (Heard octets) = ⊤
+IsAskingAlone (Says octets) = ⊤
+IsAskingAlone (Read octets) = ⊤
+IsAskingAlone (Other (Aside (Reporting said))) = ⊤
+IsAskingAlone (Other (Aside (Starting op))) = ⊤
+IsAskingAlone (Other (Left Shut)) = ⊤
+IsAskingAlone (Other Closed) = ⊤
+IsAskingAlone other = ⊥
 
 -- the server was not refused memory, and no device of it failed or strayed
 abbrev pub ServerIsCalm : (old new : Held Timed) → Type 0
@@ -61,11 +61,11 @@ module _ {side : Side} (Is : Action side → Type 0) (Keeps : (old new : side.En
 
 -- a server served control alone
 abbrev pub ServesAlone : (actions : List (Action server_side)) (start now : Stand server_side) → Led actions start now → Type 0
-ServesAlone actions start now led = Throughout IsServing ServerIsCalm ServerAttends actions start now led
+ServesAlone actions start now led = Throughout IsServingAlone ServerIsCalm ServerAttends actions start now led
 
 -- a client asked over control alone
 abbrev pub AsksAlone : (actions : List (Action client_side)) (start now : Stand client_side) → Led actions start now → Type 0
-AsksAlone actions start now led = Throughout IsAsking ClientIsCalm ClientAttends actions start now led
+AsksAlone actions start now led = Throughout IsAskingAlone ClientIsCalm ClientAttends actions start now led
 
 -- ---- what the client began and reported
 
@@ -73,10 +73,10 @@ AsksAlone actions start now led = Throughout IsAsking ClientIsCalm ClientAttends
 abbrev pub begun_in : (moment : ℕ) → List (Action client_side) → List Order
 begun_in moment actions = begun_at (λ n. moment) actions
 
-abbrev pub reported_by : Action client_side → List Said
-reported_by (Other (Aside (Reporting (Some said)))) = said ∷ []
-reported_by other = []
+abbrev pub reports_of : Action client_side → List Said
+reports_of (Other (Aside (Reporting (Some said)))) = said ∷ []
+reports_of other = []
 
 abbrev pub reports_in : List (Action client_side) → List Said
 reports_in [] = []
-reports_in (action ∷ before) = reports_in before ++ reported_by action
+reports_in (action ∷ before) = reports_in before ++ reports_of action

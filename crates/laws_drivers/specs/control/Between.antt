@@ -19,9 +19,9 @@ pub record Ways : Type 0 where
   pub to_server : List ℕ
   pub to_client : List ℕ
 
-abbrev pub coming : Who → Ways → List ℕ
-coming Near ways = ways.to_client
-coming Far ways = ways.to_server
+abbrev pub coming_to : Who → Ways → List ℕ
+coming_to Near ways = ways.to_client
+coming_to Far ways = ways.to_server
 
 abbrev pub with_coming : Who → List ℕ → Ways → Ways
 with_coming Near octets ways = record ways { to_client = octets }
@@ -74,7 +74,7 @@ dialled who between = with_hold who Has (with_hold (peer who) Is_called (record 
 
 -- octets that one writes go after those that its peer is still to read
 abbrev pub sent : Who → List ℕ → Ways → Ways
-sent who octets ways = with_coming (peer who) (coming (peer who) ways ++ octets) ways
+sent who octets ways = with_coming (peer who) (coming_to (peer who) ways ++ octets) ways
 
 -- How an action of one of them changes what lies between, and when it can: control octets are read in order, and only once they were written; so are
 -- those of a data connection, while it is had. One is dialled where its peer listens, which accepts it after that; who listens again forgets who came
@@ -83,7 +83,7 @@ abbrev pub Can : Who → Touch → (old new : Between) → Type 0
 Can who None_of_it old new = new ≡ old
 Can who (Says octets) old new = new ≡ record old { control = sent who octets old.control }
 Can who (Reads octets) old new =
-    (coming who old.control ≡ octets ++ coming who new.control) × (new ≡ record old { control = with_coming who (coming who new.control) old.control })
+    (coming_to who old.control ≡ octets ++ coming_to who new.control) × (new ≡ record old { control = with_coming who (coming_to who new.control) old.control })
 Can who Parts old new = new ≡ old
 Can who (Listens None) old new = new ≡ old
 Can who (Listens (Some port)) old new = IsOver (hold_of who old) × (new ≡ with_hold who (Awaits port) old)
@@ -93,11 +93,11 @@ Can who (IsDenied endpoint) old new = new ≡ old
 Can who IsMissed old new = new ≡ old
 Can who (Writes octets) old new = (hold_of who old ≡ Has) × (new ≡ record old { data_ways = sent who octets old.data_ways })
 Can who (Takes octets) old new =
-    (hold_of who old ≡ Has) × (coming who old.data_ways ≡ octets ++ coming who new.data_ways)
-    × (new ≡ record old { data_ways = with_coming who (coming who new.data_ways) old.data_ways })
+    (hold_of who old ≡ Has) × (coming_to who old.data_ways ≡ octets ++ coming_to who new.data_ways)
+    × (new ≡ record old { data_ways = with_coming who (coming_to who new.data_ways) old.data_ways })
 Can who Ends old new = (hold_of who old ≡ Has) × (new ≡ with_hold who Has_ended old)
 Can who Resets old new = IsStanding (hold_of who old) × (new ≡ with_hold who Has_lost old)
-Can who ToldEnd old new = (hold_of (peer who) old ≡ Has_ended) × (coming who old.data_ways ≡ []) × (new ≡ old)
+Can who ToldEnd old new = (hold_of (peer who) old ≡ Has_ended) × (coming_to who old.data_ways ≡ []) × (new ≡ old)
 Can who ToldBreak old new = (hold_of who old ≡ Has) × (new ≡ with_hold who Has_lost old)
 
 -- in this order, the last one first: actions of the server and of the client

@@ -5,7 +5,7 @@ use Rattle.ftp_ports.specs.Actions.{Action, Done, Led, Other, Said as Says, Stan
 use Rattle.ftp_ports.specs.Machine.{Machine, side_of}
 use Rattle.ftp_driver.specs.Driven.{BreaksOff}
 use Rattle.ftp_ports.specs.declared.cause.Cause.{Cause}
-use Rattle.ftp_client_driver.specs.Driving.{BrokeOff as ClientBrokeOff}
+use Rattle.ftp_client_driver.specs.Driving.{ClientBrokeOff}
 use Rattle.ftp_client_driver.specs.Side.{Begun, client_side}
 use Rattle.ftp_client_model.specs.Calls.{control_end as near_end, report_of}
 use Rattle.ftp_operation.specs.Answer.{Said}
@@ -13,7 +13,7 @@ use Rattle.ftp_operation.specs.declared.op.Op.{Op}
 use Rattle.laws_drivers.specs.control.Alone.{AsksAlone, ClientIsCalm, ServesAlone}
 use Rattle.laws_drivers.specs.control.Between.{Between, Happened, Turn, client_actions, server_actions}
 use Rattle.laws_drivers.specs.control.Claims.{Begins}
-use Rattle.laws_drivers.specs.control.Over.{AreAnswered, AreMidst, actions_in, orders_of}
+use Rattle.laws_drivers.specs.control.Over.{AreAnswered, AreMidst, actions_in, orders_at_moment}
 use Rattle.laws_drivers.specs.events.Answers.{answers_of}
 use Rattle.laws_world.specs.Agreement.{Agrees}
 use Rattle.laws_world.specs.Claims.{AreUnmarked, Beginning, IsFair, state_of}
@@ -91,5 +91,5 @@ DrivesBrokenAgree =
     (b : Beginning) → IsFair b → (moment : ℕ) → moment ≤ last_second
     → (asked : List (Op (List ℕ) × Said)) (op : Op (List ℕ)) (answer : Said) (server : Stand server_side)
     → AreBroken b asked op answer server → (marks : List (List Mark)) × AreUnmarked marks
-    × Agrees (state_of b) (orders_of moment ((op, answer) ∷ asked)) marks (Some (length marks)) (answers_of ((op, answer) ∷ asked))
+    × Agrees (state_of b) (orders_at_moment moment ((op, answer) ∷ asked)) marks (Some (length marks)) (answers_of ((op, answer) ∷ asked))
     server.owner.end.server.view.session.table

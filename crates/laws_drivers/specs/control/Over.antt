@@ -40,18 +40,18 @@ pub record AnswersAlone {op : Op (List ℕ)} {answer : Said} {old new : Stand cl
   pub midst : AreMidst a.drove.did.actions
 
 -- operations and their answers, the last one first, of a client that attends first
-abbrev pub IsAnswer : (op : Op (List ℕ)) (answer : Said) (old new : Stand client_side) → Answers op answer old new → Type 0
-IsAnswer op answer old new a = AnswersAlone a
+abbrev pub IsAnswerAlone : (op : Op (List ℕ)) (answer : Said) (old new : Stand client_side) → Answers op answer old new → Type 0
+IsAnswerAlone op answer old new a = AnswersAlone a
 
 abbrev pub AreAnswered : List (Op (List ℕ) × Said) → (start now : Stand client_side) → Type 0
-AreAnswered asked start now = ClientAttends start.owner × all.AreAnswered IsAnswer asked start now
+AreAnswered asked start now = ClientAttends start.owner × all.AreAnswered IsAnswerAlone asked start now
 
 abbrev pub actions_in : (asked : List (Op (List ℕ) × Said)) (start now : Stand client_side) → AreAnswered asked start now → List (Action client_side)
-actions_in asked start now answered = all.actions_in IsAnswer asked start now answered.1
+actions_in asked start now answered = all.actions_in IsAnswerAlone asked start now answered.1
 
 -- in order, each at this moment
-abbrev pub orders_of : (moment : ℕ) → List (Op (List ℕ) × Said) → List Order
-orders_of moment asked = orders_at (λ n. moment) asked
+abbrev pub orders_at_moment : (moment : ℕ) → List (Op (List ℕ) × Said) → List Order
+orders_at_moment moment asked = orders_at (λ n. moment) asked
 
 -- ---- the server
 
@@ -111,11 +111,11 @@ DrivesLostAgree =
     (b : Beginning) → IsFair b → (moment : ℕ) → moment ≤ last_second
     → (asked : List (Op (List ℕ) × Said)) (op : Op (List ℕ)) (answer : Said) (server : Stand server_side)
     → AreLost b asked op answer server → (marks : List (List Mark)) × AreUnmarked marks
-    × Agrees (state_of b) (orders_of moment ((op, answer) ∷ asked)) marks (Some (length marks)) (answers_of ((op, answer) ∷ asked))
+    × Agrees (state_of b) (orders_at_moment moment ((op, answer) ∷ asked)) marks (Some (length marks)) (answers_of ((op, answer) ∷ asked))
     server.owner.end.server.view.session.table
 
 -- the answers that a client's drives gave, and the map that the server's drive left, are those of the operations run directly
 abbrev pub DrivesOverAreTheDirectRun : Type 0
 DrivesOverAreTheDirectRun =
     (b : Beginning) → IsFair b → (moment : ℕ) → moment ≤ last_second → (asked : List (Op (List ℕ) × Said)) (server : Stand server_side)
-    → AreOver b asked server → AreAnswers (state_of b) (orders_of moment asked) (answers_of asked) server.owner.end.server.view.session.table
+    → AreOver b asked server → AreAnswers (state_of b) (orders_at_moment moment asked) (answers_of asked) server.owner.end.server.view.session.table

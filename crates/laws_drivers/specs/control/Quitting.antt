@@ -5,10 +5,10 @@ use Rattle.ftp_client_driver.specs.Side.{client_side}
 use Rattle.ftp_client_model.specs.declared.client.Standing.TheVariants as Standings
 use Rattle.ftp_operation.specs.Answer.{Said}
 use Rattle.ftp_operation.specs.declared.op.Op.{Op}
-use Rattle.laws_drivers.specs.control.Alone.{IsServing, ServerIsCalm, ServesAlone}
+use Rattle.laws_drivers.specs.control.Alone.{IsServingAlone, ServerIsCalm, ServesAlone}
 use Rattle.laws_drivers.specs.control.Between.{Between, Can, Far, Happened, Near, Turn, client_actions, sent, server_actions}
 use Rattle.laws_drivers.specs.control.Claims.{Begins}
-use Rattle.laws_drivers.specs.control.Over.{AreAnswered, actions_in, orders_of}
+use Rattle.laws_drivers.specs.control.Over.{AreAnswered, actions_in, orders_at_moment}
 use Rattle.laws_drivers.specs.events.Answers.{answers_of}
 use Rattle.laws_drivers.specs.control.Touches.{touch_in}
 use Rattle.laws_world.specs.Claims.{AreAnswers, Beginning, IsFair, state_of}
@@ -34,7 +34,7 @@ abbrev pub ServedAndLeft : (count : ℕ) → (actions : List (Action server_side
 ServedAndLeft zero actions start now led = ServesAlone actions start now led
 ServedAndLeft (suc count) [] start now led = ⊥
 ServedAndLeft (suc count) (action ∷ before) start now led =
-    ServedAndLeft count before start led.0 led.1 × IsServing action × ServerIsCalm led.0.owner now.owner
+    ServedAndLeft count before start led.0 led.1 × IsServingAlone action × ServerIsCalm led.0.owner now.owner
 
 -- the contracts of the drives, and an order of their actions in which each can happen; after all of the client's, which is logged in, QUIT was
 -- written, and so many of the server's actions came after that: then its drive was over
@@ -60,4 +60,4 @@ pub record HaveQuit (b : Beginning) (asked : List (Op (List ℕ) × Said)) (serv
 abbrev pub DrivesThatQuitAreTheDirectRun : Type 0
 DrivesThatQuitAreTheDirectRun =
     (b : Beginning) → IsFair b → (moment : ℕ) → moment ≤ last_second → (asked : List (Op (List ℕ) × Said)) (server : Stand server_side)
-    → HaveQuit b asked server → AreAnswers (state_of b) (orders_of moment asked) (answers_of asked) server.owner.end.server.view.session.table
+    → HaveQuit b asked server → AreAnswers (state_of b) (orders_at_moment moment asked) (answers_of asked) server.owner.end.server.view.session.table

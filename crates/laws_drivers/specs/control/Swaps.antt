@@ -3,7 +3,7 @@ use Rattle.std.specs.Prelude.{◌≡◌, ◌⊎◌, ⊤, ℕ, List, [], ◌∷�
 use Rattle.ftp_ports.specs.Actions.{Stand}
 use Rattle.ftp_client_driver.specs.Side.{client_side}
 use Rattle.ftp_server_driver.specs.alone.Side.{server_side}
-use Rattle.laws_drivers.specs.control.Between.{Between, Can, Client, Far, Happened, Near, Server, Turn, Who, client_actions, coming, peer, server_actions}
+use Rattle.laws_drivers.specs.control.Between.{Between, Can, Client, Far, Happened, Near, Server, Turn, Who, client_actions, coming_to, peer, server_actions}
 use Rattle.laws_drivers.specs.control.Claims.{Did}
 use Rattle.laws_drivers.specs.control.Touches.{Touch, None_of_it, Says, Reads, Listens, Dials, touch_in}
 use Rattle.laws_world.specs.Claims.{Beginning}
@@ -17,7 +17,7 @@ IsOfControl other = ⊥
 
 -- all that is read was written already
 abbrev pub ReadsWritten : Who → Touch → Between → Type 0
-ReadsWritten who (Reads octets) now = (rest : List ℕ) × (coming who now.control ≡ octets ++ rest)
+ReadsWritten who (Reads octets) now = (rest : List ℕ) × (coming_to who now.control ≡ octets ++ rest)
 ReadsWritten who other now = ⊤
 
 -- so the second of two can come first, and what lies between after both is the same
@@ -60,14 +60,14 @@ abbrev pub AreFree : (first second : Touch) → Type 0
 AreFree first second = (IsOfControl first ⊎ IsOfControl second) ⊎ (IsMoving first × IsMoving second)
 
 -- such actions of different ends
-pub record AreApart (first second : Turn) : Type 0 where
+pub record AreOfPeers (first second : Turn) : Type 0 where
   pub ends : who_of second ≡ peer (who_of first)
   pub free : AreFree (touch_by first) (touch_by second)
 
 -- one and each of several
 abbrev pub IsApartFrom : Turn → List Turn → Type 0
 IsApartFrom first [] = ⊤
-IsApartFrom first (other ∷ others) = IsApartFrom first others × AreApart first other
+IsApartFrom first (other ∷ others) = IsApartFrom first others × AreOfPeers first other
 
 -- either end does the same actions in the same order
 pub record AreOfSameEnds (one other : List Turn) : Type 0 where
@@ -81,7 +81,7 @@ OrdersLeaveOne = (turns : List Turn) (one other : Between) → Happened turns on
 -- where the second of two neighbours can happen without the first, it can come first; then all that came after both can still happen
 abbrev pub NeighboursChangePlaces : Type 0
 NeighboursChangePlaces =
-    (later before : List Turn) (first second : Turn) (other now : Between) → AreApart first second
+    (later before : List Turn) (first second : Turn) (other now : Between) → AreOfPeers first second
     → Happened (second ∷ before) other → Happened (later ++ second ∷ first ∷ before) now
     → Happened (later ++ first ∷ second ∷ before) now × AreOfSameEnds (later ++ second ∷ first ∷ before) (later ++ first ∷ second ∷ before)
 

@@ -31,10 +31,10 @@ had_by (NotConnected endpoint ∷ []) = IsDenied endpoint
 had_by other = None_of_it
 
 -- how one was left; a port alone is no connection
-abbrev pub left_by : Asked → Touch
-left_by (EndedBy left written) = Ends
-left_by (Reset left written) = Resets
-left_by other = None_of_it
+abbrev pub touch_of_leaving : Asked → Touch
+touch_of_leaving (EndedBy left written) = Ends
+touch_of_leaving (Reset left written) = Resets
+touch_of_leaving other = None_of_it
 
 abbrev pub touch_of : {Own : Type 0} → Call Own → Touch
 touch_of (machine.Listening port) = Listens (Some port)
@@ -43,7 +43,7 @@ touch_of (machine.Opened host asked at_first so_far rest) = had_by asked
 touch_of (machine.Refused asked) = had_by asked
 touch_of (machine.Got octets) = Takes octets
 touch_of (machine.Wrote octets) = Writes octets
-touch_of (machine.Left asked) = left_by asked
+touch_of (machine.Left asked) = touch_of_leaving asked
 touch_of machine.End = ToldEnd
 touch_of machine.Break = ToldBreak
 touch_of other = None_of_it

@@ -2,7 +2,7 @@
 use Rattle.std.specs.Prelude.{◌≡◌, ℕ, List, [], ◌∷◌, ◌++◌, length, Option, Some}
 use Rattle.ftp_ports.specs.Actions.{Action, Done, Other, Stand}
 use Rattle.ftp_ports.specs.Machine.{Closed, Held, Left}
-use Rattle.ftp_client_driver.specs.Driving.{Drove as ClientDrove}
+use Rattle.ftp_client_driver.specs.Driving.{ClientDrove}
 use Rattle.ftp_client_driver.specs.Side.{Begun, Report, client_side}
 use Rattle.ftp_client_model.specs.Failing.{Client}
 use Rattle.ftp_operation.specs.Answer.{Said}

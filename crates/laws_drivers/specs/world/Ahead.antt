@@ -9,9 +9,9 @@ use Rattle.ftp_server_model.specs.declared.session.ServerLink.TheVariants as Dat
 use Rattle.ftp_server_model.specs.declared.session.Way.TheVariants as Ways
 
 -- closes aside, which a world does at once: it is level; a client that has dialled is accepted there; or a port that is wanted is told there
-pub data Ahead : Type 0 where
-  Level Opens : Ahead
-  Listens : (port : ℕ) → Ahead
+pub data WorldAhead : Type 0 where
+  Level Opens : WorldAhead
+  Listens : (port : ℕ) → WorldAhead
 
 -- it waits for who comes
 abbrev pub accepts : ServerLink Transfer → Bool
@@ -30,20 +30,20 @@ is_open Data.Ready = true
 is_open (Data.Transferring transfer) = true
 is_open link = false
 
-abbrev pub Fits : Ahead → ServerLink Transfer → Type 0
+abbrev pub Fits : WorldAhead → ServerLink Transfer → Type 0
 Fits Level link = is_asked link ≡ false
 Fits Opens link = accepts link ≡ true
 Fits (Listens port) link = is_asked link ≡ true
 
-abbrev pub ahead_of : Ahead → Far → Far
+abbrev pub ahead_of : WorldAhead → Far → Far
 ahead_of Level v = v
 ahead_of Opens v = completed (opens (connection_of v.session) true v)
 ahead_of (Listens port) v = listening_step port v
 
-abbrev pub far_ahead : Ahead → Far → Far
-far_ahead ahead v = close_step (ahead_of ahead (close_step v))
+abbrev pub far_world_ahead : WorldAhead → Far → Far
+far_world_ahead ahead v = close_step (ahead_of ahead (close_step v))
 
 -- how many ports were told there, where so many were told here, and which
-abbrev pub Listened : Ahead → (here there : ℕ) → Type 0
-Listened (Listens port) here there = (there ≡ next_listen here) × (port ≡ port_at here)
-Listened ahead here there = there ≡ here
+abbrev pub ListenedAhead : WorldAhead → (here there : ℕ) → Type 0
+ListenedAhead (Listens port) here there = (there ≡ next_listen here) × (port ≡ port_at here)
+ListenedAhead ahead here there = there ≡ here

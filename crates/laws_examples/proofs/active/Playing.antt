@@ -19,7 +19,7 @@ use Rattle.laws_drivers.proofs.control.Playing.{Attends, ear_after, far_ending, 
 use Rattle.laws_drivers.specs.events.Actions.{AreMidst, IsMidst}
 use Rattle.laws_transfers.specs.Actions.{AreResets}
 use Rattle.laws_drivers.specs.events.Moments.{AreToldAt, last_of, number_in}
-use Rattle.laws_active.specs.Actions.{ArePorts, AsksAlong, ClientTransfers, ServerTransfers, ServesAlong, listened_in}
+use Rattle.laws_active.specs.Actions.{ArePortsOfTurns, AsksAlongEitherWay, ClientTransfersEitherWay, ServerTransfersEitherWay, ServesAlongEitherWay, listened_in_turns}
 use Rattle.laws_examples.proofs.transfers.Playing.{IsUnbroken, IsUntimed, can_take, drop_all, far_in, first_is, hearing, lies, near_in, near_resets, other_is, reading, saying, seen_so, take_all, takes_only}
 
 -- ---- actions of both
@@ -31,7 +31,7 @@ pub record Played (moments : ℕ → ℕ) (start : Stand server_side) (begun : S
   pub happened : Happened turns between
   pub resets : AreResets turns between happened
   pub far_led : Led (server_actions turns) start server
-  pub gives : ServesAlong (server_actions turns) start server far_led
+  pub gives : ServesAlongEitherWay (server_actions turns) start server far_led
   pub midst : List (Action client_side)
   pub are : AreMidst midst
   pub client_is : client_actions turns ≡ midst ++ Other (Begun op) ∷ []
@@ -39,14 +39,14 @@ pub record Played (moments : ℕ → ℕ) (start : Stand server_side) (begun : S
   pub turns_are : turns ≡ later ++ Client (Other (Begun op)) ∷ []
   pub later_midst : client_actions later ≡ midst
   pub near_led : Led midst begun client
-  pub takes : AsksAlong midst begun client near_led
-  pub listened_is : listened_in turns ≡ listened
-  pub ports : ArePorts turns
+  pub takes : AsksAlongEitherWay midst begun client near_led
+  pub listened_is : listened_in_turns turns ≡ listened
+  pub ports : ArePortsOfTurns turns
   pub told : AreToldAt moments turns start server far_led
 
 -- an action that tells no port
 abbrev pub TellsNoPort : Turn → Type 0
-TellsNoPort turn = (before : List Turn) → (listened_in (turn ∷ before) ≡ listened_in before) × (ArePorts before → ArePorts (turn ∷ before))
+TellsNoPort turn = (before : List Turn) → (listened_in_turns (turn ∷ before) ≡ listened_in_turns before) × (ArePortsOfTurns before → ArePortsOfTurns (turn ∷ before))
 
 -- and is told at no moment that is asked for
 abbrev pub IsQuiet : Action server_side → Type 0
@@ -55,7 +55,7 @@ IsQuiet action = TellsNoPort (Server action) × IsUntimed action
 module _ (moments : ℕ → ℕ) (start : Stand server_side) (begun : Stand client_side) (op : Op (List ℕ)) where
   -- an action of the server
   pub far_turn : (action : Action server_side) → IsQuiet action → (listened : ℕ) (old new : Between) (at next : Stand server_side) (client : Stand client_side)
-      → ServerTransfers action at.owner next.owner → Done action at next → CanTurn (Server action) old new
+      → ServerTransfersEitherWay action at.owner next.owner → Done action at next → CanTurn (Server action) old new
       → Played moments start begun op listened old at client → Played moments start begun op listened new next client
   far_turn action quiet listened old new at next client gives done can p = record {
     turns = Server action ∷ p.turns;
@@ -79,7 +79,7 @@ module _ (moments : ℕ → ℕ) (start : Stand server_side) (begun : Stand clie
   -- an action of the client but that it is told of a break
   pub near_turn : (action : Action client_side) → IsMidst action × IsUnbroken action → TellsNoPort (Client action)
       → (listened : ℕ) (old new : Between) (server : Stand server_side) (at next : Stand client_side)
-      → ClientTransfers action at.owner next.owner → Done action at next → CanTurn (Client action) old new
+      → ClientTransfersEitherWay action at.owner next.owner → Done action at next → CanTurn (Client action) old new
       → Played moments start begun op listened old server at → Played moments start begun op listened new server next
   near_turn action amid quiet listened old new server at next takes done can p = record {
     turns = Client action ∷ p.turns;
@@ -102,7 +102,7 @@ module _ (moments : ℕ → ℕ) (start : Stand server_side) (begun : Stand clie
 
   -- the client is told of a break, as the server has reset the data connection
   pub near_is_broken : (listened : ℕ) (old new : Between) (server : Stand server_side) (at next : Stand client_side)
-      → ClientTransfers (Other Break) at.owner next.owner → Done (Other Break) at next → old.far ≡ Has_lost → CanTurn (Client (Other Break)) old new
+      → ClientTransfersEitherWay (Other Break) at.owner next.owner → Done (Other Break) at next → old.far ≡ Has_lost → CanTurn (Client (Other Break)) old new
       → Played moments start begun op listened old server at → Played moments start begun op listened new server next
   near_is_broken listened old new server at next takes done lost can p = record {
     turns = Client (Other Break) ∷ p.turns;

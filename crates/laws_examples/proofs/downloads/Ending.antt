@@ -5,7 +5,7 @@ use Rattle.ftp_ports.specs.Asking.{Asked, Shut}
 use Rattle.ftp_ports.specs.Channel.{Channel}
 use Rattle.ftp_ports.specs.Actions.{Action, Done, Other, Stand}
 use Rattle.ftp_ports.specs.Machine.{Aside, Closed, Left}
-use Rattle.ftp_client_driver.specs.Side.{Begun, Report, Starting, client_side, is_under_way}
+use Rattle.ftp_client_driver.specs.Side.{Begun, Report, Starting, client_side, is_operation_under_way}
 use Rattle.ftp_client_model.specs.Calls as near
 use Rattle.ftp_client_model.specs.Plan.{count_of}
 use Rattle.ftp_client_model.specs.View.{View as Near}
@@ -81,7 +81,7 @@ module _ {before : List Turn} (b : Beginning) (first : Far) (op : Op (List ℕ))
     (moments : ℕ → ℕ) (channel : Channel) (asked : Asked) (there last : Between)
     (begins : Begins b (far_in none_yet first []) (near_in none_yet client_first []))
     (does : Done (Other (Begun op)) (near_in none_yet client_first []) (near_in none_yet begun [])) (is : IsTransferred op) (all : count_of op ≡ None)
-    (some : near.report_of n ≡ Some said) (free : is_under_way (near.reports n).job ≡ false)
+    (some : near.report_of n ≡ Some said) (free : is_operation_under_way (near.reports n).job ≡ false)
     (leaves : Done (Other (Left asked)) (near_in channel (near.reports n) []) (near_in none_yet (near.reports n) []))
     (may : ClientSuffers (Other (Left asked)) (near_in channel (near.reports n) []).owner (near_in none_yet (near.reports n) []).owner)
     (can : CanTurn (Client (Other (Left asked))) there last)

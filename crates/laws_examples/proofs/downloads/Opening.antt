@@ -40,11 +40,11 @@ use Rattle.laws_examples.proofs.transfers.Calling.{Dials, client_first, far_firs
 use Rattle.laws_examples.proofs.transfers.Moves.{gives, writes}
 use Rattle.laws_examples.proofs.transfers.Peeking.{more_stands}
 use Rattle.laws_examples.proofs.transfers.Playing.{PlayedBy, far_in, far_obeys, far_says, far_turn, lies, near_in, none_yet, one_stands}
-use Rattle.laws_examples.specs.downloads.Example.{first_octet, get}
+use Rattle.laws_examples.specs.downloads.Example.{first_octet, example_get}
 use Rattle.laws_examples.proofs.downloads.Breaking.{breaking}
 
 -- it dials where it is told
-pub get_dials : Dials get
+pub get_dials : Dials example_get
 unfolding near.data_opened near.wants answered line_heard extended_value path_on_literals
 get_dials = record { logged = refl; called = refl; rest = refl }
 
@@ -54,7 +54,7 @@ get_dials = record { logged = refl; called = refl; rest = refl }
 abbrev pub getting : Replied → Near
 getting replied = record client_first {
   standing = Standings.Entered;
-  job = Transferring get (record { replied = replied; abort = Aborts.Unsent; flow = download_flow defaults });
+  job = Transferring example_get (record { replied = replied; abort = Aborts.Unsent; flow = download_flow defaults });
   connection = Links.Open;
 }
 
@@ -66,7 +66,7 @@ abbrev pub near_over : Near
 near_over = record client_first { standing = Standings.Entered; job = Told (Broken first_octet None) }
 
 -- the operation is begun
-pub get_begins : Done (Other (Begun get)) (near_in none_yet client_first []) (near_in none_yet (near_first get) [])
+pub get_begins : Done (Other (Begun example_get)) (near_in none_yet client_first []) (near_in none_yet (near_first example_get) [])
 unfolding near.starts path_on_literals
 get_begins = (((refl, (((λ calm. refl), (λ moved. absurd (moved refl))), inl refl)), refl, tt), refl)
 
@@ -90,14 +90,14 @@ module _ (table : Table) where
   Starts = far_in none_yet (far_first table) []
 
 abbrev pub begun : Stand client_side
-begun = near_in none_yet (near_first get) []
+begun = near_in none_yet (near_first example_get) []
 
 -- ---- action by action
 
 module _ (table : Table) (moments : ℕ → ℕ) where
   -- actions led there, after these turns
   abbrev pub Leads : List Turn → Between → Stand server_side → Stand client_side → Type 0
-  Leads before between server client = PlayedBy (breaking before) moments (Starts table) begun get 1 between server client
+  Leads before between server client = PlayedBy (breaking before) moments (Starts table) begun example_get 1 between server client
 
   module _ (root : node_at table [] ≡ Some Dir) (stamp : ℕ) (file : node_at (under table []) (example_name ∷ []) ≡ Some (File example_octets stamp)) where
     -- RETR is heard
@@ -107,11 +107,11 @@ module _ (table : Table) (moments : ℕ → ℕ) where
     obeys =
         let retr : List ℕ = 82 ∷ 69 ∷ 84 ∷ 82 ∷ 32 ∷ 102 ∷ 13 ∷ [] in
         let at : Attends (far_ready table) = record { wants = refl; running = refl; none_waits = refl } in
-        far_obeys moments (Starts table) begun get 1 [] [] Has Has [] retr (one_stands [] []) (far_ready table) (far_sent table)
+        far_obeys moments (Starts table) begun example_get 1 [] [] Has Has [] retr (one_stands [] []) (far_ready table) (far_sent table)
         (line_of (command.Retr example_name)) (command.Retr example_name)
         (near_in (one_stands [] []) (still near_open) []) at refl refl refl refl
         (λ read reads. reads_stated read (command.Retr example_name) reads tt refl) (rw file refl)
-        (reaches (breaking []) ([], refl) table moments get get_dials root)
+        (reaches (breaking []) ([], refl) table moments example_get get_dials root)
 
     -- 150 is said, and one octet given and written
     pub sends : Leads [] (lies [] (far_sent table).owed [] first_octet Has Has) (far_in more_stands (far_half table) [])
@@ -124,10 +124,10 @@ module _ (table : Table) (moments : ℕ → ℕ) where
         let down : List ℕ = sent.owed in
         let both = lies [] down [] [] Has Has in
         let come = lies [] down [] first_octet Has Has in
-        let opens = far_says moments start begun get 1 [] [] Has Has [] [] (one_stands [] []) sent client refl obeys in
-        let given = far_turn moments start begun get (Other (Gave 1 first_octet Rests.More)) ((λ before. (refl, λ ports. ports)), λ old new done moment. tt) 1
+        let opens = far_says moments start begun example_get 1 [] [] Has Has [] [] (one_stands [] []) sent client refl obeys in
+        let given = far_turn moments start begun example_get (Other (Gave 1 first_octet Rests.More)) ((λ before. (refl, λ ports. ports)), λ old new done moment. tt) 1
         both both (far_in (one_stands [] []) (quiet sent) []) (far_in (with_rest Rests.More (one_stands first_octet [])) half []) client (tt, refl)
         (gives Rests.More first_octet (quiet sent) half refl refl refl refl) refl opens in
-        far_turn moments start begun get (Other (Wrote first_octet)) ((λ before. (refl, λ ports. ports)), λ old new done moment. tt) 1 both come
+        far_turn moments start begun example_get (Other (Wrote first_octet)) ((λ before. (refl, λ ports. ports)), λ old new done moment. tt) 1 both come
         (far_in (with_rest Rests.More (one_stands first_octet [])) half []) (far_in more_stands half []) client (tt, refl)
         (writes Rests.More first_octet half (omega arith)) (refl, refl) given

@@ -10,7 +10,7 @@ use Rattle.ftp_ports.specs.Machine.{Closed, Held, Left, move_of}
 use Rattle.ftp_ports.proofs.Courses.{carries}
 use Rattle.ftp_ports.proofs.Idling.{carrier}
 use Rattle.ftp_ports.proofs.Totals.{sums}
-use Rattle.ftp_client_driver.specs.Side.{Begun, Report, client_side, is_under_way}
+use Rattle.ftp_client_driver.specs.Side.{Begun, Report, client_side, is_operation_under_way}
 use Rattle.ftp_client_model.specs.Calls as near
 use Rattle.ftp_client_model.specs.Failing.{Client as NearEnd}
 use Rattle.ftp_client_model.specs.View.{View as Near}
@@ -39,7 +39,7 @@ use Rattle.laws_examples.proofs.transfers.Playing.{Played, far_in, lies, near_in
 use Rattle.laws_transfers.specs.Actions.{ClientTransfers, IsTransferred}
 use Rattle.laws_transfers.specs.Over.{AreOver}
 use Rattle.laws_drivers.specs.events.Quitting.{LeavesAlong}
-use Rattle.laws_transfers.specs.Quitting.{HaveQuit}
+use Rattle.laws_transfers.specs.Quitting.{QuitAfterAll}
 
 -- both ended the data connection, or both lost it, and so much of the control connection is to be read
 abbrev pub lies_over : Hold → (up down : List ℕ) → Between
@@ -136,7 +136,7 @@ pub record IsAnsweredBy (Carries : Op (List ℕ) → Type 0) (Does : Action clie
   pub does : Done (Other (Begun op)) (near_in none_yet client_first []) (near_in none_yet begun [])
   pub is : Carries op
   pub some : near.report_of heard ≡ Some said
-  pub free : is_under_way (near.reports heard).job ≡ false
+  pub free : is_operation_under_way (near.reports heard).job ≡ false
   pub leaves : Done (Other (Left asked)) (near_in channel (near.reports heard) []) (near_in none_yet (near.reports heard) [])
   pub may : Does (Other (Left asked)) (near_in channel (near.reports heard) []).owner (near_in none_yet (near.reports heard) []).owner
   pub can : CanTurn (Client (Other (Left asked))) there (lies_over hold [] [])
@@ -152,7 +152,7 @@ IsAnswered b moments op said =
 module _ (b : Beginning) (first : Far) (op : Op (List ℕ)) (said : Said) (client_first begun : Near) (v : Far) (n : Near) (moments : ℕ → ℕ)
     (channel : Channel) (asked : Asked) (hold : Hold) (there : Between) (begins : Begins b (far_in none_yet first []) (near_in none_yet client_first []))
     (does : Done (Other (Begun op)) (near_in none_yet client_first []) (near_in none_yet begun [])) (is : IsTransferred op)
-    (some : near.report_of n ≡ Some said) (free : is_under_way (near.reports n).job ≡ false)
+    (some : near.report_of n ≡ Some said) (free : is_operation_under_way (near.reports n).job ≡ false)
     (leaves : Done (Other (Left asked)) (near_in channel (near.reports n) []) (near_in none_yet (near.reports n) []))
     (may : ClientTransfers (Other (Left asked)) (near_in channel (near.reports n) []).owner (near_in none_yet (near.reports n) []).owner)
     (can : CanTurn (Client (Other (Left asked))) there (lies_over hold [] []))
@@ -208,7 +208,7 @@ module _ (b : Beginning) (first : Far) (op : Op (List ℕ)) (said : Said) (clien
   -- or QUIT was written, and heard
   pub both_quit : (w : Far) (down : List ℕ) → far.wants w ≡ Want.CloseAll → (near.data_closed (near.reports n)).standing ≡ Standings.Entered
       → Quitted (far_in none_yet first []) v (server_actions p.turns) hold [] w [] down
-      → (server : Stand server_side) × HaveQuit b moments ((op, said) ∷ []) server
+      → (server : Stand server_side) × QuitAfterAll b moments ((op, said) ∷ []) server
   unfolding all_asked near_answers near_drove near_done quit_drove
   both_quit w down over entered q = (
     far_in none_yet w [],

@@ -19,20 +19,20 @@ use Rattle.ftp_tree.specs.Sound.{IsSoundTable, is_sound_entry}
 use Rattle.ftp_tree.specs.Tree.{IsTree, file_limit, installed, most_octets, node_at, octets_at, octets_in, octets_or_none, room_at, root_alone, root_within, total_limit, under}
 use Rattle.laws_drivers.specs.control.Example.{example}
 use Rattle.laws_world.specs.Claims.{IsFair}
-use Rattle.laws_examples.specs.transfers.Example.{HasRoom, IsThere, example_name, example_octets, file_alone}
+use Rattle.laws_examples.specs.transfers.Example.{HasRoom, IsThere, example_name, example_octets, example_file_alone}
 
 -- the file stands there
-file_stands : node_at file_alone (example_name ∷ []) ≡ Some (File example_octets 0)
+file_stands : node_at example_file_alone (example_name ∷ []) ≡ Some (File example_octets 0)
 unfolding installed
 file_stands = at-insert root_alone (example_name ∷ []) (File example_octets 0) (example_name ∷ [])
 
 -- and so does the root
-root_stands : node_at file_alone [] ≡ Some Dir
+root_stands : node_at example_file_alone [] ≡ Some Dir
 unfolding installed
 root_stands = at-insert root_alone (example_name ∷ []) (File example_octets 0) [] ∙ root-tree.root
 
 -- it is a tree, since nothing stood there before
-is_tree : IsTree file_alone
+is_tree : IsTree example_file_alone
 unfolding installed parent
 is_tree = IsTree-insert root_alone (example_name ∷ []) (File example_octets 0) root-tree root-tree.root
     (λ dir. absurd (true≢false (sym (ap is_some (sym (at-root_alone (example_name ∷ [])) ∙ dir)))))
@@ -44,16 +44,16 @@ none_longer false true = omega arith
 none_longer false false = omega arith
 
 -- so its files are
-short_files : HasShortFiles (under file_alone [])
+short_files : HasShortFiles (under example_file_alone [])
 unfolding octets_at installed
 short_files path =
     subst (λ node. length (unwrap_or (of_node octets_of node) []) ≤ most_octets)
-    (sym (under-stands file_alone [] path ∙ at-insert root_alone (example_name ∷ []) (File example_octets 0) path
+    (sym (under-stands example_file_alone [] path ∙ at-insert root_alone (example_name ∷ []) (File example_octets 0) path
     ∙ ap (cond (eq_by_cmp path_cmp path (example_name ∷ [])) (Some (File example_octets 0))) (at-root_alone path)))
     (none_longer _ _)
 
 -- its entries are the root and the file, and sound
-are_sound : IsSoundTable file_alone
+are_sound : IsSoundTable example_file_alone
 unfolding installed root_alone root_within path_on_literals
 are_sound =
     ap (list_all is_sound_entry) (fin.entries-insert path_total maps.root_alone (example_name ∷ []) (File example_octets 0)
@@ -61,7 +61,7 @@ are_sound =
     ∙ ap (put path_cmp (example_name ∷ []) (File example_octets 0)) (entries-table [] refl))
 
 -- so the session is fair
-is_fair : IsFair (example file_alone)
+is_fair : IsFair (example example_file_alone)
 unfolding login_account fits text_of
 is_fair = record {
   user = refl;
@@ -77,7 +77,7 @@ is_fair = record {
 }
 
 -- its octets are those of the file
-has_octets : octets_in file_alone ≡ 2
+has_octets : octets_in example_file_alone ≡ 2
 unfolding octets_in maps.octets_in installed root_alone root_within
 has_octets =
     ap (sum_by (λ entry. length_of entry.1)) (fin.entries-insert path_total maps.root_alone (example_name ∷ []) (File example_octets 0)
@@ -85,21 +85,21 @@ has_octets =
     ∙ ap (put path_cmp (example_name ∷ []) (File example_octets 0)) (entries-table [] refl))
 
 -- those at its place are freed
-has_there : octets_or_none file_alone (example_name ∷ []) ≡ example_octets
+has_there : octets_or_none example_file_alone (example_name ∷ []) ≡ example_octets
 unfolding octets_at
 has_there = rw file_stands refl
 
 -- so there is room for one
-limits : nat_le 1 (min (file_limit file_alone) (total_limit file_alone - 0)) ≡ true
+limits : nat_le 1 (min (file_limit example_file_alone) (total_limit example_file_alone - 0)) ≡ true
 unfolding installed root_alone root_within
 limits = refl
 
-has_room : HasRoom file_alone
+has_room : HasRoom example_file_alone
 unfolding room_at
 has_room =
-    ap (λ n. nat_le 1 (min (file_limit file_alone) (total_limit file_alone - (n - length (octets_or_none file_alone (example_name ∷ []))))))
+    ap (λ n. nat_le 1 (min (file_limit example_file_alone) (total_limit example_file_alone - (n - length (octets_or_none example_file_alone (example_name ∷ []))))))
     has_octets
-    ∙ ap (λ o. nat_le 1 (min (file_limit file_alone) (total_limit file_alone - (2 - length o)))) has_there ∙ limits
+    ∙ ap (λ o. nat_le 1 (min (file_limit example_file_alone) (total_limit example_file_alone - (2 - length o)))) has_there ∙ limits
 
 pub file_alone_is_there : IsThere
 file_alone_is_there = record { has = record { root = root_stands; file = file_stands }; room = has_room; fair = is_fair }

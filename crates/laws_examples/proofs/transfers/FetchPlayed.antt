@@ -41,7 +41,7 @@ use Rattle.laws_drivers.specs.control.Between.{Between, Has, Has_ended, server_a
 use Rattle.laws_drivers.specs.control.Example.{example}
 use Rattle.laws_drivers.proofs.control.Playing.{Attends, ear_after, is_silent, no_events}
 use Rattle.laws_transfers.specs.Over.{AreOver}
-use Rattle.laws_transfers.specs.Quitting.{HaveQuit}
+use Rattle.laws_transfers.specs.Quitting.{QuitAfterAll}
 use Rattle.laws_examples.specs.transfers.Example.{FetchHasQuit, FetchIsOver, HasFile, example_how, example_name, example_octets, fetch_asked}
 use Rattle.laws_examples.proofs.transfers.Calling.{Dials, client_first, far_bye, far_done, far_first, far_ready, near_first, quiet, reaches, starts_so, still}
 use Rattle.laws_examples.proofs.transfers.Ending.{IsAnswered, both_over, both_quit, quits}
@@ -206,7 +206,7 @@ module _ (table : Table) (moments : ℕ → ℕ) where
         refl (record { wants = refl; running = refl; none_waits = refl }) refl
 
     -- so both are over
-    has_quit : (server : Stand server_side) × HaveQuit (example table) moments fetch_asked server
+    has_quit : (server : Stand server_side) × QuitAfterAll (example table) moments fetch_asked server
     unfolding near.starts near.data_opened near.data_end obeyed answered line_heard extended_value path_on_literals
     has_quit = both_quit (example table) (far_first table) fetch (Octets example_octets) client_first (near_first fetch) (far_done table) near_over moments
         one_over (EndedBy None None) Has_ended (lies [] [] [] [] Has Has_ended) (starts_so table moments fetch fetch_dials)

@@ -8,7 +8,7 @@ use Rattle.ftp_ports.specs.Machine.{Closed, End, Gave, Got, Left, Listening, Ope
 use Rattle.ftp_ports.specs.declared.whole.Fate.TheVariants as Fates
 use Rattle.ftp_ports.specs.declared.whole.Rest.{Rest}
 use Rattle.ftp_ports.specs.declared.whole.Rest.TheVariants as Rests
-use Rattle.ftp_client_driver.specs.Side.{Report, is_under_way}
+use Rattle.ftp_client_driver.specs.Side.{Report, is_operation_under_way}
 use Rattle.ftp_client_model.specs.Calls as near
 use Rattle.ftp_client_model.specs.View.{View as Near}
 use Rattle.ftp_endpoint.specs.declared.endpoint.Endpoint.{Endpoint}
@@ -211,7 +211,7 @@ near_leaves n owed = (
 )
 
 -- and it is told so, where no operation is under way
-pub near_closes : (n : Near) → is_under_way n.job ≡ false → Done (Other Closed) (near_in none_yet n []) (near_in none_yet (near.data_closed n) [])
+pub near_closes : (n : Near) → is_operation_under_way n.job ≡ false → Done (Other Closed) (near_in none_yet n []) (near_in none_yet (near.data_closed n) [])
 near_closes n free = (((refl, refl), (refl, refl), λ sound under. absurd (true≢false (sym under ∙ free))), refl)
 
 -- ---- the client, which gives
@@ -263,7 +263,7 @@ pub near_is_closed : (n : Near) → near.wants n ≡ Want.CloseData → Done (Ot
 near_is_closed n wants = (((refl, refl), (refl, refl), λ sound under. wants), refl)
 
 -- its port is shut, where no operation is under way
-pub near_shuts : (n : Near) → is_under_way n.job ≡ false → Done (Other (Left Shut)) (near_in none_yet n []) (near_in none_yet n [])
+pub near_shuts : (n : Near) → is_operation_under_way n.job ≡ false → Done (Other (Left Shut)) (near_in none_yet n []) (near_in none_yet n [])
 near_shuts n free = (
   (
     refl,

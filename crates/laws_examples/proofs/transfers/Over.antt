@@ -8,8 +8,8 @@ use Rattle.ftp_ports.specs.Machine.{Closed, Held, Left, move_of, seen, waits}
 use Rattle.ftp_ports.proofs.Courses.{carries}
 use Rattle.ftp_ports.proofs.Idling.{carrier}
 use Rattle.ftp_ports.proofs.Totals.{sums}
-use Rattle.ftp_client_driver.specs.Driving.{Drove as ClientDrove}
-use Rattle.ftp_client_driver.specs.Side.{Begun, Report, client_machine, client_side, is_under_way}
+use Rattle.ftp_client_driver.specs.Driving.{ClientDrove}
+use Rattle.ftp_client_driver.specs.Side.{Begun, Report, client_machine, client_side, is_operation_under_way}
 use Rattle.ftp_client_model.specs.Calls as near
 use Rattle.ftp_client_model.specs.Failing.{Client as NearEnd}
 use Rattle.ftp_client_model.specs.View.{View as Near}
@@ -32,7 +32,7 @@ use Rattle.laws_examples.proofs.transfers.Playing.{far_in, near_in, none_yet}
 pub record Reports (op : Op (List ℕ)) (said : Said) (client_first begun n : Near) (channel : Channel) (asked : Asked) : Type 0 where
   pub does : Done (Other (Begun op)) (near_in none_yet client_first []) (near_in none_yet begun [])
   pub some : near.report_of n ≡ Some said
-  pub free : is_under_way (near.reports n).job ≡ false
+  pub free : is_operation_under_way (near.reports n).job ≡ false
   pub leaves : Done (Other (Left asked)) (near_in channel (near.reports n) []) (near_in none_yet (near.reports n) [])
   pub midst : List (Action client_side)
   pub led : Led midst (near_in none_yet begun []) (near_in channel n [])

@@ -44,7 +44,7 @@ use Rattle.laws_drivers.specs.control.Between.{Between, Has, Has_lost, server_ac
 use Rattle.laws_drivers.specs.control.Example.{example}
 use Rattle.laws_drivers.proofs.control.Playing.{Attends, ear_after, is_silent, no_events}
 use Rattle.laws_transfers.specs.Over.{AreOver}
-use Rattle.laws_transfers.specs.Quitting.{HaveQuit}
+use Rattle.laws_transfers.specs.Quitting.{QuitAfterAll}
 use Rattle.laws_examples.specs.transfers.Example.{HasFile, PeekHasQuit, PeekIsOver, example_how, example_name, example_octets, peek_asked}
 use Rattle.laws_examples.proofs.transfers.Calling.{Dials, client_first, far_bye, far_done, far_first, far_ready, near_first, quiet, reaches, starts_so, still}
 use Rattle.laws_examples.proofs.transfers.Ending.{IsAnswered, both_over, both_quit, quits}
@@ -228,7 +228,7 @@ module _ (table : Table) (moments : ℕ → ℕ) where
         refl (record { wants = refl; running = refl; none_waits = refl }) refl
 
     -- or QUIT was heard
-    has_quit : (server : Stand server_side) × HaveQuit (example table) moments peek_asked server
+    has_quit : (server : Stand server_side) × QuitAfterAll (example table) moments peek_asked server
     unfolding near.starts near.data_opened obeyed answered line_heard extended_value path_on_literals
     has_quit = both_quit (example table) (far_first table) peek (Octets (104 ∷ [])) client_first (near_first peek) (far_done table) near_over moments one_broken
         (Reset None None) Has_lost (lies [] [] [] [] Has_lost Has_lost) (starts_so table moments peek peek_dials)

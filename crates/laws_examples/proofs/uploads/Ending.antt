@@ -4,7 +4,7 @@ use Rattle.ftp_ports.specs.Asking.{Asked, Shut}
 use Rattle.ftp_ports.specs.Channel.{Channel}
 use Rattle.ftp_ports.specs.Actions.{Done, Other, Stand}
 use Rattle.ftp_ports.specs.Machine.{Closed, Left}
-use Rattle.ftp_client_driver.specs.Side.{Begun, Report, client_side, is_under_way}
+use Rattle.ftp_client_driver.specs.Side.{Begun, Report, client_side, is_operation_under_way}
 use Rattle.ftp_client_model.specs.Calls as near
 use Rattle.ftp_client_model.specs.Plan.{count_of}
 use Rattle.ftp_client_model.specs.View.{View as Near}
@@ -78,7 +78,7 @@ module _ {before : List Turn} {at : Far} (b : Beginning) (first : Far) (op : Op 
     (begins : Begins b (far_in none_yet first []) (near_in none_yet client_first []))
     (does : Done (Other (Begun op)) (near_in none_yet client_first []) (near_in none_yet begun [])) (is : IsTransferred op) (all : count_of op ≡ None)
     (closing : client_first.closing ≡ false) (steps : (told : ℕ) → (later (far.break_step (later (far.clock_step told at)))).context.moment ≡ told)
-    (some : near.report_of n ≡ Some said) (free : is_under_way (near.reports n).job ≡ false)
+    (some : near.report_of n ≡ Some said) (free : is_operation_under_way (near.reports n).job ≡ false)
     (leaves : Done (Other (Left asked)) (near_in channel (near.reports n) []) (near_in none_yet (near.reports n) []))
     (may : ClientGives (Other (Left asked)) (near_in channel (near.reports n) []).owner (near_in none_yet (near.reports n) []).owner)
     (can : CanTurn (Client (Other (Left asked))) there last)

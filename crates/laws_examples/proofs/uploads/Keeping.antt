@@ -27,14 +27,14 @@ use Rattle.laws_examples.specs.transfers.Example.{example_name, example_octets}
 use Rattle.laws_examples.proofs.transfers.Calling.{client_first, far_first, near_first, quiet, starts_so}
 use Rattle.laws_examples.proofs.transfers.Moves.{near_shuts}
 use Rattle.laws_examples.proofs.transfers.Playing.{can_take, far_in, lies, near_does, near_in, near_is_told, near_turn, none_yet, one_stands, takes_only}
-use Rattle.laws_examples.specs.uploads.Example.{IsServerFirst, Passes, ServerFirstIsOver, first_octet, last_octet, put}
+use Rattle.laws_examples.specs.uploads.Example.{ServerKnowsFirst, PassesAt, ServerFirstIsOver, first_octet, second_octet_alone, put}
 use Rattle.laws_examples.proofs.uploads.Cutting.{from_here, one_more}
 use Rattle.laws_examples.proofs.uploads.Ending.{both_over, did_so}
 use Rattle.laws_examples.proofs.uploads.Session.{Leads, Starts, begins, begun, far_put, far_up, near_begun, near_lost, near_over, put_begins, put_dials, putting, takes, told_then}
 
 -- the client has the other octet to give; its data connection, with these to be written
 abbrev near_half : Near
-near_half = putting Replies.Begun last_octet
+near_half = putting Replies.Begun second_octet_alone
 
 abbrev more_stands : List ℕ → Channel
 more_stands unwritten = record (one_stands unwritten []) { rest = Rests.More }
@@ -142,7 +142,7 @@ module _ (table : Table) (moments : ℕ → ℕ) (root : node_at table [] ≡ So
       (far_in none_yet (quiet (far_put table (moments 0))) []) none_yet near_lost refl refl breaks
 
   -- so both are over, after that moment
-  passes_first : Passes (example table) moments IsServerFirst
+  passes_first : PassesAt (example table) moments ServerKnowsFirst
   unfolding near.starts near.data_opened far.control_end answered line_heard extended_value path_on_literals
   passes_first =
       let there = lies [] [] [] [] Has_lost Has_lost in

@@ -17,19 +17,19 @@ use Rattle.laws_examples.specs.transfers.Example.{example_name, example_octets}
 use Rattle.laws_examples.proofs.transfers.Calling.{quiet}
 use Rattle.laws_examples.proofs.transfers.Moves.{near_ends, near_is_closed, near_writes}
 use Rattle.laws_examples.proofs.transfers.Playing.{far_in, lies, near_does, near_in, near_turn, none_yet, one_stands}
-use Rattle.laws_examples.specs.uploads.Example.{ClientFirstIsOver, IsClientFirst, IsServerAlone, Passes, ServerAloneIsOver, both_octets, first_octet, last_octet, put}
+use Rattle.laws_examples.specs.uploads.Example.{ClientFirstIsOver, ClientKnowsFirst, IsServerAlone, PassesAt, ServerAloneIsOver, both_octets, first_octet, second_octet_alone, put}
 use Rattle.laws_examples.proofs.uploads.Cutting.{one_more}
 use Rattle.laws_examples.proofs.uploads.Session.{Leads, Starts, begun, far_up, given, near_closed, near_given, passes}
 
 -- of its data connection a write failed, and it was told that it broke
 abbrev near_failed : Channel
-near_failed = with_fate Fates.Failed (one_stands last_octet [])
+near_failed = with_fate Fates.Failed (one_stands second_octet_alone [])
 
 abbrev near_broken : Channel
 near_broken = with_fate Fates.Broken near_failed
 
 -- the first octet of both is written
-writes_first : (n : Near) → Done (Other (Wrote first_octet)) (near_in (one_stands both_octets []) n []) (near_in (one_stands last_octet []) n [])
+writes_first : (n : Near) → Done (Other (Wrote first_octet)) (near_in (one_stands both_octets []) n []) (near_in (one_stands second_octet_alone []) n [])
 writes_first n = (
   (
     refl,
@@ -51,7 +51,7 @@ writes_first n = (
 )
 
 -- a write of the other fails
-fails_then : (n : Near) → Done (Other Failed) (near_in (one_stands last_octet []) n []) (near_in near_failed n [])
+fails_then : (n : Near) → Done (Other Failed) (near_in (one_stands second_octet_alone []) n []) (near_in near_failed n [])
 fails_then n = ((refl, (refl, (refl, refl)), tt), refl)
 
 -- it is told of the break
@@ -83,9 +83,9 @@ module _ (table : Table) (moments : ℕ → ℕ) (root : node_at table [] ≡ So
       let sent = lies [] [] first_octet [] Has Has in
       let lost = lies [] [] first_octet [] Has_lost Has in
       let written = near_turn moments start begun put (Other (Wrote first_octet)) (tt, tt) 1 both sent server
-      (near_in (one_stands both_octets []) near_given []) (near_in (one_stands last_octet []) near_given []) (tt, refl)
+      (near_in (one_stands both_octets []) near_given []) (near_in (one_stands second_octet_alone []) near_given []) (tt, refl)
       (writes_first near_given) (refl, refl) (given table moments root stamp file room) in
-      let failed = near_turn moments start begun put (Other Failed) (tt, tt) 1 sent sent server (near_in (one_stands last_octet []) near_given [])
+      let failed = near_turn moments start begun put (Other Failed) (tt, tt) 1 sent sent server (near_in (one_stands second_octet_alone []) near_given [])
       (near_in near_failed near_given []) (tt, refl) (fails_then near_given) refl written in
       let told = near_does moments start begun put (Other Break) tt 1 sent lost server (near_in near_failed near_given [])
       (near_in near_broken near_given []) (inr (refl, inr refl), refl) (is_told near_given) (refl, refl) failed
@@ -114,11 +114,11 @@ module _ (table : Table) (moments : ℕ → ℕ) (root : node_at table [] ≡ So
       near_turn moments start begun put (Other Closed) (tt, tt) 1 over over server (near_in none_yet near_given []) (near_in none_yet near_closed [])
       (tt, refl) (near_is_closed near_given refl) refl left
 
-  told_first : Passes (example table) moments IsClientFirst
-  told_first = passes table moments root stamp file room Has_lost [] breaks IsClientFirst (record { near = refl; far = refl; coming = refl; given = refl })
+  told_first : PassesAt (example table) moments ClientKnowsFirst
+  told_first = passes table moments root stamp file room Has_lost [] breaks ClientKnowsFirst (record { near = refl; far = refl; coming = refl; given = refl })
 
-  told_alone : Passes (example table) moments IsServerAlone
-  told_alone = passes table moments root stamp file room Has_ended last_octet ends IsServerAlone (record { near = refl; far = refl; coming = refl })
+  told_alone : PassesAt (example table) moments IsServerAlone
+  told_alone = passes table moments root stamp file room Has_ended second_octet_alone ends IsServerAlone (record { near = refl; far = refl; coming = refl })
 
 -- the file stands where the login sees it
 pub client_first_is_over : ClientFirstIsOver

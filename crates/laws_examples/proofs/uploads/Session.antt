@@ -51,7 +51,7 @@ use Rattle.laws_examples.specs.transfers.Example.{example_name, example_octets}
 use Rattle.laws_examples.proofs.transfers.Calling.{Dials, client_first, far_first, far_ready, near_first, quiet, reaches, starts_so, still}
 use Rattle.laws_examples.proofs.transfers.Moves.{far_gets, far_takes, near_gives, near_shuts, steps}
 use Rattle.laws_examples.proofs.transfers.Playing.{PlayedBy, can_take, far_does, far_in, far_obeys, far_says, far_turn, lies, near_in, near_is_told, near_turn, none_yet, one_stands, server_of, takes_only}
-use Rattle.laws_examples.specs.uploads.Example.{Moment, Passes, both_octets, first_octet, last_octet, put}
+use Rattle.laws_examples.specs.uploads.Example.{Moment, PassesAt, both_octets, first_octet, second_octet_alone, put}
 use Rattle.laws_examples.proofs.uploads.Cutting.{began_one, cutting, from_here, one_more}
 use Rattle.laws_examples.proofs.uploads.Ending.{both_over, did_so}
 
@@ -90,7 +90,7 @@ near_given = record near_closed { closing = true }
 
 -- it was told of the break while it had an octet to give
 abbrev pub near_lost : Near
-near_lost = record (putting Replies.Begun last_octet) { connection = Links.Over Endings.Broken }
+near_lost = record (putting Replies.Begun second_octet_alone) { connection = Links.Over Endings.Broken }
 
 -- it reports that it broke
 abbrev pub near_over : Near
@@ -279,7 +279,7 @@ module _ (table : Table) (moments : ℕ → ℕ) where
             (takes hold more (near_in none_yet near_closed []) p)
 
         -- so both are over, after that moment
-        pub passes : (At : Moment) → At (lies [] [] (first_octet ++ more) [] hold Has) (near_in none_yet near_closed []) → Passes (example table) moments At
+        pub passes : (At : Moment) → At (lies [] [] (first_octet ++ more) [] hold Has) (near_in none_yet near_closed []) → PassesAt (example table) moments At
         unfolding near.starts near.data_opened far.control_end answered line_heard extended_value path_on_literals
         passes At at =
             let there = lies [] [] more [] hold Has_lost in

@@ -17,14 +17,14 @@ use Rattle.laws_breaks.specs.downloads.Claims.{DidSuffer, download_faults}
 use Rattle.laws_breaks.specs.downloads.Over.{AreOver}
 use Rattle.laws_drivers.specs.control.Between.{Between, Has, Has_lost, Turn, client_actions}
 use Rattle.laws_drivers.specs.control.Example.{example}
-use Rattle.laws_examples.specs.transfers.Example.{HasFile, example_how, example_name, file_alone}
+use Rattle.laws_examples.specs.transfers.Example.{HasFile, example_how, example_name, example_file_alone}
 use Rattle.laws_drivers.specs.events.Moments.{AreMoments}
 use Rattle.laws_drivers.specs.events.Over.{AgreeAsOver}
 use Rattle.laws_world.specs.Claims.{Beginning}
 
 -- a Get of the file
-abbrev pub get : Op (List ℕ)
-get = Ops.Get example_name example_how
+abbrev pub example_get : Op (List ℕ)
+example_get = Ops.Get example_name example_how
 
 -- the octet of it that comes, of two
 abbrev pub first_octet : List ℕ
@@ -32,7 +32,7 @@ first_octet = 104 ∷ []
 
 -- and its answer: that octet, and no marker
 abbrev pub broken_asked : List (Op (List ℕ) × Said)
-broken_asked = (get, Broken first_octet None) ∷ []
+broken_asked = (example_get, Broken first_octet None) ∷ []
 
 -- ---- a session
 
@@ -41,7 +41,7 @@ abbrev pub Moment : Type 1
 Moment = (between : Between) (server : Stand server_side) (client : Stand client_side) → Type 0
 
 -- drives did so by their contracts, until both were over; and on the way there both stood so
-pub record Passes (b : Beginning) (moments : ℕ → ℕ) (asked : List (Op (List ℕ) × Said)) (At : Moment) : Type 0 where
+pub record PassesAt (b : Beginning) (moments : ℕ → ℕ) (asked : List (Op (List ℕ) × Said)) (At : Moment) : Type 0 where
   pub server : Stand server_side
   pub over : AreOver b moments asked server
   pub turns : List Turn
@@ -54,40 +54,40 @@ pub record Passes (b : Beginning) (moments : ℕ → ℕ) (asked : List (Op (Lis
   pub at : At between server_then client_then
 
 -- its answers and the map that is left agree with what was asked, with marks of its actions
-abbrev pub HasAgreed : {b : Beginning} {moments : ℕ → ℕ} {asked : List (Op (List ℕ) × Said)} {At : Moment} → Passes b moments asked At → Type 0
+abbrev pub HasAgreed : {b : Beginning} {moments : ℕ → ℕ} {asked : List (Op (List ℕ) × Said)} {At : Moment} → PassesAt b moments asked At → Type 0
 HasAgreed {b} {moments} {asked} {At} p =
     (led : Led (client_actions p.over.turns) p.over.client_start p.over.client) × AgreeAsOver download_faults p.over led
 
 -- ---- the server is told first
 
 -- the server was told of the break, and has reset the data connection; the client was not told and takes octets still, but heard the 426; one is on its way
-pub record IsServerFirst (between : Between) (server : Stand server_side) (client : Stand client_side) : Type 0 where
+pub record ServerKnowsFirst (between : Between) (server : Stand server_side) (client : Stand client_side) : Type 0 where
   pub far : between.far ≡ Has_lost
   pub near : between.near ≡ Has
   pub coming : between.data_ways.to_client ≡ first_octet
   pub heard : client.owner.end.view.job
-      ≡ Transferring get (record { replied = Replies.Final 426; abort = Aborts.Unsent; flow = download_flow defaults })
+      ≡ Transferring example_get (record { replied = Replies.Final 426; abort = Aborts.Unsent; flow = download_flow defaults })
 
 -- of every such map, and at any moments, there is such a session
 abbrev pub ServerFirstIsOver : Type 0
-ServerFirstIsOver = (table : Table) (stamp : ℕ) (moments : ℕ → ℕ) → HasFile table stamp → Passes (example table) moments broken_asked IsServerFirst
+ServerFirstIsOver = (table : Table) (stamp : ℕ) (moments : ℕ → ℕ) → HasFile table stamp → PassesAt (example table) moments broken_asked ServerKnowsFirst
 
 -- and of the file alone there is one that agrees
 abbrev pub ServerFirstAgrees : Type 0
-ServerFirstAgrees = (moments : ℕ → ℕ) → AreMoments moments → (p : Passes (example file_alone) moments broken_asked IsServerFirst) × HasAgreed p
+ServerFirstAgrees = (moments : ℕ → ℕ) → AreMoments moments → (p : PassesAt (example example_file_alone) moments broken_asked ServerKnowsFirst) × HasAgreed p
 
 -- ---- the client is told first
 
 -- the client was told of the break, and has reset the data connection; the server was not, and has an octet to give still
-pub record IsClientFirst (between : Between) (server : Stand server_side) (client : Stand client_side) : Type 0 where
+pub record ClientKnowsFirst (between : Between) (server : Stand server_side) (client : Stand client_side) : Type 0 where
   pub near : between.near ≡ Has_lost
   pub far : between.far ≡ Has
   pub left : to_give server.owner.end.server.view ≡ 105 ∷ []
 
 -- of every such map, and at any moments, there is such a session
 abbrev pub ClientFirstIsOver : Type 0
-ClientFirstIsOver = (table : Table) (stamp : ℕ) (moments : ℕ → ℕ) → HasFile table stamp → Passes (example table) moments broken_asked IsClientFirst
+ClientFirstIsOver = (table : Table) (stamp : ℕ) (moments : ℕ → ℕ) → HasFile table stamp → PassesAt (example table) moments broken_asked ClientKnowsFirst
 
 -- and of the file alone there is one that agrees
 abbrev pub ClientFirstAgrees : Type 0
-ClientFirstAgrees = (moments : ℕ → ℕ) → AreMoments moments → (p : Passes (example file_alone) moments broken_asked IsClientFirst) × HasAgreed p
+ClientFirstAgrees = (moments : ℕ → ℕ) → AreMoments moments → (p : PassesAt (example example_file_alone) moments broken_asked ClientKnowsFirst) × HasAgreed p

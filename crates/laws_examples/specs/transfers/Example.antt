@@ -12,7 +12,7 @@ use Rattle.ftp_tree.specs.Map.{Dir, File}
 use Rattle.ftp_tree.specs.Tree.{Table, installed, node_at, room_at, root_alone}
 use Rattle.laws_drivers.specs.control.Example.{example}
 use Rattle.laws_transfers.specs.Over.{AreOver}
-use Rattle.laws_transfers.specs.Quitting.{HaveQuit}
+use Rattle.laws_transfers.specs.Quitting.{QuitAfterAll}
 use Rattle.laws_world.specs.Claims.{IsFair}
 
 -- the file's name, `f`, and its two octets
@@ -45,7 +45,7 @@ FetchIsOver =
 -- or since it heard QUIT, which was written after it
 abbrev pub FetchHasQuit : Type 0
 FetchHasQuit =
-    (table : Table) (stamp : ℕ) (moments : ℕ → ℕ) → HasFile table stamp → (server : Stand server_side) × HaveQuit (example table) moments fetch_asked server
+    (table : Table) (stamp : ℕ) (moments : ℕ → ℕ) → HasFile table stamp → (server : Stand server_side) × QuitAfterAll (example table) moments fetch_asked server
 
 -- ---- its first octet is
 
@@ -61,7 +61,7 @@ PeekIsOver =
 -- or since it heard QUIT, which was written after it
 abbrev pub PeekHasQuit : Type 0
 PeekHasQuit =
-    (table : Table) (stamp : ℕ) (moments : ℕ → ℕ) → HasFile table stamp → (server : Stand server_side) × HaveQuit (example table) moments peek_asked server
+    (table : Table) (stamp : ℕ) (moments : ℕ → ℕ) → HasFile table stamp → (server : Stand server_side) × QuitAfterAll (example table) moments peek_asked server
 
 -- ---- another is put in its place
 
@@ -86,11 +86,11 @@ PutIsOver =
 -- ---- there is such a map
 
 -- the file alone, below the root
-abbrev pub file_alone : Table
-file_alone = installed root_alone (example_name ∷ []) example_octets 0
+abbrev pub example_file_alone : Table
+example_file_alone = installed root_alone (example_name ∷ []) example_octets 0
 
 -- that is one, there is room, and the session is fair
 pub record IsThere : Type 0 where
-  pub has : HasFile file_alone 0
-  pub room : HasRoom file_alone
-  pub fair : IsFair (example file_alone)
+  pub has : HasFile example_file_alone 0
+  pub room : HasRoom example_file_alone
+  pub fair : IsFair (example example_file_alone)

@@ -14,7 +14,7 @@ use Rattle.laws_breaks.specs.uploads.Claims.{DidCut, upload_faults}
 use Rattle.laws_breaks.specs.uploads.Over.{AreOver}
 use Rattle.laws_drivers.specs.control.Between.{Between, Has, Has_ended, Has_lost, Turn}
 use Rattle.laws_drivers.specs.control.Example.{example}
-use Rattle.laws_examples.specs.transfers.Example.{HasFile, HasRoom, example_how, example_name, file_alone}
+use Rattle.laws_examples.specs.transfers.Example.{HasFile, HasRoom, example_how, example_name, example_file_alone}
 use Rattle.laws_drivers.specs.events.Moments.{AreMoments}
 use Rattle.laws_drivers.specs.events.Over.{AgreeAsOver}
 use Rattle.laws_world.specs.Claims.{Beginning}
@@ -23,11 +23,11 @@ use Rattle.laws_world.specs.Claims.{Beginning}
 abbrev pub first_octet : List ℕ
 first_octet = 97 ∷ []
 
-abbrev pub last_octet : List ℕ
-last_octet = 98 ∷ []
+abbrev pub second_octet_alone : List ℕ
+second_octet_alone = 98 ∷ []
 
 abbrev pub both_octets : List ℕ
-both_octets = first_octet ++ last_octet
+both_octets = first_octet ++ second_octet_alone
 
 -- a Put of them
 abbrev pub put : Op (List ℕ)
@@ -44,7 +44,7 @@ abbrev pub Moment : Type 1
 Moment = (between : Between) (client : Stand client_side) → Type 0
 
 -- drives did so by their contracts, until both were over; and on the way there both stood so
-pub record Passes (b : Beginning) (moments : ℕ → ℕ) (At : Moment) : Type 0 where
+pub record PassesAt (b : Beginning) (moments : ℕ → ℕ) (At : Moment) : Type 0 where
   pub server : Stand server_side
   pub over : AreOver b moments cut_asked server
   pub turns : List Turn
@@ -58,20 +58,20 @@ pub record Passes (b : Beginning) (moments : ℕ → ℕ) (At : Moment) : Type 0
 
 -- of every such map with room for one octet there is such a session, at any moments
 abbrev pub IsThere : Moment → Type 0
-IsThere At = (table : Table) (stamp : ℕ) (moments : ℕ → ℕ) → HasFile table stamp → HasRoom table → Passes (example table) moments At
+IsThere At = (table : Table) (stamp : ℕ) (moments : ℕ → ℕ) → HasFile table stamp → HasRoom table → PassesAt (example table) moments At
 
 -- its answer and the map that is left agree with what was asked, with marks of its actions
-abbrev pub HasAgreed : {b : Beginning} {moments : ℕ → ℕ} {At : Moment} → Passes b moments At → Type 0
+abbrev pub HasAgreed : {b : Beginning} {moments : ℕ → ℕ} {At : Moment} → PassesAt b moments At → Type 0
 HasAgreed {b} {moments} p = AgreeAsOver upload_faults p.over.over p.over.client_led
 
 -- and of the file alone there is one that agrees
 abbrev pub OneAgrees : Moment → Type 0
-OneAgrees At = (moments : ℕ → ℕ) → AreMoments moments → (p : Passes (example file_alone) moments At) × HasAgreed p
+OneAgrees At = (moments : ℕ → ℕ) → AreMoments moments → (p : PassesAt (example example_file_alone) moments At) × HasAgreed p
 
 -- ---- the client is told first
 
 -- it gave all, was told of the break, and has reset the data connection; the server was not told, and one octet is on its way to it
-pub record IsClientFirst (between : Between) (client : Stand client_side) : Type 0 where
+pub record ClientKnowsFirst (between : Between) (client : Stand client_side) : Type 0 where
   pub near : between.near ≡ Has_lost
   pub far : between.far ≡ Has
   pub coming : between.data_ways.to_server ≡ first_octet
@@ -79,10 +79,10 @@ pub record IsClientFirst (between : Between) (client : Stand client_side) : Type
       ≡ Transferring put (record { replied = Replies.Begun; abort = Aborts.Unsent; flow = Sending [] None })
 
 abbrev pub ClientFirstIsOver : Type 0
-ClientFirstIsOver = IsThere IsClientFirst
+ClientFirstIsOver = IsThere ClientKnowsFirst
 
 abbrev pub ClientFirstAgrees : Type 0
-ClientFirstAgrees = OneAgrees IsClientFirst
+ClientFirstAgrees = OneAgrees ClientKnowsFirst
 
 -- ---- the server alone is told
 
@@ -102,14 +102,14 @@ ServerAloneAgrees = OneAgrees IsServerAlone
 
 -- it took one octet, was told of the break, and has reset the data connection; the client, which gave and wrote that octet, has the other to give, and was not
 -- told
-pub record IsServerFirst (between : Between) (client : Stand client_side) : Type 0 where
+pub record ServerKnowsFirst (between : Between) (client : Stand client_side) : Type 0 where
   pub near : between.near ≡ Has
   pub far : between.far ≡ Has_lost
   pub left : client.owner.end.view.job
-      ≡ Transferring put (record { replied = Replies.Begun; abort = Aborts.Unsent; flow = Sending last_octet None })
+      ≡ Transferring put (record { replied = Replies.Begun; abort = Aborts.Unsent; flow = Sending second_octet_alone None })
 
 abbrev pub ServerFirstIsOver : Type 0
-ServerFirstIsOver = IsThere IsServerFirst
+ServerFirstIsOver = IsThere ServerKnowsFirst
 
 abbrev pub ServerFirstAgrees : Type 0
-ServerFirstAgrees = OneAgrees IsServerFirst
+ServerFirstAgrees = OneAgrees ServerKnowsFirst

@@ -25,10 +25,10 @@ use Rattle.ftp_server_model.specs.Act.{act, decided, is_allowed, is_transfer}
 use Rattle.ftp_server_model.specs.Ask.{has_size, or_empty, size_of, stamp_of}
 use Rattle.ftp_server_model.specs.Endpoint.{asks, epsv, forgotten, is_taken, pasv, port, takes}
 use Rattle.ftp_server_model.specs.Entries.{option_facts}
-use Rattle.ftp_server_model.specs.Login.{admits, checked, pass, user_named}
+use Rattle.ftp_server_model.specs.Login.{admits, password_checked, pass, user_named}
 use Rattle.ftp_server_model.specs.Replies.{Turn, tells}
 use Rattle.ftp_server_model.specs.Setting.{choose, is_utf8_on}
-use Rattle.ftp_server_model.specs.Transfer.{appe_at, begin, misplaced, place_of, refused_to_hold, rests, retr, retr_at, sent_from, stor, stor_at, transfer_starts}
+use Rattle.ftp_server_model.specs.Transfer.{appe_at, begin, misplaced, place_of, refused_to_hold, restart_pending, retr, retr_at, sent_from, stor, stor_at, transfer_starts}
 use Rattle.ftp_server_model.specs.View.{Accounts, Context, Session, Transfer, as_direct, direct_of, how_in_force, seen, with_seen}
 use Rattle.ftp_server_model.specs.Walk.{path_of, performs, refusal_text, refused_source, refused_target, rnto, target_seen, unless}
 use Rattle.ftp_server_model.specs.declared.heard.HeardLine.{HeardLine}
@@ -48,7 +48,7 @@ use Rattle.ftp_server_model.specs.declared.session.ServerLink.{ServerLink}
 use Rattle.ftp_server_model.specs.declared.session.ServerLink.TheVariants as Data
 use Rattle.ftp_server_model.specs.declared.session.Transfer.TheVariants as Transfers
 use Rattle.ftp_wire.specs.Decoder.{no_octets}
-use Rattle.laws_server.specs.one.Links.{Aims, Asks, Begins, BegunSo, Forgets, IsWhole, LinesGoBeside, Stays, Turned, turned_so, with_link}
+use Rattle.laws_server.specs.one.Links.{Aims, Asks, Begins, BegunSo, Forgets, IsWholeBeginning, LinesGoBeside, Stays, Turned, turned_so, with_link}
 use Rattle.laws_server.specs.one.Logins.{Ends, Enters, Lasts, LinesLogIn, Logged, LoggedSo}
 use Rattle.laws_server.specs.one.Maps.{Changes, LinesChangeTheMap, Mapped, MappedSo, Unchanged, changes, line_changes}
 use Rattle.laws_server.proofs.one.FileLemmas.{freed-limits, made-limits, made_short, removed-limits, removed_short, renamed_short, skips_few}
@@ -73,7 +73,7 @@ module _ (context : Context) (changing : Bool) where
     turned : Turned
     turn : Turn
     is : (link : ServerLink Transfer) (closing : Bool) → g link closing ≡ turned_so turned link closing turn
-    whole : IsWhole turned turn s
+    whole : IsWholeBeginning turned turn s
     begun : BegunSo turned s
     logged : Logged
     login : Login logged s turn.0
@@ -145,7 +145,7 @@ module _ (context : Context) (changing : Bool) where
   -- another turn that leaves all but the link
   beside : (turned : Turned) (turn : Turn) (s : Session) (g : ServerLink Transfer → Bool → Turn)
       → ((link : ServerLink Transfer) (closing : Bool) → g link closing ≡ turned_so turned link closing turn)
-      → IsWhole turned turn s → BegunSo turned s → Same s turn.0 → Beside s g
+      → IsWholeBeginning turned turn s → BegunSo turned s → Same s turn.0 → Beside s g
   beside turned turn s g is whole begun same = record {
     turned = turned;
     turn = turn;
@@ -194,10 +194,10 @@ module _ (context : Context) (changing : Bool) where
   named_beside (Some account) name s found = admits_beside (is_directory (node_at s.table account.root)) account (is_open name) s found
   named_beside None name s found = stays (user_named None name) s Ends (λ link closing. refl) (refl, refl, refl) refl
 
-  checked_beside : (account : Option Account) (name word : List ℕ) (s : Session) → login_account context.accounts name word ≡ account → Acts (checked account) s
+  checked_beside : (account : Option Account) (name word : List ℕ) (s : Session) → login_account context.accounts name word ≡ account → Acts (password_checked account) s
   checked_beside (Some account) name word s found =
       admits_beside (is_directory (node_at s.table account.root)) account (knows name word) s (login_found context.accounts name word account found)
-  checked_beside None name word s found = stays (checked None) s Ends (λ link closing. refl) (refl, refl, refl) refl
+  checked_beside None name word s found = stays (password_checked None) s Ends (λ link closing. refl) (refl, refl, refl) refl
 
   pass_beside : (access : Access (List ℕ)) (word : List ℕ) (s : Session) → Acts (pass access context.accounts word) s
   pass_beside (AwaitsPass name) word s = checked_beside (login_account context.accounts name word) name word s refl
@@ -262,9 +262,9 @@ module _ (context : Context) (changing : Bool) where
   stor_placed Pendings.Nothing text s = stor_beside (Some 0) (path_of s text) s (omega arith)
   stor_placed (Pendings.Rename from) text s = stor_beside (Some 0) (path_of s text) s (omega arith)
 
-  rests_beside : (why : Option Refusal) (offset : ℕ) (s : Session) → Acts (rests why offset) s
-  rests_beside None offset s = lasts (rests None offset) s (λ link closing. refl) (refl, refl, refl, refl)
-  rests_beside (Some why) offset s = lasts (rests (Some why) offset) s (λ link closing. refl) (refl, refl, refl, refl)
+  rests_beside : (why : Option Refusal) (offset : ℕ) (s : Session) → Acts (restart_pending why offset) s
+  rests_beside None offset s = lasts (restart_pending None offset) s (λ link closing. refl) (refl, refl, refl, refl)
+  rests_beside (Some why) offset s = lasts (restart_pending (Some why) offset) s (λ link closing. refl) (refl, refl, refl, refl)
 
   -- ---- options
 

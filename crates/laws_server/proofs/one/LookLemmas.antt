@@ -26,13 +26,13 @@ use Rattle.ftp_server_model.specs.declared.session.Way.TheVariants as Ways
 use Rattle.ftp_server_model.specs.declared.session.ServerLink.{ServerLink}
 use Rattle.ftp_server_model.specs.declared.session.ServerLink.TheVariants as Data
 use Rattle.ftp_server_model.specs.declared.session.Transfer.TheVariants as Transfers
-use Rattle.laws_server.specs.one.Lookers.{CallsOnlyLook, HasNoUpload, IsNoUpload, Looks, LookersLeaveTheMap, OnlyLooks, StartsLook}
+use Rattle.laws_server.specs.one.Lookers.{CallsOnlyLook, HasNoUpload, IsNoUpload, LooksOnly, LookersLeaveTheMap, OnlyLooks, StartsLook}
 use Rattle.laws_server.proofs.one.LookTurns.{connected_looks, decided_looks, disconnected_looks, forgotten_looks}
 
 module _ (table : Table) where
   -- ---- what is said
 
-  replied_looks : (text : FixedReply) (session : Session) (v : View) → Looks table session → OnlyLooks table v → OnlyLooks table (replied text session v)
+  replied_looks : (text : FixedReply) (session : Session) (v : View) → LooksOnly table session → OnlyLooks table v → OnlyLooks table (replied text session v)
   replied_looks text session v short k = record { accounts = k.accounts; session = short }
 
   -- a forgotten endpoint, and a reply
@@ -109,7 +109,7 @@ module _ (table : Table) where
   unheard_looks Data.Ready v k = k
   unheard_looks (Data.Transferring transfer) v k = k
 
-  leaves_looks : (session : Session) (v : View) → Looks table session → OnlyLooks table v → OnlyLooks table (with_session session v)
+  leaves_looks : (session : Session) (v : View) → LooksOnly table session → OnlyLooks table v → OnlyLooks table (with_session session v)
   leaves_looks session v short k = record { accounts = k.accounts; session = short }
 
   opened_for : (is_peer : Bool) (transfer : Transfer) (v : View) → HasNoUpload (Data.Transferring transfer) → OnlyLooks table v → OnlyLooks table (port_opens_for is_peer transfer v)
@@ -136,13 +136,13 @@ module _ (table : Table) where
   refuses_looks Data.Ready v k = k
   refuses_looks (Data.Transferring transfer) v k = k
 
-  end_looks : (moment : ℕ) (transfer : Transfer) (s : Session) → IsNoUpload transfer → Looks table s → Looks table (at_end moment transfer s).0
+  end_looks : (moment : ℕ) (transfer : Transfer) (s : Session) → IsNoUpload transfer → LooksOnly table s → LooksOnly table (at_end moment transfer s).0
   end_looks moment (Transfers.Upload path keep d) s none k = absurd none
   end_looks moment Transfers.OverLimit s none k = k
   end_looks moment (Transfers.Download rest) s none k = k
   end_looks moment (Transfers.Listing rest) s none k = k
 
-  break_looks : (moment : ℕ) (transfer : Transfer) (s : Session) → IsNoUpload transfer → Looks table s → Looks table (at_break moment transfer s).0
+  break_looks : (moment : ℕ) (transfer : Transfer) (s : Session) → IsNoUpload transfer → LooksOnly table s → LooksOnly table (at_break moment transfer s).0
   break_looks moment (Transfers.Upload path keep d) s none k = absurd none
   break_looks moment Transfers.OverLimit s none k = k
   break_looks moment (Transfers.Download rest) s none k = k

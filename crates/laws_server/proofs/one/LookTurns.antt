@@ -21,7 +21,7 @@ use Rattle.ftp_server_model.specs.declared.session.ServerLink.TheVariants as Dat
 use Rattle.ftp_server_model.specs.declared.session.Transfer.TheVariants as Transfers
 use Rattle.laws_server.specs.one.Links.{Aims, Asks, Begins, BegunSo, Forgets, IsBegun, Stays, Turned, turned_so, with_link}
 use Rattle.laws_server.specs.one.Logins.{Ends, Enters, Lasts, Logged, LoggedSo}
-use Rattle.laws_server.specs.one.Lookers.{HasNoUpload, IsNoUpload, Looks, MayOnlyLook}
+use Rattle.laws_server.specs.one.Lookers.{HasNoUpload, IsNoUpload, LooksOnly, MayOnlyLook}
 use Rattle.laws_server.specs.one.Maps.{Changes, Mapped, MappedSo, Unchanged, line_changes}
 use Rattle.laws_server.proofs.one.LineTurns.{lines_change_the_map, lines_go_beside, lines_log_in}
 
@@ -76,22 +76,22 @@ turned_looks (Begins transfer) turn s begun rights k =
 module _ (table : Table) where
   -- ---- sessions
 
-  pub forgotten_looks : (s : Session) → Looks table s → Looks table (forgotten s)
+  pub forgotten_looks : (s : Session) → LooksOnly table s → LooksOnly table (forgotten s)
   forgotten_looks s k = record { same = k.same; rights = k.rights; connection = tt }
 
-  pub disconnected_looks : (s : Session) → Looks table s → Looks table (disconnected s)
+  pub disconnected_looks : (s : Session) → LooksOnly table s → LooksOnly table (disconnected s)
   disconnected_looks s k = record { same = k.same; rights = k.rights; connection = tt }
 
-  pub connected_looks : (connection : ServerLink Transfer) (s : Session) → HasNoUpload connection → Looks table s → Looks table (record s { connection = connection })
+  pub connected_looks : (connection : ServerLink Transfer) (s : Session) → HasNoUpload connection → LooksOnly table s → LooksOnly table (record s { connection = connection })
   connected_looks connection s short k = record { same = k.same; rights = k.rights; connection = short }
 
-  pub forgets_looks : (c : Command (List ℕ)) (s : Session) → Looks table s → Looks table (forgets c s)
-  forgets_looks c s k = cond_both (is_transfer c) (forgotten s) s (Looks table) (λ is. forgotten_looks s k) (λ is. k)
+  pub forgets_looks : (c : Command (List ℕ)) (s : Session) → LooksOnly table s → LooksOnly table (forgets c s)
+  forgets_looks c s k = cond_both (is_transfer c) (forgotten s) s (LooksOnly table) (λ is. forgotten_looks s k) (λ is. k)
 
   -- ---- a line
 
-  pub decided_looks : (context : Context) (heard : HeardLine (List ℕ)) (pending : Pending Names) (s : Session) → MayOnlyLook context.accounts → Looks table s
-      → Looks table (decided context heard pending s).0
+  pub decided_looks : (context : Context) (heard : HeardLine (List ℕ)) (pending : Pending Names) (s : Session) → MayOnlyLook context.accounts → LooksOnly table s
+      → LooksOnly table (decided context heard pending s).0
   decided_looks context heard pending s none k =
       let link = lines_go_beside context heard pending s in
       let login = lines_log_in context heard pending s in

@@ -8,7 +8,7 @@ use Rattle.ftp_command.specs.declared.fault.CommandFault.TheVariants as Faults
 use Rattle.ftp_wire.specs.Decoder.{read_on}
 use Rattle.ftp_ends.specs.Ear.{ear_out, ear_step}
 use Rattle.ftp_ends.specs.Reply.{reply_octets}
-use Rattle.ftp_mode.specs.Block.{count_of, ends_of, has}
+use Rattle.ftp_mode.specs.Block.{block_count, ends_of, has}
 use Rattle.ftp_mode.specs.Said.{Said, marker, says}
 use Rattle.ftp_mode.specs.Stream.{code_said}
 use Rattle.ftp_mode.specs.declared.descriptor.TheConstants.{END_OF_FILE, END_OF_RECORD, RESTART_MARKER}
@@ -26,7 +26,7 @@ use Rattle.ftp_server_model.specs.Kept.{ServerKeeps}
 use Rattle.ftp_server_model.specs.Keep.{kept_count}
 use Rattle.ftp_server_model.specs.Machine.{IsReading, Reading, abort_said, faulted, has_room, heard_event, heard_events, heard_line, hears_octet, is_abort, is_connection_busy, is_idle, later, may_hear}
 use Rattle.ftp_server_model.specs.Replies.{fixed_reply, mark_reply}
-use Rattle.ftp_server_model.specs.Texts.{code_of, text_of}
+use Rattle.ftp_server_model.specs.Texts.{fixed_reply_code, text_of}
 use Rattle.ftp_server_model.specs.Told.{CanBeHeard, Keeps}
 use Rattle.ftp_server_model.specs.View.{Session, Transfer, View, line_limit}
 use Rattle.ftp_server_model.specs.declared.heard.HeardLine.{HeardLine}
@@ -51,7 +51,7 @@ use Rattle.laws_server.proofs.one.Theorems.{hears_small, receives_small}
 -- ---- the line that waits
 
 fault_room : length (reply_octets (fixed_reply Texts.LocalFault)) ≤ 256
-fault_room = omega (arith, lines_short (last_line (code_of Texts.LocalFault) (text_of Texts.LocalFault) ∷ []))
+fault_room = omega (arith, lines_short (last_line (fixed_reply_code Texts.LocalFault) (text_of Texts.LocalFault) ∷ []))
 
 forgets_calm : (c : Command (List ℕ)) (s : Session) → is_connection_busy s.connection ≡ false → is_connection_busy (forgets c s).connection ≡ false
 forgets_calm c s calm = cond_both (is_transfer c) (forgotten s) s (λ (t : Session). is_connection_busy t.connection ≡ false) (λ is. refl) (λ is. calm)
@@ -222,7 +222,7 @@ place_few outside c = few_if (c == 255) _ _ (omega arith) (omega arith)
 place_few escaped c = code_few c
 place_few at_head c = omega arith
 place_few (at_high d) c = omega arith
-place_few (at_low d high) c = few_if (has d RESTART_MARKER) _ _ (omega arith) (few_if (count_of high c == 0) _ _ (omega (arith, ends_owe d)) (omega arith))
+place_few (at_low d high) c = few_if (has d RESTART_MARKER) _ _ (omega arith) (few_if (block_count high c == 0) _ _ (omega (arith, ends_owe d)) (omega arith))
 place_few (inside d left) c = few_if (left == 1) _ _ (omega (arith, ends_owe d)) (omega arith)
 place_few (marking d left text) c = marking_few (is_marker_octet c && nat_lt (length text) 255) d left c text refl
 place_few passed c = omega arith

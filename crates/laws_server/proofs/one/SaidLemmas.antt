@@ -25,7 +25,7 @@ use Rattle.ftp_endpoint.specs.declared.host.Host.{Host}
 use Rattle.ftp_endpoint.specs.declared.host.Host.TheVariants.{V4, V6}
 use Rattle.ftp_path.specs.Path.{IsPathText}
 use Rattle.ftp_server_model.specs.Held.{waiting_len}
-use Rattle.ftp_server_model.specs.Machine.{IsRead}
+use Rattle.ftp_server_model.specs.Machine.{IsLineRead}
 use Rattle.ftp_server_model.specs.declared.heard.HeardLine.{HeardLine}
 use Rattle.ftp_server_model.specs.declared.heard.HeardLine.TheVariants.{TooLong, Bad, Asks}
 
@@ -171,7 +171,7 @@ said_short line c short says =
     value_short (letters (verb_of c)) line (word_of (verb_of c)) short (value_of c) (λ words. (four_letters c words).0) says.1
 
 -- a line as it is heard, if it waits
-pub heard_short : (line : List ℕ) (heard : HeardLine (List ℕ)) → length line ≤ 1024 → IsRead line heard → waiting_len (Some heard) ≤ 2048
+pub heard_short : (line : List ℕ) (heard : HeardLine (List ℕ)) → length line ≤ 1024 → IsLineRead line heard → waiting_len (Some heard) ≤ 2048
 heard_short line TooLong short read = omega arith
 heard_short line (Bad fault) short read = omega arith
 heard_short line (Asks c) short read = said_short line c short read

@@ -19,12 +19,12 @@ use Rattle.ftp_server_model.specs.Act.{act, decided, forgets, is_allowed, is_in,
 use Rattle.ftp_server_model.specs.Ask.{size, mdtm, mlst, has_size, or_empty, size_of}
 use Rattle.ftp_server_model.specs.Endpoint.{forgotten, is_taken, takes, port, asks, pasv, epsv}
 use Rattle.ftp_server_model.specs.Entries.{option_facts}
-use Rattle.ftp_server_model.specs.Login.{logged_out, logs_in, admits, open_account, user_named, checked, pass}
+use Rattle.ftp_server_model.specs.Login.{logged_out, logs_in, admits, open_account, user_named, password_checked, pass}
 use Rattle.ftp_server_model.specs.Machine.{is_transferring}
 use Rattle.ftp_server_model.specs.Play.{no_nodes, only_at}
 use Rattle.ftp_server_model.specs.Replies.{Turn, said_octets, tells}
 use Rattle.ftp_server_model.specs.Setting.{choose, is_utf8_on, opts}
-use Rattle.ftp_server_model.specs.Transfer.{rests, begin, transfer_starts, place_of, retr, retr_at, stor, stor_at, appe, appe_at, list, nlst, mlsd}
+use Rattle.ftp_server_model.specs.Transfer.{restart_pending, begin, transfer_starts, place_of, retr, retr_at, stor, stor_at, appe, appe_at, list, nlst, mlsd}
 use Rattle.ftp_server_model.specs.View.{Accounts, Context, Session, Transfer, direct_of, as_direct, how_in_force, seen, with_seen}
 use Rattle.ftp_server_model.specs.Walk.{target_seen, unless, path_of, performs, refused_source, refused_target, rnfr, renames, rnto}
 use Rattle.ftp_server_model.specs.declared.heard.HeardLine.{HeardLine}
@@ -42,7 +42,7 @@ use Rattle.ftp_server_model.specs.declared.session.Pending.{Pending}
 use Rattle.ftp_server_model.specs.declared.session.Pending.TheVariants as Pendings
 use Rattle.ftp_server_model.specs.declared.session.ServerLink.{ServerLink}
 use Rattle.ftp_server_model.specs.declared.session.ServerLink.TheVariants as Data
-use Rattle.laws_server.specs.one.Links.{Aims, Asks as Asked, Begins as Starts, Forgets, IsWhole, Stays, Turned, turned_so, with_link}
+use Rattle.laws_server.specs.one.Links.{Aims, Asks as Asked, Begins as Starts, Forgets, IsWholeBeginning, Stays, Turned, turned_so, with_link}
 use Rattle.laws_server.proofs.one.LineTurns.{lines_go_beside}
 use Rattle.laws_server.proofs.one.SeenLemmas.{at, changed_at, inside_at, outside_at, refused_at, seen_at, within_itself}
 
@@ -194,7 +194,7 @@ nlst_own text s = starts_own _ _ _ _ s (refused_at s (Ops.Names (or_empty text) 
 mlsd_own : (text : Option (List ℕ)) (s : Session) → OwnTurn s (mlsd text s) (mlsd text (at s.root s))
 mlsd_own text s = starts_own _ _ _ _ s (refused_at s (Ops.List (or_empty text) (how_in_force s.settings))) (rw (part-taken no_nodes s.root (under s.table s.root)) refl)
 
-rests_own : (why : Option Refusal) (place : ℕ) (s : Session) → OwnTurn s (rests why place s) (rests why place (at s.root s))
+rests_own : (why : Option Refusal) (place : ℕ) (s : Session) → OwnTurn s (restart_pending why place s) (restart_pending why place (at s.root s))
 rests_own None place s = own s (record s { pending = Pendings.Restart place }) _ refl refl tt
 rests_own (Some why) place s = tells_own _ s
 
@@ -270,7 +270,7 @@ user_at : (found : Option Account) (name : List ℕ) (root : Names) (s : Session
 user_at (Some account) name root s calm is_in = logs_at account root s calm is_in
 user_at None name root s calm is_in = free root s (record (logged_out s) { access = AwaitsPass name }) _ refl tt calm
 
-checked_at : (found : Option Account) (root : Names) (s : Session) → is_transferring s.connection ≡ false → IsIn root (checked found s).0 → TurnAt root s (checked found s) (checked found (at root s))
+checked_at : (found : Option Account) (root : Names) (s : Session) → is_transferring s.connection ≡ false → IsIn root (password_checked found s).0 → TurnAt root s (password_checked found s) (password_checked found (at root s))
 checked_at (Some account) root s calm is_in = logs_at account root s calm is_in
 checked_at None root s calm is_in = free root s (logged_out s) _ refl tt calm
 
@@ -390,7 +390,7 @@ begin_begins (Data.Opening other way) transfer s = inl (refl, refl)
 begin_begins (Data.Transferring other) transfer s = inl (refl, refl)
 
 -- by what a line does to the data connection
-begins_so : (turned : Turned) (turn : Turn) (s : Session) → is_transferring s.connection ≡ false → IsWhole turned turn s
+begins_so : (turned : Turned) (turn : Turn) (s : Session) → is_transferring s.connection ≡ false → IsWholeBeginning turned turn s
     → Begins s (turned_so turned s.connection s.closing turn).0
 begins_so Stays turn s calm whole = inr calm
 begins_so Forgets turn s calm whole = inr refl

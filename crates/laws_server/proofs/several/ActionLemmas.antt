@@ -24,7 +24,7 @@ use Rattle.ftp_server_model.specs.declared.session.Way.TheVariants as Ways
 use Rattle.ftp_server_model.specs.declared.session.ServerLink.{ServerLink}
 use Rattle.ftp_server_model.specs.declared.session.ServerLink.TheVariants as Data
 use Rattle.ftp_server_model.specs.declared.session.Transfer.TheVariants as Transfers
-use Rattle.laws_server.specs.several.Actions.{AreActions, CallsAreActions, Action, Actions, IsSame, TurnsAreActions, acts as acted, ends as ended, breaks as broke, rests}
+use Rattle.laws_server.specs.several.Actions.{AreActions, CallsAreActions, SessionAction, Actions, IsSame, TurnsAreActions, acts as acted, ends as ended, breaks as broke, rests}
 use Rattle.laws_server.specs.several.Several.{Slot, Several, Turn, lent_to}
 use Rattle.laws_server.proofs.several.OwnLemmas.{maps_follow}
 
@@ -33,7 +33,7 @@ use Rattle.laws_server.proofs.several.OwnLemmas.{maps_follow}
 none : (v : View) → Actions v v
 none v = ([], refl)
 
-one : (v w : View) → Action v w → Actions v w
+one : (v w : View) → SessionAction v w → Actions v w
 one v w action = (w ∷ [], (action, refl))
 
 joined : (us ws : List View) (u v w : View) → AreActions us u v → AreActions ws v w → AreActions (us ++ ws) u w

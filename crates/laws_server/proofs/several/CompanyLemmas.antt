@@ -15,7 +15,7 @@ use Rattle.laws_server.proofs.one.TurnLemmas.{IsHeld}
 use Rattle.laws_server.proofs.one.SeenLemmas.{inside_at, outside_at}
 use Rattle.laws_server.proofs.one.PartLemmas.{StepAt, ViewAt, acts_at, break_at, clock_at, close_at, control_at, control_end_at, end_at, given_at, listening_at, no_port_at, opened_at, refused_step_at, stays}
 use Rattle.laws_server.specs.several.Several.{Slot, Several, Turn, called, called_as, exchanged, lent_to, in_slot_again}
-use Rattle.laws_server.specs.several.Company.{AreInSlot, CompanyIsUnseen, IsCompany, IsInSlot, TurnIsAt, TurnsAreAt, alone, given_to_us, our_turns}
+use Rattle.laws_server.specs.several.Company.{AreInSlot, CompanyIsUnseen, IsCompany, IsInSlot, TurnIsAt, TurnsAreAt, alone_below, given_to_us, our_turns}
 use Rattle.laws_server.proofs.several.LentLemmas.{lent_in_part, lent_in_slot, standing_in_part}
 use Rattle.laws_server.proofs.several.LimitLemmas.{call_keeps}
 use Rattle.laws_server.proofs.several.SlotLemmas.{get-set_same, get-set_other}
@@ -220,4 +220,4 @@ unseen read root ours roots (turn ∷ turns) s its company lone in_slot at =
 
 pub company_is_unseen : CompanyIsUnseen
 company_is_unseen read root ours roots turns s company in_slot at =
-    unseen read root ours roots turns s (alone root s) company (record { table = refl; slots = λ slot mine. refl }) in_slot at
+    unseen read root ours roots turns s (alone_below root s) company (record { table = refl; slots = λ slot mine. refl }) in_slot at

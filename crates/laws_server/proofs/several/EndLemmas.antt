@@ -31,7 +31,7 @@ use Rattle.ftp_server_model.specs.declared.reply.FixedReply.TheVariants as Texts
 use Rattle.ftp_server_model.specs.declared.session.Keep.{Keep}
 use Rattle.ftp_server_model.specs.declared.session.Keep.TheVariants.{First, All, FirstOvertaken, AllOvertaken}
 use Rattle.ftp_server_model.specs.declared.session.Transfer.TheVariants as Transfers
-use Rattle.laws_server.specs.several.Actions.{EndAnswers, EndsAreDirect, EndsAs, IsPut, counts_octets}
+use Rattle.laws_server.specs.several.Actions.{EndAnswers, EndsAreDirect, EndsAs, IsPutDirectly, counts_octets}
 use Rattle.laws_server.proofs.several.LineLemmas.{same_code}
 
 -- no second reason is no reason
@@ -160,14 +160,14 @@ module _ (moment : ℕ) (text : List ℕ) (octets : List ℕ) (reply : FixedRepl
       subst (EndAnswers reply s (due (direct_of s) op moment)) (overtaken_first place (end_refusal path (First place) octets s)) (behind_first place op asks)
 
 put_direct : (moment : ℕ) (path : Names) (keep : Keep) (octets : List ℕ) (reply : FixedReply) (s : Session)
-    → IsPut moment path keep octets reply s (ends_by (end_refusal path keep octets s) moment path keep octets reply s)
+    → IsPutDirectly moment path keep octets reply s (ends_by (end_refusal path keep octets s) moment path keep octets reply s)
 put_direct moment goal keep octets reply s text op at asks =
     subst (λ (p : Names). EndAnswers reply s (due (direct_of s) op moment) (ends_by (end_refusal p keep octets s) moment p keep octets reply s)) at
     (ends moment text octets reply s keep op asks)
 
 -- it broke, and nobody changed what stands at its path
 off_direct : (moment : ℕ) (path : Names) (keep : Keep) (d : Decoder) (s : Session) → is_overtaken keep ≡ false
-    → IsPut moment path keep (broken d).content Texts.Broken s (at_break moment (Transfers.Upload path keep d) s)
+    → IsPutDirectly moment path keep (broken d).content Texts.Broken s (at_break moment (Transfers.Upload path keep d) s)
 off_direct moment path keep d s own text op at asks =
     subst (λ (late : Bool). EndAnswers Texts.Broken s (due (direct_of s) op moment) (breaks_off late moment path keep d s)) (sym own)
     (put_direct moment path keep (broken d).content Texts.Broken s text op at asks)

@@ -19,7 +19,7 @@ use Rattle.ftp_server_model.specs.declared.session.Keep.{Keep}
 use Rattle.ftp_server_model.specs.declared.session.Pending.{Pending}
 use Rattle.ftp_server_model.specs.declared.session.Pending.TheVariants as Pendings
 use Rattle.ftp_server_model.specs.declared.session.Transfer.TheVariants as Transfers
-use Rattle.laws_server.specs.several.Actions.{AreActions, Action, IsSame, acts, ends, breaks, rests}
+use Rattle.laws_server.specs.several.Actions.{AreActions, SessionAction, IsSame, acts, ends, breaks, rests}
 use Rattle.laws_server.proofs.several.ActionLemmas.{calls_are_actions, same_given_out}
 use Rattle.laws_server.specs.one.Maps.{Changes, Mapped, MappedSo, Unchanged, line_changes}
 use Rattle.laws_server.proofs.one.FileLemmas.{installed-limits}
@@ -83,7 +83,7 @@ end_keeps moment (Transfers.Listing rest) s = refl
 
 -- ---- all calls
 
-action_keeps : (v w : View) → Action v w → Keeps v.session w.session
+action_keeps : (v w : View) → SessionAction v w → Keeps v.session w.session
 action_keeps v w (acts heard idle is) = ap (λ (x : View). x.session.table.limits) is ∙ obeyed_keeps heard v
 action_keeps v w (ends transfer s at same is) = ap (λ (x : View). x.session.table.limits) is ∙ end_keeps v.context.moment transfer s ∙ same_keeps v.session s same
 action_keeps v w (breaks transfer s at same is) = ap (λ (x : View). x.session.table.limits) is ∙ break_keeps v.context.moment transfer s ∙ same_keeps v.session s same

@@ -9,7 +9,7 @@ use Rattle.ftp_server_model.specs.View.{View}
 use Rattle.laws_server.specs.one.Small.{IsSmall}
 use Rattle.laws_server.proofs.one.Theorems.{calls_stay_small}
 use Rattle.laws_server.specs.several.Several.{Slot, Several, called_as, exchanged, lent_to, in_slot_again}
-use Rattle.laws_server.specs.several.Small.{AllStaySmall, AreSmall}
+use Rattle.laws_server.specs.several.Small.{AllStaySmall, AreSmallSessions}
 use Rattle.laws_server.proofs.several.LentLemmas.{lent_small}
 use Rattle.laws_server.proofs.several.SlotLemmas.{get-set_same, get-set_other}
 
@@ -29,7 +29,7 @@ exchanged_small table v files k = record {
 pub all_stay_small : AllStaySmall
 all_stay_small read turn s reading typed k = by (slice_get s.slots turn.slot) refl
   where
-    by : (found : Option Slot) → slice_get s.slots turn.slot ≡ found → AreSmall (called_as read turn.slot turn.cue found s).1
+    by : (found : Option Slot) → slice_get s.slots turn.slot ≡ found → AreSmallSessions (called_as read turn.slot turn.cue found s).1
     by None is = k
     by (Some v) is = record { files = after.short.session.files; slots = λ slot w sits. one slot w sits (eqb_tells turn.slot slot) }
       where

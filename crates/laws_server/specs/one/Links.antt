@@ -39,9 +39,9 @@ turned_so (Aims endpoint) link closing turn = (with_link (Data.Active endpoint) 
 turned_so (Begins transfer) link closing turn = begin link transfer (with_link link closing turn.0)
 
 -- a transfer begins in the session as it was, and its reply is that of its beginning
-abbrev pub IsWhole : Turned → Turn → Session → Type 0
-IsWhole (Begins transfer) turn s = turn ≡ (s, Replies.Nothing)
-IsWhole turned turn s = Unit {0}
+abbrev pub IsWholeBeginning : Turned → Turn → Session → Type 0
+IsWholeBeginning (Begins transfer) turn s = turn ≡ (s, Replies.Nothing)
+IsWholeBeginning turned turn s = Unit {0}
 
 -- an upload begins with no octets yet, behind no more than stand there, of an account that may put there
 abbrev pub IsBegun : Transfer → Session → Type 0
@@ -60,7 +60,7 @@ pub record TurnsBeside (acts : Session → Turn) (s : Session) : Type 0 where
   pub turned : Turned
   pub turn : Turn
   pub is : (link : ServerLink Transfer) (closing : Bool) → acts (with_link link closing s) ≡ turned_so turned link closing turn
-  pub whole : IsWhole turned turn s
+  pub whole : IsWholeBeginning turned turn s
   pub begun : BegunSo turned s
 
 -- so it is of every line

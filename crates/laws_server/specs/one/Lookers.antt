@@ -37,7 +37,7 @@ HasNoUpload (Data.Opening transfer way) = IsNoUpload transfer
 HasNoUpload (Data.Transferring transfer) = IsNoUpload transfer
 
 -- a session of somebody who may change nothing, over this map
-pub record Looks (table : Table) (s : Session) : Type 0 where
+pub record LooksOnly (table : Table) (s : Session) : Type 0 where
   pub same : s.table ≡ table
   pub rights : s.rights ≡ no_rights
   pub connection : HasNoUpload s.connection
@@ -45,7 +45,7 @@ pub record Looks (table : Table) (s : Session) : Type 0 where
 -- a server on which nobody may change anything, over this map
 pub record OnlyLooks (table : Table) (v : View) : Type 0 where
   pub accounts : MayOnlyLook v.context.accounts
-  pub session : Looks table v.session
+  pub session : LooksOnly table v.session
 
 -- so it is after each call
 abbrev pub CallsOnlyLook : Type 0

@@ -16,7 +16,7 @@ use Rattle.ftp_server_model.specs.Keep.{is_overtaken, overtaken_keep}
 use Rattle.ftp_server_model.specs.Machine.{Ending, Reading, at_break, at_end, concluded, is_idle, obeyed}
 use Rattle.ftp_server_model.specs.Play.{Cue, call}
 use Rattle.ftp_server_model.specs.Standing.{same_standing, standing_at, standing_of, still_stands}
-use Rattle.ftp_server_model.specs.Texts.{code_of}
+use Rattle.ftp_server_model.specs.Texts.{fixed_reply_code}
 use Rattle.ftp_server_model.specs.View.{Session, Transfer, View, as_direct, direct_of, seen}
 use Rattle.ftp_server_model.specs.Walk.{path_of}
 use Rattle.ftp_server_model.specs.declared.heard.HeardLine.{HeardLine}
@@ -28,7 +28,7 @@ use Rattle.ftp_server_model.specs.declared.session.ServerLink.TheVariants as Dat
 use Rattle.ftp_server_model.specs.declared.session.Standing.{Standing}
 use Rattle.ftp_server_model.specs.declared.session.Transfer.TheVariants as Transfers
 use Rattle.ftp_server_model.specs.declared.session.Way.{Way}
-use Rattle.laws_server.specs.several.Asked.{state_of}
+use Rattle.laws_server.specs.several.Asked.{direct_state_of}
 use Rattle.laws_server.specs.several.Several.{Slot, Several, Turn, called, exchanged, lent_to, in_slot_again}
 
 -- ---- the end of an upload
@@ -50,23 +50,23 @@ EndsAs (AllOvertaken count) text octets op = (how : How) × (op ≡ Ops.Append t
 -- an upload's end tells this answer of the direct run and leaves this state: by its own reply, or by the code of the refusal, which leaves all as it was
 abbrev pub EndAnswers : FixedReply → Session → Said × State → Ending → Type 0
 EndAnswers text s (Done, state) ending = ending ≡ (as_direct state s, text)
-EndAnswers text s (Refused code, state) ending = (ending.0 ≡ s) × (code_of ending.1 ≡ code)
+EndAnswers text s (Refused code, state) ending = (ending.0 ≡ s) × (fixed_reply_code ending.1 ≡ code)
 EndAnswers text s other ending = ⊥
 
 -- these octets of an upload to a path are put as the direct run puts them on the map that stands, by whatever text names the path
-abbrev pub IsPut : (moment : ℕ) → Names → Keep → List ℕ → FixedReply → Session → Ending → Type 0
-IsPut moment path keep octets reply s ending =
+abbrev pub IsPutDirectly : (moment : ℕ) → Names → Keep → List ℕ → FixedReply → Session → Ending → Type 0
+IsPutDirectly moment path keep octets reply s ending =
     (text : List ℕ) (op : Op (List ℕ)) → path_of s text ≡ path → EndsAs keep text octets op → EndAnswers reply s (due (direct_of s) op moment) ending
 
 -- an upload that is whole is put, and told by 226; one that broke or was cut off is put as far as it is settled, and told by 426, unless others changed
 -- what stands at its path: then nothing of it is put, the map is as it was, and 426 is told
 pub record EndsAreDirect : Type 0 where
   pub whole : (moment : ℕ) (path : Names) (keep : Keep) (d : Decoder) (s : Session) → is_whole d ≡ true
-      → IsPut moment path keep (ended d).content Texts.Complete s (at_end moment (Transfers.Upload path keep d) s)
+      → IsPutDirectly moment path keep (ended d).content Texts.Complete s (at_end moment (Transfers.Upload path keep d) s)
   pub early : (moment : ℕ) (path : Names) (keep : Keep) (d : Decoder) (s : Session) → is_whole d ≡ false → is_overtaken keep ≡ false
-      → IsPut moment path keep (broken d).content Texts.Broken s (at_end moment (Transfers.Upload path keep d) s)
+      → IsPutDirectly moment path keep (broken d).content Texts.Broken s (at_end moment (Transfers.Upload path keep d) s)
   pub broke : (moment : ℕ) (path : Names) (keep : Keep) (d : Decoder) (s : Session) → is_overtaken keep ≡ false
-      → IsPut moment path keep (broken d).content Texts.Broken s (at_break moment (Transfers.Upload path keep d) s)
+      → IsPutDirectly moment path keep (broken d).content Texts.Broken s (at_break moment (Transfers.Upload path keep d) s)
   pub overtaken_early : (moment : ℕ) (path : Names) (keep : Keep) (d : Decoder) (s : Session) → is_whole d ≡ false → is_overtaken keep ≡ true
       → at_end moment (Transfers.Upload path keep d) s ≡ (s, Texts.Broken)
   pub overtaken_broke : (moment : ℕ) (path : Names) (keep : Keep) (d : Decoder) (s : Session) → is_overtaken keep ≡ true
@@ -94,21 +94,21 @@ pub record OthersOvertake : Type 0 where
 
 -- the same for the direct run: map, root, current directory, rights, and whether somebody is logged in
 abbrev pub IsSame : (s t : Session) → Type 0
-IsSame s t = state_of t ≡ state_of s
+IsSame s t = direct_state_of t ≡ direct_state_of s
 
 -- One action of a session: a line is acted on; a transfer that stands ends or breaks; or the direct run sees nothing of it
-pub data Action (v w : View) : Type 0 where
-  acts : (heard : HeardLine (List ℕ)) → is_idle v ≡ true → w ≡ obeyed heard v → Action v w
+pub data SessionAction (v w : View) : Type 0 where
+  acts : (heard : HeardLine (List ℕ)) → is_idle v ≡ true → w ≡ obeyed heard v → SessionAction v w
   ends : (transfer : Transfer) (s : Session) → v.session.connection ≡ Data.Transferring transfer → IsSame v.session s
-      → w ≡ concluded (at_end v.context.moment transfer s) v → Action v w
+      → w ≡ concluded (at_end v.context.moment transfer s) v → SessionAction v w
   breaks : (transfer : Transfer) (s : Session) → v.session.connection ≡ Data.Transferring transfer → IsSame v.session s
-      → w ≡ concluded (at_break v.context.moment transfer s) v → Action v w
-  rests : IsSame v.session w.session → Action v w
+      → w ≡ concluded (at_break v.context.moment transfer s) v → SessionAction v w
+  rests : IsSame v.session w.session → SessionAction v w
 
 -- actions in order
 abbrev pub AreActions : List View → (v w : View) → Type 0
 AreActions [] v w = w ≡ v
-AreActions (u ∷ us) v w = Action v u × AreActions us u w
+AreActions (u ∷ us) v w = SessionAction v u × AreActions us u w
 
 abbrev pub Actions : (v w : View) → Type 0
 Actions v w = (mids : List View) × AreActions mids v w

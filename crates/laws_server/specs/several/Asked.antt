@@ -16,7 +16,7 @@ use Rattle.ftp_server_model.specs.Ask.{has_size, or_empty}
 use Rattle.ftp_server_model.specs.Entries.{listed_line}
 use Rattle.ftp_server_model.specs.Listing.{listing_form, listing_wire}
 use Rattle.ftp_server_model.specs.Replies.{Turn, tells}
-use Rattle.ftp_server_model.specs.Texts.{code_of}
+use Rattle.ftp_server_model.specs.Texts.{fixed_reply_code}
 use Rattle.ftp_server_model.specs.Transfer.{begin, file_wire}
 use Rattle.ftp_server_model.specs.View.{Context, Session, Transfer, as_direct, direct_of, how_in_force, seen}
 use Rattle.ftp_server_model.specs.Walk.{path_of}
@@ -68,7 +68,7 @@ Asks pending s other op = ⊥
 
 -- the reply has this code, and is one of a table
 abbrev pub TellsCode : ℕ → ReplyKind Names → Type 0
-TellsCode code reply = (text : FixedReply) × (reply ≡ Replies.Fixed text) × (code_of text ≡ code)
+TellsCode code reply = (text : FixedReply) × (reply ≡ Replies.Fixed text) × (fixed_reply_code text ≡ code)
 
 -- the reply tells the path that this is the text of, where the session after the command is this
 abbrev pub TellsPath : List ℕ → Session → ReplyKind Names → Type 0
@@ -103,18 +103,18 @@ Answers c op s other turn = ⊥
 -- ---- the direct run on the map that stands
 
 -- how the direct run sees a session, whether or not somebody is logged in
-abbrev pub state_of : Session → State
-state_of s = record (direct_of s) { known = is_in s.access }
+abbrev pub direct_state_of : Session → State
+direct_state_of s = record (direct_of s) { known = is_in s.access }
 
 -- the answer of the direct run to an operation that came as a line
-abbrev pub answer_to : State → Op (List ℕ) → ℕ → Said × State
-answer_to state op moment = chosen (first_refusal state op) state (done state op moment)
+abbrev pub answer_to_line : State → Op (List ℕ) → ℕ → Said × State
+answer_to_line state op moment = chosen (first_refusal state op) state (done state op moment)
 
 -- a line that asks for an operation tells the answer of the direct run on the map that stands, and leaves what that leaves; at whatever moment
 abbrev pub LinesAreDirect : Type 0
 LinesAreDirect =
     (context : Context) (c : Command (List ℕ)) (pending : Pending Names) (s : Session) (op : Op (List ℕ)) (moment : ℕ)
-    → Asks pending s c op → Answers c op s (answer_to (state_of s) op moment) (decided context (Says c) pending s)
+    → Asks pending s c op → Answers c op s (answer_to_line (direct_state_of s) op moment) (decided context (Says c) pending s)
 
 -- ---- all other lines
 

@@ -42,12 +42,12 @@ our_turns ours [] = []
 our_turns ours (turn ∷ turns) = if ours turn.slot then turn ∷ our_turns ours turns else our_turns ours turns
 
 -- with that part of the map alone which stands at and below the root
-abbrev pub alone : Names → Several → Several
-alone root s = record s { table = only_at root s.table }
+abbrev pub alone_below : Names → Several → Several
+alone_below root s = record s { table = only_at root s.table }
 
 -- whatever the others do, and whichever octets they say: sessions below a root are given what they are given without them, and without their files
 abbrev pub CompanyIsUnseen : Type 0
 CompanyIsUnseen =
     (read : Reading) (root : Names) (ours : ℕ → Bool) (roots : ℕ → Names) (turns : List Turn) (s : Several)
     → IsCompany root ours roots → AreInSlot roots s.slots → TurnsAreAt read roots turns s
-    → given_to_us read ours turns s ≡ given_to_us read ours (our_turns ours turns) (alone root s)
+    → given_to_us read ours turns s ≡ given_to_us read ours (our_turns ours turns) (alone_below root s)

@@ -7,10 +7,11 @@ use Rattle.laws_server.specs.one.Small.{IsSmall}
 use Rattle.laws_server.specs.several.Several.{Slot, Several, Turn, called}
 
 -- the files of the map are within the limit, and each session is small
-pub record AreSmall (s : Several) : Type 0 where
+pub record AreSmallSessions (s : Several) : Type 0 where
   pub files : HasShortFiles s.table
   pub slots : (slot : ℕ) (sits : Slot) → slice_get s.slots slot ≡ Some sits → IsSmall sits.view
 
 -- so it is after each turn
 abbrev pub AllStaySmall : Type 0
-AllStaySmall = (read : Reading) (turn : Turn) (s : Several) → IsReading read → IsTypedCue turn.cue → AreSmall s → AreSmall (called read turn s).1
+AllStaySmall =
+    (read : Reading) (turn : Turn) (s : Several) → IsReading read → IsTypedCue turn.cue → AreSmallSessions s → AreSmallSessions (called read turn s).1

@@ -4,7 +4,7 @@ use Rattle.ftp_ports.specs.Actions.{Other, Stand}
 use Rattle.ftp_client_driver.specs.Side.{Begun, client_side}
 use Rattle.ftp_operation.specs.Answer.{Said}
 use Rattle.ftp_operation.specs.declared.op.Op.{Op}
-use Rattle.laws_active.specs.Actions.{ClientTransfers, ServerTransfers, listened_in}
+use Rattle.laws_active.specs.Actions.{ClientTransfersEitherWay, ServerTransfersEitherWay, listened_in_turns}
 use Rattle.laws_examples.proofs.active.CallPlayed.{call_is_answered}
 use Rattle.laws_examples.proofs.active.Ending.{IsCalled}
 use Rattle.laws_examples.proofs.active.PeekPlayed.{peek_is_answered}
@@ -43,24 +43,24 @@ calls b moments op said a =
     let client = near_in none_yet a.client_first [] in
     let begun = near_in none_yet a.begun [] in
     let heard = near_in a.channel a.heard [] in
-    let asks : Goes ClientTransfers (client_actions p.later) begun heard =
-    subst (λ d. Goes ClientTransfers d begun heard) (sym p.later_midst) (p.near_led, p.takes) in
-    let counted = subst (λ t. Counted t 0 (listened_in p.turns)) p.turns_are (ports_counted p.turns p.ports) in
+    let asks : Goes ClientTransfersEitherWay (client_actions p.later) begun heard =
+    subst (λ d. Goes ClientTransfersEitherWay d begun heard) (sym p.later_midst) (p.near_led, p.takes) in
+    let counted = subst (λ t. Counted t 0 (listened_in_turns p.turns)) p.turns_are (ports_counted p.turns p.ports) in
     let midst = subst AreMidst (sym p.later_midst) p.are in
-    let serves : Apart ServerTransfers (moments 0) p.later first served =
-    apart_in ServerTransfers moments op p.later p.turns first served p.turns_are midst p.far_led p.gives p.told in
+    let serves : Apart ServerTransfersEitherWay (moments 0) p.later first served =
+    apart_in ServerTransfersEitherWay moments op p.later p.turns first served p.turns_are midst p.far_led p.gives p.told in
     let hosts = peers first client in
     let came = peers_came hosts p.later first served begun heard serves.led asks.0 (record { serves = serves.serves; asks = asks.1 })
     (refl, sym (begins_keeps op client begun refl a.does)) in
-    plays either moments op first begun a.there served heard p.later p.turns p.turns_are midst (listened_in p.turns) hosts
+    plays either moments op first begun a.there served heard p.later p.turns p.turns_are midst (listened_in_turns p.turns) hosts
     (record { led = serves.led; serves = came.1.serves; told = serves.told }) (asks.0, came.1.asks) (p.happened, p.resets)
-    (counted_since op p.later (listened_in p.turns) counted) came.0
+    (counted_since op p.later (listened_in_turns p.turns) counted) came.0
 
 -- so they are a session
 either_is_asked : (b : Beginning) (moments : ℕ → ℕ) (op : Op (List ℕ)) (said : Said) → IsCalled b moments op said
     → (start : Ends) × (now : Ends) × AreEither b moments ((op, said) ∷ []) start now
 either_is_asked b moments op said a =
-    is_asked either (λ start begun there server client. Played moments start begun op 1 there server client) b op said ClientTransfers
+    is_asked either (λ start begun there server client. Played moments start begun op 1 there server client) b op said ClientTransfersEitherWay
     a moments (peers (far_in none_yet a.first []) (near_in none_yet a.client_first [])) (calls b moments op said a) (refl, refl) tt a.may tt
 
 -- a file is fetched

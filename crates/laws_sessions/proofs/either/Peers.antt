@@ -22,7 +22,7 @@ use Rattle.ftp_client_model.specs.declared.client.Ending.TheVariants as Endings
 use Rattle.ftp_client_model.specs.declared.client.Standing.{Standing}
 use Rattle.ftp_client_model.specs.declared.client.Standing.TheVariants as Stands
 use Rattle.ftp_client_model.specs.declared.client.Step.TheVariants as Steps
-use Rattle.laws_active.specs.Actions.{ClientTransfers, IsAsking, IsServing, ServerTransfers}
+use Rattle.laws_active.specs.Actions.{ClientTransfersEitherWay, IsAskingOrListening, IsServingOrDialling, ServerTransfersEitherWay}
 use Rattle.laws_drivers.specs.events.Actions.{Along}
 use Rattle.laws_drivers.specs.control.Alone.{ClientIsCalm, ServerIsCalm}
 use Rattle.laws_drivers.specs.control.Between.{Client, Server, Turn, client_actions, server_actions}
@@ -197,14 +197,14 @@ server_peer action old new is calm did = action_peer action old new is calm did
 
 -- who serves whom it has at its other end serves its peer
 server_serves : (action : Action server_side) (other : Host) (old new : Stand server_side) → IsServingAny action old.owner → ComesFrom other (touch_in action)
-    → other ≡ peer_of old.owner.end.server.view → Done action old new → IsServing action old.owner
+    → other ≡ peer_of old.owner.end.server.view → Done action old new → IsServingOrDialling action old.owner
 server_serves (Other (Opened host (Came from left written ∷ []) at_first so_far rest)) other old new is comes same did =
     peer_serves (Other (Opened host (Came from left written ∷ []) at_first so_far rest)) other old new tt comes same did
 server_serves action other old new is comes same did = is
 
 -- and so a client
 client_asks : (action : Action client_side) (other : Host) (old new : Stand client_side) → IsAskingAny action old.owner → ComesFrom other (touch_in action)
-    → other ≡ old.owner.end.view.peer → Done action old new → IsAsking action old.owner
+    → other ≡ old.owner.end.view.peer → Done action old new → IsAskingOrListening action old.owner
 client_asks (Other (Opened host (Came from left written ∷ []) at_first so_far rest)) other old new is comes same did =
     let host_is = came_from host from left written at_first so_far rest old.owner.channel new.owner.channel did.0.1 in
     subst (λ h. same_host host h ≡ true) same (subst (λ h. same_host h other ≡ true) host_is comes)
@@ -231,7 +231,7 @@ AsksAny = Does {side = client_side} IsAskingAny ClientIsCalm
 pub peers_do : (hosts : Hosts) (turns : List Turn) (server server_now : Stand server_side) (client client_now : Stand client_side)
     (led : Led (server_actions turns) server server_now) (asked : Led (client_actions turns) client client_now)
     → Both ServesAny AsksAny turns server server_now client client_now led asked → AllCame hosts turns → AreMet hosts server client
-    → Both ServerTransfers ClientTransfers turns server server_now client client_now led asked × AreMet hosts server_now client_now
+    → Both ServerTransfersEitherWay ClientTransfersEitherWay turns server server_now client client_now led asked × AreMet hosts server_now client_now
 peers_do hosts [] server server_now client client_now led asked both came met = (
   record { serves = tt; asks = tt },
   (
@@ -260,21 +260,21 @@ peers_do hosts (Client action ∷ before) server server_now client client_now le
 
 -- ---- and the other way round
 
-serves_any : (action : Action server_side) (at : Held Timed) → IsServing action at → IsServingAny action at
+serves_any : (action : Action server_side) (at : Held Timed) → IsServingOrDialling action at → IsServingAny action at
 serves_any (Other (Opened host (Came from left written ∷ []) at_first so_far rest)) at is = tt
 serves_any action at is = is
 
-asks_any : (action : Action client_side) (at : Held NearEnd) → IsAsking action at → IsAskingAny action at
+asks_any : (action : Action client_side) (at : Held NearEnd) → IsAskingOrListening action at → IsAskingAny action at
 asks_any (Other (Opened host (Came from left written ∷ []) at_first so_far rest)) at is = tt
 asks_any action at is = is
 
 -- either accepts nobody but its peer
-server_came : (action : Action server_side) (other : Host) (old new : Stand server_side) → IsServing action old.owner
+server_came : (action : Action server_side) (other : Host) (old new : Stand server_side) → IsServingOrDialling action old.owner
     → other ≡ peer_of old.owner.end.server.view → Done action old new → ComesFrom other (touch_in action)
 server_came (Other (Opened host (Connected endpoint left written ∷ []) at_first so_far rest)) other old new is same did = tt
 server_came action other old new is same did = server_comes action other old new is same did
 
-client_came : (action : Action client_side) (other : Host) (old new : Stand client_side) → IsAsking action old.owner
+client_came : (action : Action client_side) (other : Host) (old new : Stand client_side) → IsAskingOrListening action old.owner
     → other ≡ old.owner.end.view.peer → Done action old new → ComesFrom other (touch_in action)
 client_came (Other (Opened host (Came from left written ∷ []) at_first so_far rest)) other old new is same did =
     let host_is = came_from host from left written at_first so_far rest old.owner.channel new.owner.channel did.0.1 in
@@ -288,7 +288,7 @@ client_came action other old new is same did = tt
 -- so of both these alone came, and they serve and ask whoever comes
 pub peers_came : (hosts : Hosts) (turns : List Turn) (server server_now : Stand server_side) (client client_now : Stand client_side)
     (led : Led (server_actions turns) server server_now) (asked : Led (client_actions turns) client client_now)
-    → Both ServerTransfers ClientTransfers turns server server_now client client_now led asked → AreMet hosts server client
+    → Both ServerTransfersEitherWay ClientTransfersEitherWay turns server server_now client client_now led asked → AreMet hosts server client
     → AllCame hosts turns × Both ServesAny AsksAny turns server server_now client client_now led asked × AreMet hosts server_now client_now
 peers_came hosts [] server server_now client client_now led asked both met = (
   tt,

@@ -9,14 +9,14 @@ use Rattle.ftp_client_model.specs.Failing.{Client as NearEnd}
 use Rattle.ftp_operation.specs.Answer.{Said}
 use Rattle.ftp_operation.specs.declared.op.Op.{Op}
 use Rattle.laws_drivers.specs.control.Between.{Between, Can, Client, Far, Happened, Has, IsOver, Near, Server, Turn, nothing_yet}
-use Rattle.laws_drivers.specs.control.Touches.{ToldBreak, had_by, left_by, touch_in}
+use Rattle.laws_drivers.specs.control.Touches.{ToldBreak, had_by, touch_of_leaving, touch_in}
 use Rattle.laws_transfers.specs.Actions.{AreResets}
 use Rattle.ftp_server_driver.specs.alone.Side.{Timed}
 use Rattle.ftp_pair_memory.specs.streams.Order.{CanGo, Went}
 use Rattle.ftp_pair_memory.specs.steps.Taking.{Answered, Ends, by_client}
 use Rattle.laws_sessions.specs.passive.Kinds.{AnsweredSo, AreAnsweredSo, BreaksAreResets, Kind}
 use Rattle.laws_sessions.specs.passive.Laws.{IsUnbroken}
-use Rattle.laws_sessions.specs.passive.Sessions.{AreAsked, actions_of, turns_of}
+use Rattle.laws_sessions.specs.passive.Sessions.{AreAsked, actions_of, turns_of_both}
 use Rattle.laws_sessions.proofs.passive.Gathering.{turns_with}
 use Rattle.laws_sessions.proofs.passive.Happening.{can}
 
@@ -56,7 +56,7 @@ had_unbroken (NotConnected endpoint ∷ []) = tt
 had_unbroken asked = tt
 
 -- nor does leaving one
-pub left_unbroken : (asked : Asked) → IsUnbroken (left_by asked)
+pub left_unbroken : (asked : Asked) → IsUnbroken (touch_of_leaving asked)
 left_unbroken (EndedBy left written) = tt
 left_unbroken (Reset left written) = tt
 left_unbroken asked = tt
@@ -118,8 +118,8 @@ module _ (kind : Kind) (KeepsServer : (old new : Held Timed) → Type 0) (KeepsC
 
   -- so it is of a session
   pub session_resets : (moments : ℕ → ℕ) (asked : List (Op (List ℕ) × Said)) (start now : Ends) (are : AreAsked asked start now)
-      → AreAnsweredSo kind KeepsServer KeepsClient moments asked start now are → Resets (turns_of asked start now are) start.between now.between
+      → AreAnsweredSo kind KeepsServer KeepsClient moments asked start now are → Resets (turns_of_both asked start now are) start.between now.between
   session_resets moments [] start now are by = (ap (λ (e : Ends). e.between) are, tt)
   session_resets moments (asked ∷ before) start now are by =
-      with_resets (moments (length before)) asked.0 asked.1 (turns_of before start are.0 are.1) are.0 now are.2 by.1 start.between
+      with_resets (moments (length before)) asked.0 asked.1 (turns_of_both before start are.0 are.1) are.0 now are.2 by.1 start.between
       (session_resets moments before start are.0 are.1 by.0)

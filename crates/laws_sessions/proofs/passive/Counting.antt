@@ -3,7 +3,7 @@ use Rattle.std.proofs.Common.{◌≡◌, inl, inr, ℕ, ◌+◌, ◌*◌, ◌^�
 use Rattle.ftp_ports.specs.Actions.{Action, Done, Ended, Heard, Led, Other, Read, Said as Says, Stand}
 use Rattle.ftp_ports.specs.Machine.{Aside, Break, Closed, End, Failed, Gave, Got, Held, Left, LetGo, Listening, NoPort, Opened, Received, Refused, Waited, Wrote}
 use Rattle.ftp_client_driver.specs.Side.{Reporting, Starting, Uploading, client_side}
-use Rattle.ftp_client_model.specs.Counting.{CountsOn as NearCounts}
+use Rattle.ftp_client_model.specs.Counting.{MovesByOneAtMost as NearCounts}
 use Rattle.ftp_client_model.specs.Failing.{Client}
 use Rattle.ftp_direct.specs.Run.{moved_on}
 use Rattle.ftp_server_driver.specs.alone.Side.{HearsBy, Timed, server_side}

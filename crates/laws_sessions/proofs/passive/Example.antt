@@ -9,7 +9,7 @@ use Rattle.ftp_client_model.specs.Calls as near
 use Rattle.ftp_operation.specs.Answer.{Path}
 use Rattle.ftp_operation.specs.declared.op.Op.{Op}
 use Rattle.ftp_operation.specs.declared.op.Op.TheVariants as Ops
-use Rattle.laws_drivers.specs.control.Alone.{ClientAttends, ClientIsCalm, IsAsking, IsServing, ServerAttends, ServerIsCalm}
+use Rattle.laws_drivers.specs.control.Alone.{ClientAttends, ClientIsCalm, IsAskingAlone, IsServingAlone, ServerAttends, ServerIsCalm}
 use Rattle.laws_drivers.specs.control.Between.{Between, Client, Happened, Server, Turn, client_actions, nothing_yet, server_actions}
 use Rattle.laws_drivers.specs.control.Over.{AreMidst}
 use Rattle.laws_drivers.specs.control.Touches.{touch_in}
@@ -17,9 +17,9 @@ use Rattle.laws_drivers.proofs.control.Ending.{Goes}
 use Rattle.laws_drivers.proofs.control.Example.{example_is_answered}
 use Rattle.laws_drivers.proofs.control.Playing.{far_at, near_at}
 use Rattle.ftp_server_driver.specs.alone.Side.{server_side}
-use Rattle.ftp_pair_memory.specs.streams.Order.{AllCame, ComesFrom, Counted, Counts, Hosts, Went}
+use Rattle.ftp_pair_memory.specs.streams.Order.{AllCame, ComesFrom, Counted, CountsPorts, Hosts, Went}
 use Rattle.ftp_pair_memory.specs.streams.Plain.{quiet}
-use Rattle.ftp_pair_memory.specs.steps.Taking.{Answered, Answers, Settled, Took, ends}
+use Rattle.ftp_pair_memory.specs.steps.Taking.{Answered, Answers, Settled, Took, both_ends}
 use Rattle.ftp_pair_memory.proofs.steps.Gathering.{servers_then}
 use Rattle.laws_sessions.specs.passive.Laws.{AskedBy, ExampleIsAsked}
 
@@ -30,14 +30,14 @@ went_of (Server action ∷ rest) op now happened = (happened.0, went_of rest op 
 went_of (Client action ∷ rest) op now happened = (happened.0, went_of rest op happened.0 happened.1, inl happened.2)
 
 -- over control alone no port is told
-serving_counts : (action : Action server_side) (n : ℕ) → IsServing action → Counts (touch_in action) n n
+serving_counts : (action : Action server_side) (n : ℕ) → IsServingAlone action → CountsPorts (touch_in action) n n
 serving_counts (Heard octets) n is = refl
 serving_counts (Says octets) n is = refl
 serving_counts (Read octets) n is = refl
 serving_counts (Other (Aside asked)) n is = refl
 serving_counts action n is = absurd is
 
-asking_counts : (action : Action client_side) (n : ℕ) → IsAsking action → Counts (touch_in action) n n
+asking_counts : (action : Action client_side) (n : ℕ) → IsAskingAlone action → CountsPorts (touch_in action) n n
 asking_counts (Heard octets) n is = refl
 asking_counts (Says octets) n is = refl
 asking_counts (Read octets) n is = refl
@@ -47,8 +47,8 @@ asking_counts (Other Closed) n is = refl
 asking_counts action n is = absurd is
 
 all_counted : (turns : List Turn) (server server_now : Stand server_side) (client client_now : Stand client_side)
-    → Goes IsServing ServerIsCalm ServerAttends (server_actions turns) server server_now
-    → Goes IsAsking ClientIsCalm ClientAttends (client_actions turns) client client_now → Counted turns 0 0
+    → Goes IsServingAlone ServerIsCalm ServerAttends (server_actions turns) server server_now
+    → Goes IsAskingAlone ClientIsCalm ClientAttends (client_actions turns) client client_now → Counted turns 0 0
 all_counted [] server server_now client client_now serves asks = refl
 all_counted (Server action ∷ before) server server_now client client_now serves asks =
     (0, all_counted before server serves.0.0 client client_now (serves.0.1, serves.1.0) asks, serving_counts action 0 serves.1.1)
@@ -56,14 +56,14 @@ all_counted (Client action ∷ before) server server_now client client_now serve
     (0, all_counted before server server_now client asks.0.0 serves (asks.0.1, asks.1.0), asking_counts action 0 asks.1.1)
 
 -- and nobody comes
-serving_comes : (action : Action server_side) (other : Host) → IsServing action → ComesFrom other (touch_in action)
+serving_comes : (action : Action server_side) (other : Host) → IsServingAlone action → ComesFrom other (touch_in action)
 serving_comes (Heard octets) other is = tt
 serving_comes (Says octets) other is = tt
 serving_comes (Read octets) other is = tt
 serving_comes (Other (Aside asked)) other is = tt
 serving_comes action other is = absurd is
 
-asking_comes : (action : Action client_side) (other : Host) → IsAsking action → ComesFrom other (touch_in action)
+asking_comes : (action : Action client_side) (other : Host) → IsAskingAlone action → ComesFrom other (touch_in action)
 asking_comes (Heard octets) other is = tt
 asking_comes (Says octets) other is = tt
 asking_comes (Read octets) other is = tt
@@ -73,8 +73,8 @@ asking_comes (Other Closed) other is = tt
 asking_comes action other is = absurd is
 
 all_came : (hosts : Hosts) (turns : List Turn) (server server_now : Stand server_side) (client client_now : Stand client_side)
-    → Goes IsServing ServerIsCalm ServerAttends (server_actions turns) server server_now
-    → Goes IsAsking ClientIsCalm ClientAttends (client_actions turns) client client_now → AllCame hosts turns
+    → Goes IsServingAlone ServerIsCalm ServerAttends (server_actions turns) server server_now
+    → Goes IsAskingAlone ClientIsCalm ClientAttends (client_actions turns) client client_now → AllCame hosts turns
 all_came hosts [] server server_now client client_now serves asks = tt
 all_came hosts (Server action ∷ before) server server_now client client_now serves asks =
     (all_came hosts before server serves.0.0 client client_now (serves.0.1, serves.1.0) asks, serving_comes action hosts.far serves.1.1)
@@ -94,15 +94,15 @@ example_is_asked table root =
     let heard = (near_at e.heard []).owner in
     let done = (near_at (near.data_closed (near.reports e.heard)) []).owner in
     let first : Turn = Client (Other (Begun Ops.Where)) in
-    let serves : Goes IsServing ServerIsCalm ServerAttends (server_actions p.later) (quiet server) (quiet served) =
-    subst (λ d. Goes IsServing ServerIsCalm ServerAttends d (quiet server) (quiet served))
+    let serves : Goes IsServingAlone ServerIsCalm ServerAttends (server_actions p.later) (quiet server) (quiet served) =
+    subst (λ d. Goes IsServingAlone ServerIsCalm ServerAttends d (quiet server) (quiet served))
     (ap server_actions p.turns_are ∙ servers_then p.later (first ∷ []) ∙ append-nil (server_actions p.later)) p.far_goes in
-    let asks : Goes IsAsking ClientIsCalm ClientAttends (client_actions p.later) (quiet begun) (quiet heard) =
-    subst (λ d. Goes IsAsking ClientIsCalm ClientAttends d (quiet begun) (quiet heard)) (sym p.later_midst) p.near_goes in
+    let asks : Goes IsAskingAlone ClientIsCalm ClientAttends (client_actions p.later) (quiet begun) (quiet heard) =
+    subst (λ d. Goes IsAskingAlone ClientIsCalm ClientAttends d (quiet begun) (quiet heard)) (sym p.later_midst) p.near_goes in
     let happened : Happened (p.later ++ first ∷ []) nothing_yet = subst (λ t. Happened t nothing_yet) p.turns_are p.happened in
     let host = server.end.server.view.context.peer in
     let hosts : Hosts = record { near = host; far = host } in
-    let took : Took (ends server begun nothing_yet 0 hosts) (ends served heard nothing_yet 0 hosts) = record {
+    let took : Took (both_ends server begun nothing_yet 0 hosts) (both_ends served heard nothing_yet 0 hosts) = record {
       turns = p.later;
       server_led = serves.0;
       client_led = asks.0;
@@ -111,7 +111,7 @@ example_is_asked table root =
       came = all_came hosts p.later (quiet server) (quiet served) (quiet begun) (quiet heard) serves asks;
       hosts = refl;
     } in
-    let last : Answers said (ends served heard nothing_yet 0 hosts) (ends served done nothing_yet 0 hosts) = record {
+    let last : Answers said (both_ends served heard nothing_yet 0 hosts) (both_ends served done nothing_yet 0 hosts) = record {
       asked = Shut;
       midst = [];
       led = a.last.0;
@@ -121,9 +121,9 @@ example_is_asked table root =
       hosts = refl;
       server = refl;
     } in
-    let settled : Settled said (ends server begun nothing_yet 0 hosts) (ends served done nothing_yet 0 hosts) =
-    record { mid = ends served heard nothing_yet 0 hosts; took = took; answers = last } in
-    let answered : Answered Ops.Where said (ends server client nothing_yet 0 hosts) (ends served done nothing_yet 0 hosts) =
+    let settled : Settled said (both_ends server begun nothing_yet 0 hosts) (both_ends served done nothing_yet 0 hosts) =
+    record { mid = both_ends served heard nothing_yet 0 hosts; took = took; answers = last } in
+    let answered : Answered Ops.Where said (both_ends server client nothing_yet 0 hosts) (both_ends served done nothing_yet 0 hosts) =
     record { begun = begun; begins = a.begins; settled = settled } in
     let alone : AskedBy ServerIsCalm ClientIsCalm answered = record {
       kept = a.calm;
@@ -133,10 +133,10 @@ example_is_asked table root =
       last_asks = a.last.1;
       last_midst = tt;
     } in (
-      ends server client nothing_yet 0 hosts,
-      ends served done nothing_yet 0 hosts,
+      both_ends server client nothing_yet 0 hosts,
+      both_ends served done nothing_yet 0 hosts,
       e.begins,
       refl,
-      (ends server client nothing_yet 0 hosts, refl, answered),
+      (both_ends server client nothing_yet 0 hosts, refl, answered),
       (tt, alone),
     )

@@ -11,7 +11,7 @@ use Rattle.laws_drivers.specs.events.Actions.{Along, AreMidst, ArePorts, listene
 use Rattle.laws_drivers.proofs.events.Along.{Went as Goes}
 use Rattle.laws_drivers.specs.control.Alone.{ClientIsCalm, ServerIsCalm}
 use Rattle.laws_drivers.specs.control.Between.{Between, Client, Server, Turn, client_actions, nothing_yet, server_actions}
-use Rattle.laws_drivers.specs.control.Touches.{left_by}
+use Rattle.laws_drivers.specs.control.Touches.{touch_of_leaving}
 use Rattle.laws_examples.proofs.transfers.Ending.{IsAnswered, IsAnsweredBy, lies_over}
 use Rattle.laws_examples.proofs.transfers.FetchPlayed.{fetch_is_answered}
 use Rattle.laws_examples.proofs.transfers.Moves.{near_closes, says_answer}
@@ -23,7 +23,7 @@ use Rattle.laws_drivers.specs.events.Moments.{AreToldAt, IsToldAt, last_of, numb
 use Rattle.laws_world.specs.Claims.{Beginning}
 use Rattle.ftp_server_driver.specs.alone.Side.{Timed, server_side}
 use Rattle.ftp_pair_memory.specs.streams.Order.{AllCame, Counted, Hosts}
-use Rattle.ftp_pair_memory.specs.steps.Taking.{Answered, Answers, Ends, Settled, Took, ends}
+use Rattle.ftp_pair_memory.specs.steps.Taking.{Answered, Answers, Ends, Settled, Took, both_ends}
 use Rattle.ftp_pair_memory.proofs.steps.Gathering.{clients_then, servers_then}
 use Rattle.laws_sessions.specs.passive.Kinds.{AnsweredSo, AreAllToldAt, Does, IsSession, Kind}
 use Rattle.laws_sessions.specs.passive.Transfers.{AreTransferred, FetchIsAsked, IsServingAny, PeekIsAsked, PutIsAsked, transfers}
@@ -133,16 +133,16 @@ module _ (kind : Kind)
   reported = (near_in none_yet (near.reports a.heard) []).owner
 
   abbrev starts : Ends
-  starts = ends server (near_in none_yet a.client_first []).owner nothing_yet 0 hosts
+  starts = both_ends server (near_in none_yet a.client_first []).owner nothing_yet 0 hosts
 
   abbrev started : Ends
-  started = ends server (near_in none_yet a.begun []).owner nothing_yet 0 hosts
+  started = both_ends server (near_in none_yet a.begun []).owner nothing_yet 0 hosts
 
   abbrev done : Ends
-  done = ends served heard a.there p.told hosts
+  done = both_ends served heard a.there p.told hosts
 
   abbrev over : Ends
-  over = ends served (near_in none_yet (near.data_closed (near.reports a.heard)) []).owner (lies_over a.hold [] []) p.told hosts
+  over = both_ends served (near_in none_yet (near.data_closed (near.reports a.heard)) []).owner (lies_over a.hold [] []) p.told hosts
 
   abbrev took : Took started done
   took = record {
@@ -165,7 +165,7 @@ module _ (kind : Kind)
       near_closes (near.reports a.heard) a.free,
     );
     went = (lies_over a.hold [] [], (a.there, (a.there, refl, inl refl), inl a.can), inl refl);
-    counted = (p.told, (p.told, (p.told, refl, refl), none_counts (left_by a.asked) p.told (left_no_port a.asked)), refl);
+    counted = (p.told, (p.told, (p.told, refl, refl), none_counts (touch_of_leaving a.asked) p.told (left_no_port a.asked)), refl);
     came = (((tt, tt), left_comes hosts.near a.asked), tt);
     hosts = refl;
     server = refl;

@@ -10,7 +10,7 @@ use Rattle.laws_drivers.proofs.events.Answers.{reported_free}
 use Rattle.ftp_pair_memory.specs.streams.Order.{AllCame, Counted, Went}
 use Rattle.ftp_pair_memory.specs.steps.Taking.{Answered, Ends, by_client}
 use Rattle.ftp_pair_memory.proofs.steps.Gathering.{came_then, clients_then, counted_then, its_own, no_others, servers_then, went_then}
-use Rattle.laws_sessions.specs.passive.Sessions.{AreAsked, actions_of, turns_of}
+use Rattle.laws_sessions.specs.passive.Sessions.{AreAsked, actions_of, turns_of_both}
 
 -- either end did no more than both
 pub far_fewer : (turns : List Turn) → length (server_actions turns) ≤ length turns
@@ -58,18 +58,18 @@ module _ (op : Op (List ℕ)) (answer : Said) (before : List Turn) (mid now : En
 
 -- so it is of a session
 pub session_went : (asked : List (Op (List ℕ) × Said)) (start now : Ends) (are : AreAsked asked start now)
-    → Went (turns_of asked start now are) start.between now.between
+    → Went (turns_of_both asked start now are) start.between now.between
 session_went [] start now are = ap (λ (e : Ends). e.between) are
 session_went (asked ∷ before) start now are =
-    with_went asked.0 asked.1 (turns_of before start are.0 are.1) are.0 now are.2 start.between (session_went before start are.0 are.1)
+    with_went asked.0 asked.1 (turns_of_both before start are.0 are.1) are.0 now are.2 start.between (session_went before start are.0 are.1)
 
 -- and each port that was told in it was the next one
 pub session_counted : (asked : List (Op (List ℕ) × Said)) (start now : Ends) (are : AreAsked asked start now)
-    → Counted (turns_of asked start now are) start.listens now.listens
+    → Counted (turns_of_both asked start now are) start.listens now.listens
 session_counted [] start now are = ap (λ (e : Ends). e.listens) are
 session_counted (asked ∷ before) start now are =
     let a = are.2.settled in
-    let turns = turns_of before start are.0 are.1 in
+    let turns = turns_of_both before start are.0 are.1 in
     let first : List Turn = Client (Other (Begun asked.0)) ∷ turns in
     let begun : Counted first start.listens are.0.listens = (are.0.listens, session_counted before start are.0 are.1, refl) in
     counted_then (by_client (actions_of a.answers)) (a.took.turns ++ first) start.listens a.mid.listens now.listens a.answers.counted
@@ -77,12 +77,12 @@ session_counted (asked ∷ before) start now are =
 
 -- and who came was the host at the other end
 pub session_came : (asked : List (Op (List ℕ) × Said)) (start now : Ends) (are : AreAsked asked start now)
-    → AllCame start.hosts (turns_of asked start now are) × (now.hosts ≡ start.hosts)
+    → AllCame start.hosts (turns_of_both asked start now are) × (now.hosts ≡ start.hosts)
 session_came [] start now are = (tt, ap (λ (e : Ends). e.hosts) are)
 session_came (asked ∷ before) start now are =
     let a = are.2.settled in
     let earlier = session_came before start are.0 are.1 in
-    let first : List Turn = Client (Other (Begun asked.0)) ∷ turns_of before start are.0 are.1 in
+    let first : List Turn = Client (Other (Begun asked.0)) ∷ turns_of_both before start are.0 are.1 in
     let took = subst (λ h. AllCame h a.took.turns) earlier.1 a.took.came in
     let hosts = a.took.hosts ∙ earlier.1 in
     let last = subst (λ h. AllCame h (by_client (actions_of a.answers))) hosts a.answers.came in (

@@ -26,7 +26,7 @@ use Rattle.laws_dialogues.proofs.Context.{waited_context}
 use Rattle.laws_drivers.specs.events.Actions.{Along}
 use Rattle.laws_drivers.specs.control.Alone.{ServerIsCalm}
 use Rattle.laws_drivers.specs.control.Between.{Client, Server as ByServer, Turn, client_actions, server_actions}
-use Rattle.laws_drivers.specs.control.Touches.{left_by, touch_in}
+use Rattle.laws_drivers.specs.control.Touches.{touch_of_leaving, touch_in}
 use Rattle.laws_drivers.proofs.control.Calm.{first_is_calm}
 use Rattle.ftp_client_driver.specs.Side.{client_side}
 use Rattle.ftp_client_model.specs.Failing.{Client as NearEnd}
@@ -215,7 +215,7 @@ serve_any [] start now led serves = tt
 serve_any (action ∷ before) start now led serves =
     (serve_any before start led.0 led.1 serves.0, (serves_any action led.0.owner serves.1.0, serves.1.1))
 
-pub left_comes : (other : Host) (asked : Asked) → ComesFrom other (left_by asked)
+pub left_comes : (other : Host) (asked : Asked) → ComesFrom other (touch_of_leaving asked)
 left_comes other (EndedBy left written) = tt
 left_comes other (Reset left written) = tt
 left_comes other asked = tt

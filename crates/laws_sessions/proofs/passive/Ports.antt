@@ -8,11 +8,11 @@ use Rattle.ftp_client_driver.specs.Side.{client_side}
 use Rattle.ftp_client_model.specs.Failing.{Client as NearEnd}
 use Rattle.laws_drivers.specs.events.Actions.{Along, ArePorts, listened_in}
 use Rattle.laws_drivers.specs.control.Between.{Client, Server, Turn, client_actions, server_actions}
-use Rattle.laws_drivers.specs.control.Touches.{Listens, Touch, had_by, left_by, touch_in}
+use Rattle.laws_drivers.specs.control.Touches.{Listens, Touch, had_by, touch_of_leaving, touch_in}
 use Rattle.laws_transfers.specs.Actions.{IsAsking}
 use Rattle.laws_world.specs.World.{next_listen, port_at}
 use Rattle.ftp_server_driver.specs.alone.Side.{server_side}
-use Rattle.ftp_pair_memory.specs.streams.Order.{Counted, Counts}
+use Rattle.ftp_pair_memory.specs.streams.Order.{Counted, CountsPorts}
 use Rattle.laws_sessions.specs.passive.Kinds.{Does}
 
 -- ---- what tells no port
@@ -22,11 +22,11 @@ IsNoPort (Listens (Some port)) = ⊥
 IsNoPort touch = ⊤
 
 -- as many were told as before
-pub none_counts : (touch : Touch) (n : ℕ) → IsNoPort touch → Counts touch n n
+pub none_counts : (touch : Touch) (n : ℕ) → IsNoPort touch → CountsPorts touch n n
 none_counts (Listens (Some port)) n none = absurd none
 none_counts touch n none = refl
 
-pub counts_none : (touch : Touch) (old new : ℕ) → IsNoPort touch → Counts touch old new → new ≡ old
+pub counts_none : (touch : Touch) (old new : ℕ) → IsNoPort touch → CountsPorts touch old new → new ≡ old
 counts_none (Listens (Some port)) old new none counts = absurd none
 counts_none touch old new none counts = counts
 
@@ -37,7 +37,7 @@ had_no_port (NotCame ∷ []) = tt
 had_no_port (NotConnected endpoint ∷ []) = tt
 had_no_port asked = tt
 
-pub left_no_port : (asked : Asked) → IsNoPort (left_by asked)
+pub left_no_port : (asked : Asked) → IsNoPort (touch_of_leaving asked)
 left_no_port (EndedBy left written) = tt
 left_no_port (Reset left written) = tt
 left_no_port asked = tt
@@ -56,21 +56,21 @@ client_no_port action at is = tt
 abbrev AreTold : List (Action server_side) → (told : ℕ) → Type 0
 AreTold actions told = (listened_in actions ≡ told) × ArePorts actions
 
-server_told : (action : Action server_side) (before : List (Action server_side)) (mid told : ℕ) → AreTold before mid → Counts (touch_in action) mid told
+server_told : (action : Action server_side) (before : List (Action server_side)) (mid told : ℕ) → AreTold before mid → CountsPorts (touch_in action) mid told
     → AreTold (action ∷ before) told
 server_told (Other (Listening port)) before mid told first counts = (ap next_listen first.0 ∙ sym counts.1, (first.1, counts.0 ∙ ap port_at (sym first.0)))
 server_told (Other (Opened host asked at_first so_far rest)) before mid told first counts =
     (first.0 ∙ sym (counts_none (had_by asked) mid told (had_no_port asked) counts), first.1)
 server_told (Other (Refused asked)) before mid told first counts = (first.0 ∙ sym (counts_none (had_by asked) mid told (had_no_port asked) counts), first.1)
-server_told (Other (Left asked)) before mid told first counts = (first.0 ∙ sym (counts_none (left_by asked) mid told (left_no_port asked) counts), first.1)
+server_told (Other (Left asked)) before mid told first counts = (first.0 ∙ sym (counts_none (touch_of_leaving asked) mid told (left_no_port asked) counts), first.1)
 server_told action before mid told first counts = (first.0 ∙ sym counts, first.1)
 
 server_counts : (action : Action server_side) (before : List (Action server_side)) → ArePorts (action ∷ before)
-    → ArePorts before × Counts (touch_in action) (listened_in before) (listened_in (action ∷ before))
+    → ArePorts before × CountsPorts (touch_in action) (listened_in before) (listened_in (action ∷ before))
 server_counts (Other (Listening port)) before ports = (ports.0, (ports.1, refl))
 server_counts (Other (Opened host asked at_first so_far rest)) before ports = (ports, none_counts (had_by asked) (listened_in before) (had_no_port asked))
 server_counts (Other (Refused asked)) before ports = (ports, none_counts (had_by asked) (listened_in before) (had_no_port asked))
-server_counts (Other (Left asked)) before ports = (ports, none_counts (left_by asked) (listened_in before) (left_no_port asked))
+server_counts (Other (Left asked)) before ports = (ports, none_counts (touch_of_leaving asked) (listened_in before) (left_no_port asked))
 server_counts action before ports = (ports, refl)
 
 module _ (Keeps : (old new : Held NearEnd) → Type 0) where

@@ -28,7 +28,7 @@ use Rattle.ftp_pair_memory.specs.steps.Taking.{Answered, Ends, by_client}
 use Rattle.ftp_pair_memory.proofs.steps.Gathering.{clients_then}
 use Rattle.laws_sessions.specs.passive.Kinds.{AnsweredSo, AreAllToldAt, AreAnsweredSo, AreByCounts, AreTheDirectRun, Does, Kind, SessionBy}
 use Rattle.laws_sessions.specs.passive.Laws.{IsUnbroken}
-use Rattle.laws_sessions.specs.passive.Sessions.{AreAsked, actions_of, turns_of}
+use Rattle.laws_sessions.specs.passive.Sessions.{AreAsked, actions_of, turns_of_both}
 use Rattle.laws_sessions.proofs.passive.Breaking.{HappenedByResets, Resets, ServerIsUnbroken, resets_happen, session_resets}
 use Rattle.laws_sessions.proofs.passive.Counting.{far_calms, near_calms}
 use Rattle.laws_sessions.proofs.passive.Gathering.{far_fewer, near_fewer, answered_closed, answered_free, clients, clients_with, session_came, session_counted, turns_with}
@@ -174,7 +174,7 @@ module _ (kind : Kind) (may : (op : Op (List ℕ)) (at : Held NearEnd) → kind.
   -- so it is of a session
   pub gathered : (b : Beginning) (asked : List (Op (List ℕ) × Said)) (start now : Ends) → Begins b (quiet start.server) (quiet start.client)
       → (are : AreAsked asked start now) → AreAnsweredSo kind KeepsServer KeepsClient moments asked start now are
-      → All (turns_of asked start now are) asked start now
+      → All (turns_of_both asked start now are) asked start now
   gathered b [] start now begins are by =
       let none : All [] [] start start = record {
         serves = record { led = refl; serves = tt; told = tt };
@@ -187,7 +187,7 @@ module _ (kind : Kind) (may : (op : Op (List ℕ)) (at : Held NearEnd) → kind.
       } in
       subst (λ n. All [] [] start n) (sym are) none
   gathered b (asked ∷ before) start now begins are by =
-      one_more asked.0 asked.1 (turns_of before start are.0 are.1) before start are.0 now are.2 by.1 (gathered b before start are.0 begins are.1 by.0)
+      one_more asked.0 asked.1 (turns_of_both before start are.0 are.1) before start are.0 now are.2 by.1 (gathered b before start are.0 begins are.1 by.0)
 
 -- ---- the order
 
@@ -203,10 +203,10 @@ module _ (kind : Kind) (unbroken : (action : Action server_side) (at : Held Time
 
   pub session_happens : (asked : List (Op (List ℕ) × Said)) (start now : Ends) (are : AreAsked asked start now)
       → AreAnsweredSo kind KeepsServer KeepsClient moments asked start now are → start.between ≡ nothing_yet
-      → Served (ServerDoes kind KeepsServer KeepsClient moments) moments (turns_of asked start now are) (quiet start.server) (quiet now.server)
-      → HappenedByResets (turns_of asked start now are) now.between
+      → Served (ServerDoes kind KeepsServer KeepsClient moments) moments (turns_of_both asked start now are) (quiet start.server) (quiet now.server)
+      → HappenedByResets (turns_of_both asked start now are) now.between
   session_happens asked start now are by none serves =
-      let turns = turns_of asked start now are in
+      let turns = turns_of_both asked start now are in
       resets_happen turns now.between
       (subst (λ w. Resets turns w now.between) none (session_resets kind KeepsServer KeepsClient moments asked start now are by))
       (server_unbroken turns (quiet start.server) (quiet now.server) (serves.led, serves.serves))
@@ -270,11 +270,11 @@ module _ (kind : Kind) (may : (op : Op (List ℕ)) (at : Held NearEnd) → kind.
   concludes : (KeepsServer : (old new : Held Timed) → Type 0) (KeepsClient : (old new : Held NearEnd) → Type 0) (b : Beginning) → IsFair b
       → (moments : ℕ → ℕ) → AreMoments moments → (asked : List (Op (List ℕ) × Said)) (start now : Ends)
       → (s : SessionBy kind KeepsServer KeepsClient b moments asked start now)
-      → Gathered kind KeepsServer KeepsClient moments (turns_of asked start now s.are) asked start now
-      → Gathered kind ServerIsCalm ClientIsCalm moments (turns_of asked start now s.are) asked start now
+      → Gathered kind KeepsServer KeepsClient moments (turns_of_both asked start now s.are) asked start now
+      → Gathered kind ServerIsCalm ClientIsCalm moments (turns_of_both asked start now s.are) asked start now
       → AreAnswers (state_of b) (orders_at moments asked) (answers_of asked) now.server.end.server.view.session.table
   concludes KeepsServer KeepsClient b fair moments timed asked start now s kept g =
-      let turns = turns_of asked start now s.are in
+      let turns = turns_of_both asked start now s.are in
       let table = now.server.end.server.view.session.table in
       let happened = session_happens kind unbroken KeepsServer KeepsClient moments asked start now s.are s.by s.nothing kept.serves in
       let counted = subst (λ n. Counted turns n now.listens) s.listens (session_counted asked start now s.are) in
@@ -291,6 +291,6 @@ module _ (kind : Kind) (may : (op : Op (List ℕ)) (at : Held NearEnd) → kind.
 
   pub are_by_counts : AreByCounts kind
   are_by_counts b fair moments timed asked start now s counts refusals few =
-      let turns = turns_of asked start now s.are in
+      let turns = turns_of_both asked start now s.are in
       let g = gathered kind may (λ old new. ⊤) (λ old new. ⊤) moments b asked start now s.begins s.are s.by in
       concludes (λ old new. ⊤) (λ old new. ⊤) b fair moments timed asked start now s g (calms kind moments turns asked start now g counts refusals few)

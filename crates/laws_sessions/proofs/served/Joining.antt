@@ -14,7 +14,7 @@ use Rattle.ftp_server_driver.specs.alone.Driving.{BrokeOff, Drove, Finishes, Giv
 use Rattle.ftp_server_driver.specs.alone.Side.{server_machine, server_side}
 use Rattle.ftp_server_driver.specs.shared.Lending.{found_at, with_tree_at}
 use Rattle.ftp_server_driver.specs.shared.Turning.{AllGoOn, AreTurns, TakesTurn, Turn, goes_on}
-use Rattle.laws_sessions.specs.served.Alone.{DrivesBy, FindWhatWasLeft, TurnsAreOwnDrive, actions_by, actions_in, lent_first, whole}
+use Rattle.laws_sessions.specs.served.Alone.{DrivesBy, FindWhatWasLeft, TurnsAreOwnDrive, actions_by, server_actions_in, lent_first, whole_holding}
 use Rattle.laws_sessions.proofs.served.Staying.{begins_there, stays_so, still_whole}
 
 -- ---- turns that go on
@@ -37,18 +37,18 @@ pub finds_it : (turn : Turn) (old : Stand server_side) → turn.stays ≡ true �
 finds_it turn old stays = ap (λ (b : Bool). with_tree_at turn.lent (found_at b old)) (sym stays)
 
 -- all of the turns before it led there
-pub leads_to : (turn : Turn) (before : List Turn) (start mid : Stand server_side) → AllGoOn before → FindWhatWasLeft whole (turn ∷ before)
-    → (are : AreTurns before start mid) → Led (actions_in before start mid are) (with_tree_at (lent_first turn before) start) (with_tree_at turn.lent mid)
+pub leads_to : (turn : Turn) (before : List Turn) (start mid : Stand server_side) → AllGoOn before → FindWhatWasLeft whole_holding (turn ∷ before)
+    → (are : AreTurns before start mid) → Led (server_actions_in before start mid are) (with_tree_at (lent_first turn before) start) (with_tree_at turn.lent mid)
 leads_to turn [] start mid on found are = ap (with_tree_at turn.lent) are
 leads_to turn (last ∷ before) start mid on found are =
     let takes : TakesTurn last are.0 mid = are.2 in
     let there : Stand server_side = with_tree_at last.lent (found_at last.stays are.0) in
     let from : Stand server_side = with_tree_at (lent_first last before) start in
     let stays = stays_so last before are.0 mid takes are.3 (still_whole last before start are.0 found.0 are.1) in
-    let first = subst (Led (actions_in before start are.0 are.1) from) (finds_it last are.0 stays) (leads_to last before start are.0 on.0 found.0 are.1) in
+    let first = subst (Led (server_actions_in before start are.0 are.1) from) (finds_it last are.0 stays) (leads_to last before start are.0 on.0 found.0 are.1) in
     let then_on = goes_by last.most last.failed there takes.mid last.went on.1 takes.turned in
-    subst (λ (s : Stand server_side). Led (actions_in (last ∷ before) start mid are) from s) (sym (begins_there turn last are.0 mid found.1 takes))
-    (led_then (actions_by last.most last.failed there takes.mid last.went takes.turned) (actions_in before start are.0 are.1) from there takes.mid first then_on)
+    subst (λ (s : Stand server_side). Led (server_actions_in (last ∷ before) start mid are) from s) (sym (begins_there turn last are.0 mid found.1 takes))
+    (led_then (actions_by last.most last.failed there takes.mid last.went takes.turned) (server_actions_in before start are.0 are.1) from there takes.mid first then_on)
 
 -- ---- the last turn
 
@@ -129,8 +129,8 @@ turns_are_own_drive turn before start now unwritten untold on found are =
     let from : Stand server_side = with_tree_at (lent_first turn before) start in
     let there : Stand server_side = with_tree_at turn.lent (found_at turn.stays are.0) in
     let stays = stays_so turn before are.0 now takes are.3 (still_whole turn before start are.0 found are.1) in
-    let first = subst (Led (actions_in before start are.0 are.1) from) (finds_it turn are.0 stays) (leads_to turn before start are.0 on found are.1) in
+    let first = subst (Led (server_actions_in before start are.0 are.1) from) (finds_it turn are.0 stays) (leads_to turn before start are.0 on found are.1) in
     record {
-      drives = drives_by (actions_in before start are.0 are.1) from there unwritten untold first turn.most turn.failed takes.mid turn.went takes.turned;
+      drives = drives_by (server_actions_in before start are.0 are.1) from there unwritten untold first turn.most turn.failed takes.mid turn.went takes.turned;
       leaves = takes.leaves;
     }

@@ -15,7 +15,7 @@ use Rattle.ftp_server_model.specs.Failing.{Counts}
 use Rattle.ftp_server_model.specs.Play.{only_at}
 use Rattle.laws_server.specs.several.Company.{IsInSlot}
 use Rattle.ftp_tree.specs.Tree.{Table}
-use Rattle.laws_sessions.specs.served.Alone.{DrivesBy, FindWhatWasLeft, actions_by, actions_in, lent_first, part_at}
+use Rattle.laws_sessions.specs.served.Alone.{DrivesBy, FindWhatWasLeft, actions_by, server_actions_in, lent_first, part_at}
 use Rattle.laws_sessions.specs.served.Rooted.{TurnStaysAt, TurnsAreOwnDriveBut, TurnsStayAt, stand_but}
 use Rattle.laws_sessions.proofs.served.Joining.{drives_by, finds_it, goes_by, led_then}
 use Rattle.laws_sessions.proofs.served.Seeing.{led_but}
@@ -60,7 +60,7 @@ module _ (root : Names) (counts : Counts) where
   -- where the next turn begins, with a map of which the same stands there as of that which it is lent, and in that what stood at the path of an upload
   record Begins (from : Stand server_side) (turn : Turn) (turns : List Turn) (start mid : Stand server_side) (are : AreTurns turns start mid) : Type 0 where
     map : Table
-    led : Led (actions_in turns start mid are) from (stand_but map counts mid)
+    led : Led (server_actions_in turns start mid are) from (stand_but map counts mid)
     same : only_at root map ≡ only_at root turn.lent.table
     in_slot : IsInSlot root mid.owner.end.server.view
     still : StillStands turns turn.lent.table mid.owner.end.server.view
@@ -84,15 +84,15 @@ module _ (root : Names) (counts : Counts) where
       let finds = finds_it last old (stays_so last before old mid takes are.3 first.still) in
       let at : IsInSlot root there.owner.end.server.view = subst (λ (s : Stand server_side). IsInSlot root s.owner.end.server.view) finds
       (record { known = first.in_slot.known; held = first.in_slot.held }) in
-      let led = subst (λ (s : Stand server_side). Led (actions_in before start old are.1) from (stand_but first.map counts s)) finds first.led in
+      let led = subst (λ (s : Stand server_side). Led (server_actions_in before start old are.1) from (stand_but first.map counts s)) finds first.led in
       let one = makes_but first.map last.most last.failed there takes.mid last.went first.same at takes.turned stay.1 in
       let then_on = goes_by last.most last.failed (stand_but first.map counts there) (stand_but one.map counts takes.mid) last.went on.1 one.its in
       let did = actions_by last.most last.failed (stand_but first.map counts there) (stand_but one.map counts takes.mid) last.went one.its in
-      let all = led_then did (actions_in before start old are.1) from (stand_but first.map counts there) (stand_but one.map counts takes.mid) led then_on in
-      let named = subst (λ (d : List (Action server_side)). Led (d ++ actions_in before start old are.1) from (stand_but one.map counts takes.mid)) one.actions all in
+      let all = led_then did (server_actions_in before start old are.1) from (stand_but first.map counts there) (stand_but one.map counts takes.mid) led then_on in
+      let named = subst (λ (d : List (Action server_side)). Led (d ++ server_actions_in before start old are.1) from (stand_but one.map counts takes.mid)) one.actions all in
       record {
         map = one.map;
-        led = subst (λ (s : Stand server_side). Led (actions_in (last ∷ before) start mid are) from s) (sym (ap (stand_but one.map counts) takes.own)) named;
+        led = subst (λ (s : Stand server_side). Led (server_actions_in (last ∷ before) start mid are) from s) (sym (ap (stand_but one.map counts) takes.own)) named;
         same = one.same ∙ ap (λ (t : Holding). only_at root t.table) (sym takes.leaves) ∙ sym found.1;
         in_slot = subst (λ (s : Stand server_side). IsInSlot root s.owner.end.server.view) (sym takes.own)
             (record { known = one.in_slot.known; held = one.in_slot.held });
@@ -111,14 +111,14 @@ turns_are_own_drive_but root turn before start now unwritten untold in_slot on f
     let finds = finds_it turn mid (stays_so turn before mid now takes are.3 first.still) in
     let at : IsInSlot root there.owner.end.server.view = subst (λ (s : Stand server_side). IsInSlot root s.owner.end.server.view) finds
     (record { known = first.in_slot.known; held = first.in_slot.held }) in
-    let led = subst (λ (s : Stand server_side). Led (actions_in before start mid are.1) from (stand_but first.map counts s)) finds first.led in
+    let led = subst (λ (s : Stand server_side). Led (server_actions_in before start mid are.1) from (stand_but first.map counts s)) finds first.led in
     let one = makes_but root counts first.map turn.most turn.failed there takes.mid turn.went first.same at takes.turned stay.1 in
-    let drives = drives_by (actions_in before start mid are.1) from (stand_but first.map counts there) unwritten untold led turn.most turn.failed
+    let drives = drives_by (server_actions_in before start mid are.1) from (stand_but first.map counts there) unwritten untold led turn.most turn.failed
     (stand_but one.map counts takes.mid) turn.went one.its in
     record {
       left = stand_but one.map counts takes.mid;
       drives = subst (λ (d : List (Action server_side)).
-          DrivesBy (d ++ actions_in before start mid are.1) turn.failed from (stand_but one.map counts takes.mid) turn.went)
+          DrivesBy (d ++ server_actions_in before start mid are.1) turn.failed from (stand_but one.map counts takes.mid) turn.went)
           one.actions drives;
       table = one.map;
       counts = counts;

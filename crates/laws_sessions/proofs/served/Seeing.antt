@@ -23,7 +23,7 @@ use Rattle.laws_server.specs.several.Several.{exchanged}
 use Rattle.ftp_tree.specs.Tree.{Table}
 use Rattle.laws_drivers.proofs.control.Calm.{first_is_calm}
 use Rattle.laws_drivers.specs.events.Actions.{Along}
-use Rattle.laws_sessions.specs.served.Rooted.{LogsInAt, StaysAt, server_but, stand_but}
+use Rattle.laws_sessions.specs.served.Rooted.{ActionLogsInAt, StaysAt, server_but, stand_but}
 use Rattle.laws_sessions.proofs.served.Calling.{but_map, clock_but, hears_but, same_at, steps_but}
 use Rattle.laws_sessions.proofs.served.Receiving.{receives_but}
 use Rattle.laws_sessions.proofs.served.Waiting.{break_waits, end_waits, given_waits, no_port_waits, opened_waits, refused_waits}
@@ -107,7 +107,7 @@ module _ (root : Names) (counts : Counts) (table : Table) (old new : Timed) (ali
       }
 
   -- each of them
-  does_but : (call : Call ⊤) (channel : Channel) → LogsInAt root (Other call) (held old channel) → Does server_machine call old new → BothDo (Does server_machine call)
+  does_but : (call : Call ⊤) (channel : Channel) → ActionLogsInAt root (Other call) (held old channel) → Does server_machine call old new → BothDo (Does server_machine call)
   does_but (Aside own) channel logs does = still_but (Does server_machine (Aside own)) does.0 (ap (timed_but table counts) does.0, does.1)
   does_but (Listening port) channel logs does = alone_but (λ v w. ⊥) (listening_step port) (listening_at port root) (λ v. refl) does
   does_but (Opened host asked at_first so_far rest) channel logs does =

@@ -13,7 +13,7 @@ use Rattle.laws_drivers.proofs.control.Theorems.{drives_agree, drives_over_are_t
 use Rattle.laws_transfers.proofs.Concluding.{transfers_agree, transfers_parting_agree}
 use Rattle.laws_transfers.proofs.Ending.{transfers_over_are_the_direct_run}
 use Rattle.laws_transfers.proofs.Quitting.{transfers_that_quit_are_the_direct_run}
-use Rattle.laws_sessions.specs.served.Alone.{FindWhatWasLeft, actions_in, lent_first, part_at, whole}
+use Rattle.laws_sessions.specs.served.Alone.{FindWhatWasLeft, server_actions_in, lent_first, part_at, whole_holding}
 use Rattle.laws_drivers.specs.events.Actions.{Along}
 use Rattle.laws_sessions.specs.served.Rooted.{StaysAt, TurnsStayAt}
 use Rattle.laws_sessions.specs.served.Served.{Agree, Direct, DrivesAreCutUp, ServedAgree, ServedAreDirect, TurnsAreServed}
@@ -45,10 +45,10 @@ module _ {X : Type 0} (part : Holding → X) where
   }
 
 pub served_agree : ServedAgree
-served_agree = (agree whole, λ root. agree (part_at root))
+served_agree = (agree whole_holding, λ root. agree (part_at root))
 
 pub served_are_direct : ServedAreDirect
-served_are_direct = (direct whole, λ root. direct (part_at root))
+served_are_direct = (direct whole_holding, λ root. direct (part_at root))
 
 -- the one drive that turns are
 pub turns_are_served : TurnsAreServed
@@ -78,7 +78,7 @@ turns_are_served = record {
 -- ---- a drive is cut up
 
 -- what finds all of the tree finds each part
-found_part : (root : Names) (turns : List Turn) → FindWhatWasLeft whole turns → FindWhatWasLeft (part_at root) turns
+found_part : (root : Names) (turns : List Turn) → FindWhatWasLeft whole_holding turns → FindWhatWasLeft (part_at root) turns
 found_part root [] found = tt
 found_part root (turn ∷ []) found = found
 found_part root (turn ∷ last ∷ before) found = (found_part root (last ∷ before) found.0, ap (part_at root) found.1)
@@ -89,10 +89,10 @@ module _ (own : Holding) (from : Stand server_side) where
     turns : List Turn
     are : AreTurns turns (with_tree_at own from) (with_tree_at own now)
     on : AllGoOn turns
-    did : actions_in turns (with_tree_at own from) (with_tree_at own now) are ≡ actions
+    did : server_actions_in turns (with_tree_at own from) (with_tree_at own now) are ≡ actions
     many : length turns ≡ length actions
     told : still_stands (told_by turns) (standing_of now.owner.end.server.view.session) ≡ true
-    found : (turn : Turn) → turn.lent ≡ tree_of now.owner.end → FindWhatWasLeft whole (turn ∷ turns) × (lent_first turn turns ≡ tree_of from.owner.end)
+    found : (turn : Turn) → turn.lent ≡ tree_of now.owner.end → FindWhatWasLeft whole_holding (turn ∷ turns) × (lent_first turn turns ≡ tree_of from.owner.end)
     stays : (root : Names) → Along (StaysAt root) actions from now led → TurnsStayAt root turns (with_tree_at own from) (with_tree_at own now) are
 
   cut_up : (actions : List (Action server_side)) (now : Stand server_side) (led : Led actions from now) → Cut actions now led

@@ -8,9 +8,9 @@ use Rattle.ftp_ports.specs.Actions.{Stand}
 use Rattle.ftp_server_driver.specs.alone.Side.{server_side}
 use Rattle.laws_server.proofs.several.SlotLemmas.{get-set_other, get-set_same}
 use Rattle.ftp_server_driver.specs.shared.Lending.{Holding}
-use Rattle.ftp_server_driver.specs.shared.Sharing.{Event, Happened, Looks, Shared, Turns, TurnsIn, turns_in}
+use Rattle.ftp_server_driver.specs.shared.Sharing.{SharingEvent, SharingHappened, Looks, Shared, Turns, TurnsIn, turns_in}
 use Rattle.ftp_server_driver.specs.shared.Turning.{AreTurns, Turn, told_by}
-use Rattle.laws_sessions.specs.served.Alone.{AreLeftAlone, EachIsLeftAlone, FindWhatWasLeft, LeavesIt, OthersLeaveIt, lent_first, part_at, whole}
+use Rattle.laws_sessions.specs.served.Alone.{AreLeftAlone, EachIsLeftAlone, FindWhatWasLeft, LeavesIt, OthersLeaveIt, lent_first, part_at, whole_holding}
 
 module _ {X : Type 0} (part : Holding → X) (slot : ℕ) where
   -- so far: who sits in the slot took these turns since, each of which finds what the one before it left; whoever finds what stands finds it, too
@@ -59,7 +59,7 @@ module _ {X : Type 0} (part : Holding → X) (slot : ℕ) where
       (other_slot other turn turns first start mid now differ.1 (leaves differ.0) so turned)
 
   -- all events
-  all_sit : (events : List Event) (start now : Shared) (first : Stand server_side) → (happened : Happened events start now)
+  all_sit : (events : List SharingEvent) (start now : Shared) (first : Stand server_side) → (happened : SharingHappened events start now)
       → OthersLeaveIt part slot events start now happened → slice_get start.slots slot ≡ Some first → Sits (turns_in slot events) first start now
   all_sit [] start now first happened leave at = record {
     last = first;
@@ -89,4 +89,4 @@ are_left_alone part events start now slot first turn before happened leave at is
     record { last = so.last; sits = so.sits; are = so.are; found = found.0.0; lent = found.1; left = found.0.1 }
 
 pub each_is_left_alone : EachIsLeftAlone
-each_is_left_alone = (are_left_alone whole, λ root. are_left_alone (part_at root))
+each_is_left_alone = (are_left_alone whole_holding, λ root. are_left_alone (part_at root))

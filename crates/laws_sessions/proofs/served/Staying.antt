@@ -14,7 +14,7 @@ use Rattle.laws_server.proofs.several.LentLemmas.{standing_in_part}
 use Rattle.laws_server.specs.several.Company.{IsInSlot}
 use Rattle.laws_server.specs.several.Several.{exchanged}
 use Rattle.ftp_tree.specs.Tree.{Table}
-use Rattle.laws_sessions.specs.served.Alone.{FindWhatWasLeft, whole}
+use Rattle.laws_sessions.specs.served.Alone.{FindWhatWasLeft, whole_holding}
 
 -- what these turns told still stands in this map
 abbrev pub StillStands : List Turn → Table → View → Type 0
@@ -44,7 +44,7 @@ begins_there turn last old now found takes =
     ap (with_tree_at turn.lent) takes.own ∙ ap (λ (t : Holding). with_tree_at t takes.mid) (found ∙ takes.leaves)
 
 -- so what stands there is what it told
-pub still_whole : (turn : Turn) (before : List Turn) (start now : Stand server_side) → FindWhatWasLeft whole (turn ∷ before) → AreTurns before start now
+pub still_whole : (turn : Turn) (before : List Turn) (start now : Stand server_side) → FindWhatWasLeft whole_holding (turn ∷ before) → AreTurns before start now
     → StillStands before turn.lent.table now.owner.end.server.view
 still_whole turn [] start now found are = refl
 still_whole turn (last ∷ before) start now found are =

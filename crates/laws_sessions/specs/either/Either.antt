@@ -8,7 +8,7 @@ use Rattle.ftp_client_driver.specs.Side.{client_side}
 use Rattle.ftp_client_model.specs.Failing.{Client as NearEnd}
 use Rattle.ftp_operation.specs.Answer.{Said}
 use Rattle.ftp_operation.specs.declared.op.Op.{Op}
-use Rattle.laws_active.specs.Actions.{IsAsking, IsServing}
+use Rattle.laws_active.specs.Actions.{IsAskingOrListening, IsServingOrDialling}
 use Rattle.laws_examples.specs.active.Example.{call_asked, peek_asked}
 use Rattle.laws_drivers.specs.control.Example.{example}
 use Rattle.laws_examples.specs.transfers.Example.{HasFile}
@@ -22,11 +22,11 @@ use Rattle.laws_sessions.specs.passive.Kinds.{AreByCounts, AreTheDirectRun, IsSe
 -- it serves, and it asks, as where either listens and the other dials, whoever comes
 abbrev pub IsServingAny : Action server_side → Held Timed → Type 0
 IsServingAny (Other (Opened host (Came from left written ∷ []) at_first so_far rest)) at = ⊤
-IsServingAny action at = IsServing action at
+IsServingAny action at = IsServingOrDialling action at
 
 abbrev pub IsAskingAny : Action client_side → Held NearEnd → Type 0
 IsAskingAny (Other (Opened host (Came from left written ∷ []) at_first so_far rest)) at = ⊤
-IsAskingAny action at = IsAsking action at
+IsAskingAny action at = IsAskingOrListening action at
 
 -- the server has its own peer at its other end, and so has the client
 abbrev pub BothMeetPeers : Ends → Type 0

@@ -19,7 +19,7 @@ use Rattle.ftp_server_driver.specs.alone.Side.{Timed, server_side}
 use Rattle.ftp_pair_memory.specs.streams.Order.{Went}
 use Rattle.ftp_pair_memory.specs.streams.Plain.{quiet}
 use Rattle.ftp_pair_memory.specs.steps.Taking.{Answered, Ends, by_client}
-use Rattle.laws_sessions.specs.passive.Sessions.{AreAsked, actions_of, turns_of}
+use Rattle.laws_sessions.specs.passive.Sessions.{AreAsked, actions_of, turns_of_both}
 
 -- which operations are asked for, which actions either end does as it holds this, and whom the ends have at their other ends as a session begins
 pub record Kind : Type 1 where
@@ -101,5 +101,5 @@ module _ (kind : Kind) where
       (b : Beginning) → IsFair b → (moments : ℕ → ℕ) → AreMoments moments → (asked : List (Op (List ℕ) × Said)) (start now : Ends)
       → (s : IsBeside b moments asked start now)
       → now.server.end.server.counts ≡ start.server.end.server.counts → now.client.end.refusals ≡ start.client.end.refusals
-      → length (turns_of asked start now s.are) < 2 ^ 60
+      → length (turns_of_both asked start now s.are) < 2 ^ 60
       → AreAnswers (state_of b) (orders_at moments asked) (answers_of asked) now.server.end.server.view.session.table

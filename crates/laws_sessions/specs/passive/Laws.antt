@@ -4,11 +4,11 @@ use Rattle.ftp_ports.specs.Machine.{Held}
 use Rattle.ftp_client_model.specs.Failing.{Client as NearEnd}
 use Rattle.ftp_operation.specs.Answer.{Said}
 use Rattle.ftp_operation.specs.declared.op.Op.{Op}
-use Rattle.laws_drivers.specs.control.Alone.{ClientAttends, ClientIsCalm, IsAsking, IsServing, ServerAttends, ServerIsCalm, Throughout}
+use Rattle.laws_drivers.specs.control.Alone.{ClientAttends, ClientIsCalm, IsAskingAlone, IsServingAlone, ServerAttends, ServerIsCalm, Throughout}
 use Rattle.laws_drivers.specs.control.Between.{Between, Client, Happened, Server, Turn, client_actions, nothing_yet, server_actions}
 use Rattle.laws_drivers.specs.control.Claims.{Begins}
 use Rattle.laws_drivers.specs.control.Example.{example, example_asked}
-use Rattle.laws_drivers.specs.control.Over.{AreMidst, orders_of}
+use Rattle.laws_drivers.specs.control.Over.{AreMidst, orders_at_moment}
 use Rattle.laws_drivers.specs.events.Answers.{answers_of}
 use Rattle.laws_drivers.specs.control.Touches.{ToldBreak, Touch, touch_in}
 use Rattle.laws_world.specs.Claims.{AreAnswers, Beginning, IsFair, state_of}
@@ -19,7 +19,7 @@ use Rattle.ftp_tree.specs.Tree.{Table, node_at}
 use Rattle.ftp_pair_memory.specs.streams.Order.{Went}
 use Rattle.ftp_pair_memory.specs.streams.Plain.{quiet}
 use Rattle.ftp_pair_memory.specs.steps.Taking.{Answered, Ends}
-use Rattle.laws_sessions.specs.passive.Sessions.{AreAsked, actions_of, turns_of}
+use Rattle.laws_sessions.specs.passive.Sessions.{AreAsked, actions_of, turns_of_both}
 
 -- ---- an order of all actions
 
@@ -45,12 +45,12 @@ WentHappens = (turns : List Turn) (now : Between) → Went turns nothing_yet now
 module _ (KeepsServer : (old new : Held Timed) → Type 0) (KeepsClient : (old new : Held NearEnd) → Type 0) where
   pub record AskedBy {op : Op (List ℕ)} {answer : Said} {old new : Ends} (a : Answered op answer old new) : Type 0 where
     pub kept : KeepsClient old.client a.begun
-    pub serves : Throughout IsServing KeepsServer ServerAttends (server_actions a.settled.took.turns) (quiet old.server) (quiet a.settled.mid.server)
+    pub serves : Throughout IsServingAlone KeepsServer ServerAttends (server_actions a.settled.took.turns) (quiet old.server) (quiet a.settled.mid.server)
         a.settled.took.server_led
-    pub asks : Throughout IsAsking KeepsClient ClientAttends (client_actions a.settled.took.turns) (quiet a.begun) (quiet a.settled.mid.client)
+    pub asks : Throughout IsAskingAlone KeepsClient ClientAttends (client_actions a.settled.took.turns) (quiet a.begun) (quiet a.settled.mid.client)
         a.settled.took.client_led
     pub midst : AreMidst (client_actions a.settled.took.turns)
-    pub last_asks : Throughout IsAsking KeepsClient ClientAttends (actions_of a.settled.answers) (quiet a.settled.mid.client) (quiet new.client)
+    pub last_asks : Throughout IsAskingAlone KeepsClient ClientAttends (actions_of a.settled.answers) (quiet a.settled.mid.client) (quiet new.client)
         a.settled.answers.led
     pub last_midst : AreMidst a.settled.answers.midst
 
@@ -71,7 +71,7 @@ abbrev pub SessionsAreTheDirectRun : Type 0
 SessionsAreTheDirectRun =
     (b : Beginning) → IsFair b → (moment : ℕ) → moment ≤ last_second → (asked : List (Op (List ℕ) × Said)) (start now : Ends)
     → Begins b (quiet start.server) (quiet start.client) → start.between ≡ nothing_yet → (are : AreAsked asked start now) → AreAskedAlone asked start now are
-    → AreAnswers (state_of b) (orders_of moment asked) (answers_of asked) now.server.end.server.view.session.table
+    → AreAnswers (state_of b) (orders_at_moment moment asked) (answers_of asked) now.server.end.server.view.session.table
 
 -- so it is where the counts of both ends are in the end what they were, and fewer than 2^60 actions were done: the counts wrap
 abbrev pub SessionsByCounts : Type 0
@@ -79,8 +79,8 @@ SessionsByCounts =
     (b : Beginning) → IsFair b → (moment : ℕ) → moment ≤ last_second → (asked : List (Op (List ℕ) × Said)) (start now : Ends)
     → Begins b (quiet start.server) (quiet start.client) → start.between ≡ nothing_yet → (are : AreAsked asked start now) → AreAskedBeside asked start now are
     → now.server.end.server.counts ≡ start.server.end.server.counts → now.client.end.refusals ≡ start.client.end.refusals
-    → length (turns_of asked start now are) < 2 ^ 60
-    → AreAnswers (state_of b) (orders_of moment asked) (answers_of asked) now.server.end.server.view.session.table
+    → length (turns_of_both asked start now are) < 2 ^ 60
+    → AreAnswers (state_of b) (orders_at_moment moment asked) (answers_of asked) now.server.end.server.view.session.table
 
 -- ---- an example
 

@@ -17,7 +17,7 @@ abbrev pub actions_of : {answer : Said} {old new : Ends} → Answers answer old 
 actions_of {answer = answer} answers = last_actions answers.asked answer answers.midst
 
 -- all actions of both, the last one first
-abbrev pub turns_of : (asked : List (Op (List ℕ) × Said)) (start now : Ends) → AreAsked asked start now → List Turn
-turns_of [] start now are = []
-turns_of (asked ∷ before) start now are =
-    by_client (actions_of are.2.settled.answers) ++ (are.2.settled.took.turns ++ (Client (Other (Begun asked.0)) ∷ turns_of before start are.0 are.1))
+abbrev pub turns_of_both : (asked : List (Op (List ℕ) × Said)) (start now : Ends) → AreAsked asked start now → List Turn
+turns_of_both [] start now are = []
+turns_of_both (asked ∷ before) start now are =
+    by_client (actions_of are.2.settled.answers) ++ (are.2.settled.took.turns ++ (Client (Other (Begun asked.0)) ∷ turns_of_both before start are.0 are.1))

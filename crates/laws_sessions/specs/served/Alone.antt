@@ -11,7 +11,7 @@ use Rattle.ftp_driver.specs.declared.drive.Turned.TheVariants as Turns
 use Rattle.ftp_server_driver.specs.alone.Driving.{BrokeOff, Drove, MakesTurns}
 use Rattle.ftp_server_driver.specs.alone.Side.{server_side}
 use Rattle.ftp_server_driver.specs.shared.Lending.{Holding, found_at, tree_of, with_tree_at}
-use Rattle.ftp_server_driver.specs.shared.Sharing.{Event, Happened, Looks, Shared, Turns as TurnsOf, turns_in}
+use Rattle.ftp_server_driver.specs.shared.Sharing.{SharingEvent, SharingHappened, Looks, Shared, Turns as TurnsOf, turns_in}
 use Rattle.ftp_server_driver.specs.shared.Turning.{AllGoOn, AreTurns, Turn}
 use Rattle.ftp_path.specs.Path.{Names}
 use Rattle.ftp_server_model.specs.Play.{only_at}
@@ -20,8 +20,8 @@ use Rattle.ftp_tree.specs.Tree.{Table}
 -- ---- what is found of a tree: all of it, or a part
 
 -- map and failures of its device
-abbrev pub whole : Holding → Holding
-whole tree = tree
+abbrev pub whole_holding : Holding → Holding
+whole_holding tree = tree
 
 -- of the map what stands at and below a root
 abbrev pub part_at : Names → Holding → Table
@@ -49,10 +49,10 @@ actions_by most failed old now (Ok Turns.More) makes = makes.leads.actions
 actions_by most failed old now (Err cause) makes = makes.fails.leads.actions
 
 -- what all of them did
-abbrev pub actions_in : (turns : List Turn) (start now : Stand server_side) → AreTurns turns start now → List (Action server_side)
-actions_in [] start now are = []
-actions_in (turn ∷ before) start now are =
-    actions_by turn.most turn.failed (with_tree_at turn.lent (found_at turn.stays are.0)) are.2.mid turn.went are.2.turned ++ actions_in before start are.0 are.1
+abbrev pub server_actions_in : (turns : List Turn) (start now : Stand server_side) → AreTurns turns start now → List (Action server_side)
+server_actions_in [] start now are = []
+server_actions_in (turn ∷ before) start now are =
+    actions_by turn.most turn.failed (with_tree_at turn.lent (found_at turn.stays are.0)) are.2.mid turn.went are.2.turned ++ server_actions_in before start are.0 are.1
 
 -- ---- one drive
 
@@ -66,24 +66,24 @@ DrivesBy actions failed start now (Err cause) = (broke : BrokeOff cause failed s
 -- Turns and then this one: one drive of a server of its own, which has the tree that the first of them was lent, and did just their actions. What it has left of
 -- that is what the last turn gave back
 pub record IsOwnDrive (turn : Turn) (before : List Turn) (start now : Stand server_side) (are : AreTurns (turn ∷ before) start now) : Type 0 where
-  pub drives : DrivesBy (actions_in (turn ∷ before) start now are) turn.failed (with_tree_at (lent_first turn before) start) are.2.mid turn.went
+  pub drives : DrivesBy (server_actions_in (turn ∷ before) start now are) turn.failed (with_tree_at (lent_first turn before) start) are.2.mid turn.went
   pub leaves : turn.left ≡ tree_of are.2.mid.owner.end
 
 -- so it is of all turns that a session takes from its beginning, where no octets of a data connection are on their way or in hand
 abbrev pub TurnsAreOwnDrive : Type 0
 TurnsAreOwnDrive =
     (turn : Turn) (before : List Turn) (start now : Stand server_side) → start.owner.channel.unwritten ≡ [] → start.owner.channel.untold ≡ []
-    → AllGoOn before → FindWhatWasLeft whole (turn ∷ before) → (are : AreTurns (turn ∷ before) start now) → IsOwnDrive turn before start now are
+    → AllGoOn before → FindWhatWasLeft whole_holding (turn ∷ before) → (are : AreTurns (turn ∷ before) start now) → IsOwnDrive turn before start now are
 
 -- ---- among several
 
 module _ {X : Type 0} (part : Holding → X) (slot : ℕ) where
   -- this of the tree other sessions leave as they find it, in each of their turns, and so it is found where it is looked at anew
-  abbrev pub LeavesIt : Event → Shared → Type 0
+  abbrev pub LeavesIt : SharingEvent → Shared → Type 0
   LeavesIt (TurnsOf other turn) old = eqb other slot ≡ false → part turn.left ≡ part turn.lent
   LeavesIt (Looks tree) old = part tree ≡ part old.tree
 
-  abbrev pub OthersLeaveIt : (events : List Event) (start now : Shared) → Happened events start now → Type 0
+  abbrev pub OthersLeaveIt : (events : List SharingEvent) (start now : Shared) → SharingHappened events start now → Type 0
   OthersLeaveIt [] start now happened = ⊤
   OthersLeaveIt (event ∷ before) start now happened = OthersLeaveIt before start happened.0 happened.1 × LeavesIt event happened.0
 
@@ -100,10 +100,10 @@ module _ {X : Type 0} (part : Holding → X) (slot : ℕ) where
 -- so it is of each session that others leave alone, of all of the tree or of a part
 abbrev pub AreLeftAlone : {X : Type 0} → (part : Holding → X) → Type 0
 AreLeftAlone part =
-    (events : List Event) (start now : Shared) (slot : ℕ) (first : Stand server_side) (turn : Turn) (before : List Turn)
-    → (happened : Happened events start now) → OthersLeaveIt part slot events start now happened → slice_get start.slots slot ≡ Some first
+    (events : List SharingEvent) (start now : Shared) (slot : ℕ) (first : Stand server_side) (turn : Turn) (before : List Turn)
+    → (happened : SharingHappened events start now) → OthersLeaveIt part slot events start now happened → slice_get start.slots slot ≡ Some first
     → turns_in slot events ≡ turn ∷ before → IsLeftAlone part slot first turn before start now
 
 -- the whole tree, and what stands at and below a root
 abbrev pub EachIsLeftAlone : Type 0
-EachIsLeftAlone = AreLeftAlone whole × ((root : Names) → AreLeftAlone (part_at root))
+EachIsLeftAlone = AreLeftAlone whole_holding × ((root : Names) → AreLeftAlone (part_at root))

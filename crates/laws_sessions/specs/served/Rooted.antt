@@ -25,21 +25,21 @@ use Rattle.laws_server.specs.several.Several.{exchanged}
 use Rattle.ftp_tree.specs.Tree.{Table}
 use Rattle.laws_drivers.specs.control.Alone.{ServerIsCalm}
 use Rattle.laws_drivers.specs.events.Actions.{Along}
-use Rattle.laws_sessions.specs.served.Alone.{DrivesBy, FindWhatWasLeft, actions_in, lent_first, part_at}
+use Rattle.laws_sessions.specs.served.Alone.{DrivesBy, FindWhatWasLeft, server_actions_in, lent_first, part_at}
 
 -- ---- who stays there
 
 -- who logs in by an action has this root, whatever stands elsewhere and whenever it is: only a line that is heard logs somebody in
-abbrev pub LogsInAt : Names → Action server_side → Held Timed → Type 0
-LogsInAt root (Heard octets) old =
+abbrev pub ActionLogsInAt : Names → Action server_side → Held Timed → Type 0
+ActionLogsInAt root (Heard octets) old =
     (read : Reading) → IsReading read → (table : Table) (moment : ℕ) → IsAt root (hears read (clock_step moment (exchanged table old.end.server.view)) octets)
-LogsInAt root action old = ⊤
+ActionLogsInAt root action old = ⊤
 
 -- so it is in an action that leaves both counts, before which no line waits
 pub record StaysAt (root : Names) (action : Action server_side) (old new : Held Timed) : Type 0 where
   pub calm : ServerIsCalm old new
   pub none_waits : old.end.server.view.waiting ≡ None
-  pub logs_in : LogsInAt root action old
+  pub logs_in : ActionLogsInAt root action old
 
 -- and in each action of turns that did not break off
 abbrev pub TurnStaysAt : (root : Names) (most : ℕ) (failed : Bool) (old now : Stand server_side) (went : Result (Turned ⊤) Cause)
@@ -70,7 +70,7 @@ stand_but table counts stand =
 pub record IsOwnDriveBut (root : Names) (turn : Turn) (before : List Turn) (start now : Stand server_side)
     (are : AreTurns (turn ∷ before) start now) : Type 0 where
   pub left : Stand server_side
-  pub drives : DrivesBy (actions_in (turn ∷ before) start now are) turn.failed (with_tree_at (lent_first turn before) start) left turn.went
+  pub drives : DrivesBy (server_actions_in (turn ∷ before) start now are) turn.failed (with_tree_at (lent_first turn before) start) left turn.went
   pub table : Table
   pub counts : Counts
   pub but : left ≡ stand_but table counts are.2.mid
@@ -93,4 +93,4 @@ AccountsAt root accounts = AllByRecursion (λ account. account.root ≡ root) ac
 abbrev pub AccountsStayAt : Type 0
 AccountsStayAt =
     (root : Names) (octets : List ℕ) (at : Held Timed) → AccountsAt root at.end.server.view.context.accounts → IsAt root at.end.server.view
-    → LogsInAt root (Heard octets) at
+    → ActionLogsInAt root (Heard octets) at

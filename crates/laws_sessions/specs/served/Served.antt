@@ -20,15 +20,15 @@ use Rattle.laws_world.specs.World.{Mark}
 use Rattle.laws_drivers.specs.control.Alone.{begun_in, reports_in}
 use Rattle.laws_drivers.specs.control.Between.{Between, Turn as Action, client_actions, server_actions}
 use Rattle.laws_drivers.specs.control.Claims.{Did}
-use Rattle.laws_drivers.specs.control.Over.{AreOver as AreOverAlone, orders_of}
+use Rattle.laws_drivers.specs.control.Over.{AreOver as AreOverAlone, orders_at_moment}
 use Rattle.laws_drivers.specs.events.Answers.{actions_of_server, answers_of, orders_at}
 use Rattle.laws_drivers.specs.control.Quitting.{HaveQuit}
 use Rattle.laws_drivers.specs.events.Actions.{Along}
 use Rattle.laws_transfers.specs.Claims.{DidTransfer}
 use Rattle.laws_drivers.specs.events.Moments.{AreMoments, begun_at}
 use Rattle.laws_transfers.specs.Over.{AreOver as AreOverTransferring}
-use Rattle.laws_transfers.specs.Quitting.{HaveQuit as HaveQuitTransferring}
-use Rattle.laws_sessions.specs.served.Alone.{FindWhatWasLeft, IsOwnDrive, actions_in, lent_first, part_at, whole}
+use Rattle.laws_transfers.specs.Quitting.{QuitAfterAll as HaveQuitTransferring}
+use Rattle.laws_sessions.specs.served.Alone.{FindWhatWasLeft, IsOwnDrive, server_actions_in, lent_first, part_at, whole_holding}
 use Rattle.laws_sessions.specs.served.Rooted.{IsOwnDriveBut, StaysAt, TurnsStayAt}
 
 module _ {X : Type 0} (part : Holding → X) where
@@ -40,7 +40,7 @@ module _ {X : Type 0} (part : Holding → X) where
     pub on : AllGoOn before
     pub found : FindWhatWasLeft part (turn ∷ before)
     pub are : AreTurns (turn ∷ before) start now
-    pub actions_are : actions ≡ actions_in (turn ∷ before) start now are
+    pub actions_are : actions ≡ server_actions_in (turn ∷ before) start now are
     pub from_is : from ≡ with_tree_at (lent_first turn before) start
     pub leaves : part (tree_of there.owner.end) ≡ part turn.left
 
@@ -99,14 +99,14 @@ module _ {X : Type 0} (part : Holding → X) where
   AloneAreDirect =
       (b : Beginning) → IsFair b → (moment : ℕ) → moment ≤ last_second → (asked : List (Op (List ℕ) × Said)) (turn : Turn) (before : List Turn)
       (there : Stand server_side) (over : AreOverAlone b asked there) → IsServed turn before over.server_start there (actions_of_server over.drove)
-      → AreDirect b (orders_of moment asked) asked turn
+      → AreDirect b (orders_at_moment moment asked) asked turn
 
   -- or QUIT was heard
   abbrev pub ThatQuitAreDirect : Type 0
   ThatQuitAreDirect =
       (b : Beginning) → IsFair b → (moment : ℕ) → moment ≤ last_second → (asked : List (Op (List ℕ) × Said)) (turn : Turn) (before : List Turn)
       (there : Stand server_side) (over : HaveQuit b asked there) → IsServed turn before over.server_start there (actions_of_server over.drove)
-      → AreDirect b (orders_of moment asked) asked turn
+      → AreDirect b (orders_at_moment moment asked) asked turn
 
 -- ---- of all of the tree, or of what stands at and below a root
 
@@ -122,28 +122,28 @@ pub record Direct {X : Type 0} (part : Holding → X) : Type 0 where
   pub quit : ThatQuitAreDirect part
 
 abbrev pub ServedAgree : Type 0
-ServedAgree = Agree whole × ((root : Names) → Agree (part_at root))
+ServedAgree = Agree whole_holding × ((root : Names) → Agree (part_at root))
 
 abbrev pub ServedAreDirect : Type 0
-ServedAreDirect = Direct whole × ((root : Names) → Direct (part_at root))
+ServedAreDirect = Direct whole_holding × ((root : Names) → Direct (part_at root))
 
 -- ---- there are such sessions
 
 -- the one drive that turns are is served so; of a session with a root, of what stands there
 pub record TurnsAreServed : Type 0 where
-  pub all : (turn : Turn) (before : List Turn) (start now : Stand server_side) → AllGoOn before → FindWhatWasLeft whole (turn ∷ before)
+  pub all : (turn : Turn) (before : List Turn) (start now : Stand server_side) → AllGoOn before → FindWhatWasLeft whole_holding (turn ∷ before)
       → (are : AreTurns (turn ∷ before) start now) → IsOwnDrive turn before start now are
-      → IsServed whole turn before (with_tree_at (lent_first turn before) start) are.2.mid (actions_in (turn ∷ before) start now are)
+      → IsServed whole_holding turn before (with_tree_at (lent_first turn before) start) are.2.mid (server_actions_in (turn ∷ before) start now are)
   pub rooted : (root : Names) (turn : Turn) (before : List Turn) (start now : Stand server_side) → AllGoOn before
       → FindWhatWasLeft (part_at root) (turn ∷ before) → (are : AreTurns (turn ∷ before) start now) → (own : IsOwnDriveBut root turn before start now are)
-      → IsServed (part_at root) turn before (with_tree_at (lent_first turn before) start) own.left (actions_in (turn ∷ before) start now are)
+      → IsServed (part_at root) turn before (with_tree_at (lent_first turn before) start) own.left (server_actions_in (turn ∷ before) start now are)
 
 -- every drive of a server of its own that is over is that of turns of a session, one for each of its actions, whichever tree that has between them; and where its
 -- actions stay at a root, so do those of the turns
 pub record IsCutUp (own : Holding) (from there : Stand server_side) (drove : Drove from there) : Type 0 where
   pub turn : Turn
   pub before : List Turn
-  pub served : IsServed whole turn before from there (actions_of_server drove)
+  pub served : IsServed whole_holding turn before from there (actions_of_server drove)
   pub over : turn.went ≡ Ok (Turns.Over tt)
   pub between : tree_of served.start.owner.end ≡ own
   pub many : length before ≡ length drove.did.actions

@@ -12,7 +12,7 @@ use Rattle.ftp_operation.specs.Account.{Account, accounts_refusal}
 use Rattle.ftp_operation.specs.declared.account.AccountsFault.{AccountsFault}
 use Rattle.tool_accounts.specs.accounts_file.Blame.{HoldsUp, IsBarred, IsBlamed, IsHeld, IsOff, account_limit}
 use Rattle.tool_accounts.specs.accounts_file.Line.{Says, is_silent, of_accounts}
-use Rattle.tool_accounts.specs.accounts_file.Lines.{Adds, Line, Lists, SayEach, SaysAll, Stands, lines_of, numbered, speakers, speaking, without_cr}
+use Rattle.tool_accounts.specs.accounts_file.Lines.{AddsLine, Line, Lists, SayEach, SaysAll, Stands, lines_of, numbered, speakers, speaking, without_cr}
 use Rattle.tool_accounts.specs.declared.accounts_file.fault.AccountFault.{AccountFault}
 use Rattle.tool_accounts.specs.declared.accounts_file.fault.TextFault.{TextFault}
 use Rattle.tool_accounts.specs.declared.accounts_file.fault.TextFault.TheVariants as Texts
@@ -107,7 +107,7 @@ both_mapped : {X Y : Type 0} (f : X → Y) (one other : List X) (old new : List 
 both_mapped f one other old new is after = after ∙ ap (λ l. l ++ map f other) is ∙ sym (map-append f one other)
 
 -- one line is read
-line_stands : (all : List Line) (line : Line) (left : List Line) (old new : Lists) → Stands all (line ∷ left) old → Adds line old new → Stands all left new
+line_stands : (all : List Line) (line : Line) (left : List Line) (old new : Lists) → Stands all (line ∷ left) old → AddsLine line old new → Stands all left new
 line_stands all line left old new stands adds =
     record {
       above = stands.above ++ speaking (line ∷ []);
@@ -120,20 +120,20 @@ line_stands all line left old new stands adds =
 
 -- a line that ends with LF is read
 pub next_line : (all : List Line) (number : ℕ) (rest front more line : List ℕ) (old new : Lists) → rest ≡ front ++ line_feed ∷ more → Lacks front line_feed
-    → line ≡ without_cr front → Stands all (numbered number (lines_of rest)) old → Adds (number, line) old new
+    → line ≡ without_cr front → Stands all (numbered number (lines_of rest)) old → AddsLine (number, line) old new
     → Stands all (numbered (number + 1) (lines_of more)) new
 next_line all number rest front more line old new is lacks cut stands adds =
     let e = line_first rest front more is lacks in
     line_stands all (number, without_cr front) (numbered (number + 1) (lines_of more)) old new
-    (subst (λ lines. Stands all (numbered number lines) old) e stands) (subst (λ l. Adds (number, l) old new) cut adds)
+    (subst (λ lines. Stands all (numbered number lines) old) e stands) (subst (λ l. AddsLine (number, l) old new) cut adds)
 
 -- the last line is read
 pub last_line : (text : List ℕ) (number : ℕ) (rest line : List ℕ) (old new : Lists) → Lacks rest line_feed → line ≡ without_cr rest
-    → Stands (speakers text) (numbered number (lines_of rest)) old → Adds (number, line) old new → Stands (speakers text) [] new
+    → Stands (speakers text) (numbered number (lines_of rest)) old → AddsLine (number, line) old new → Stands (speakers text) [] new
 last_line text number rest line old new lacks cut stands adds =
     let e = line_last rest lacks in
     line_stands (speakers text) (number, without_cr rest) [] old new (subst (λ lines. Stands (speakers text) (numbered number lines) old) e stands)
-    (subst (λ l. Adds (number, l) old new) cut adds)
+    (subst (λ l. AddsLine (number, l) old new) cut adds)
 
 -- once all lines were read, they say the accounts so far
 pub all_said : (text : List ℕ) (now : Lists) → Stands (speakers text) [] now → SaysAll text now.0
@@ -300,7 +300,7 @@ holds_up all numbers list left fault less last fewer number it is also allowed =
 -- a line that is not silent adds what it says
 pub adds_line : {X E : Type 0} (result : Result X E) (number : ℕ) (line : List ℕ) (old new : Lists) (account : Account) → is_silent line ≡ false
     → Says line account → IfOk result (λ _. new.0 ≡ old.0 ++ account ∷ []) → IfOk result (λ _. new.1 ≡ old.1 ++ number ∷ [])
-    → IfOk result (λ _. Adds (number, line) old new)
+    → IfOk result (λ _. AddsLine (number, line) old new)
 adds_line (Ok x) number line old new account speaks says accounts numbers =
     let e : speaking ((number, line) ∷ []) ≡ (number, line) ∷ [] = speaking_first (number, line) [] speaks in
     record {

@@ -8,19 +8,19 @@ use Rattle.std.specs.Io.KnownBytes.{Appends, Consumes, IsAtEnd}
 use Rattle.ftp_ports.specs.Beginning.{AppendsFront}
 use Rattle.ftp_path.specs.Login.{login_limit}
 use Rattle.tool_accounts.proofs.field.Opening.{field_is}
-use Rattle.tool_accounts.specs.field.Field.{field}
-use Rattle.tool_accounts.specs.field.Making.{Adds, Ends, Makes, Reads}
+use Rattle.tool_accounts.specs.field.Field.{made_field}
+use Rattle.tool_accounts.specs.field.Making.{ReadAdds, Ends, MakesField, Reads}
 use Rattle.tool_accounts.specs.field.Typed.{line_in, password_in}
 use Rattle.tool_accounts.specs.declared.field.fault.PasswordFault.{PasswordFault}
 use Rattle.tool_terminal.specs.declared.status.Status.{Status}
 use Rattle.tool_terminal.specs.declared.status.Status.TheVariants.{Done, BadWords, Failed}
 
 -- one read more
-pub reads_more : (a b c : Option (List ℕ)) (old new : List ℕ) (count : ℕ) → Consumes a b old → Adds b c old new count → Consumes a c new
+pub reads_more : (a b c : Option (List ℕ)) (old new : List ℕ) (count : ℕ) → Consumes a b old → ReadAdds b c old new count → Consumes a c new
 reads_more a b c old new count before adds = subst (λ octets. Consumes a c octets) (sym adds.3) (Consumes-trans a b c old adds.0 before adds.2)
 
 -- and how many octets there are then
-pub counts_more : (b c : Option (List ℕ)) (old new : List ℕ) (count : ℕ) → Adds b c old new count → length new ≡ length old + count
+pub counts_more : (b c : Option (List ℕ)) (old new : List ℕ) (count : ℕ) → ReadAdds b c old new count → length new ≡ length old + count
 counts_more b c old new count adds =
     let e = ap length adds.3 in
     let f = length-append old adds.0 in
@@ -56,7 +56,7 @@ has_end input password says =
 
 -- a field is made of all that there is
 makes : (rounds : Option ℕ) (salt : List ℕ) (before after : Option (List ℕ)) (input text : List ℕ)
-    → Reads before after input → field rounds salt input ≡ Ok text → Makes rounds salt before after text
+    → Reads before after input → made_field rounds salt input ≡ Ok text → MakesField rounds salt before after text
 makes rounds salt before after input text reads is =
     let f = field_is rounds salt input text is in
     let short = has_end input f.password f.says in
@@ -71,13 +71,13 @@ makes rounds salt before after input text reads is =
 
 -- it was written
 pub ends_done : (rounds : Option ℕ) (salt : List ℕ) (before after old new : Option (List ℕ)) (input text : List ℕ)
-    → Reads before after input → field rounds salt input ≡ Ok text → Appends old new (text ++ 10 ∷ []) → Ends rounds salt before after old new Done
+    → Reads before after input → made_field rounds salt input ≡ Ok text → Appends old new (text ++ 10 ∷ []) → Ends rounds salt before after old new Done
 ends_done rounds salt before after old new input text reads is wrote =
     record { text = text; makes = makes rounds salt before after input text reads is; wrote = wrote }
 
 -- there was none
 pub ends_refused : (rounds : Option ℕ) (salt : List ℕ) (before after old : Option (List ℕ)) (input : List ℕ) (fault : PasswordFault) (status : Status)
-    → status ≡ BadWords → Reads before after input → field rounds salt input ≡ Err fault → Ends rounds salt before after old old status
+    → status ≡ BadWords → Reads before after input → made_field rounds salt input ≡ Err fault → Ends rounds salt before after old old status
 ends_refused rounds salt before after old input fault status is reads wrong =
     subst (λ s. Ends rounds salt before after old old s) (sym is)
     (record { input = input; reads = reads; fault = fault; wrong = wrong; kept = Keeps-refl old })
@@ -89,7 +89,7 @@ ends_unread rounds salt before after old status is = subst (λ s. Ends rounds sa
 
 -- a beginning was written
 pub ends_failed : (rounds : Option ℕ) (salt : List ℕ) (before after old new : Option (List ℕ)) (input text : List ℕ) (status : Status)
-    → status ≡ Failed → Reads before after input → field rounds salt input ≡ Ok text → AppendsFront old new (text ++ 10 ∷ [])
+    → status ≡ Failed → Reads before after input → made_field rounds salt input ≡ Ok text → AppendsFront old new (text ++ 10 ∷ [])
     → Ends rounds salt before after old new status
 ends_failed rounds salt before after old new input text status is reads made wrote =
     subst (λ s. Ends rounds salt before after old new s) (sym is)

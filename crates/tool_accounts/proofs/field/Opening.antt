@@ -5,7 +5,7 @@ use Rattle.ftp_secret.specs.declared.fault.SecretFault.{SecretFault}
 use Rattle.ftp_secret.specs.declared.method.Method.TheVariants.{Sha512}
 use Rattle.ftp_secret.specs.declared.secret.Secret.{Secret}
 use Rattle.tool_accounts.proofs.field.ReadBack.{made_back}
-use Rattle.tool_accounts.specs.field.Field.{field, field_of, text_of}
+use Rattle.tool_accounts.specs.field.Field.{made_field, field_of, text_of}
 use Rattle.tool_accounts.specs.field.Opened.{OpensBy}
 use Rattle.tool_accounts.specs.field.Typed.{password_in}
 use Rattle.tool_accounts.specs.declared.field.fault.PasswordFault.{PasswordFault}
@@ -28,7 +28,7 @@ made_of (Ok secret) text says = record { secret = secret; is = refl; written = c
 made_of (Err fault) text says = absurd (cc)
 
 -- a field is made of a password
-pub field_is : (rounds : Option ℕ) (salt input text : List ℕ) → field rounds salt input ≡ Ok text → IsField input text
+pub field_is : (rounds : Option ℕ) (salt input text : List ℕ) → made_field rounds salt input ≡ Ok text → IsField input text
 field_is rounds salt input text says = by_password (password_in input) refl says
   where
     by_password : (r : Result (List ℕ) PasswordFault) → password_in input ≡ r → field_of rounds salt r ≡ Ok text → IsField input text

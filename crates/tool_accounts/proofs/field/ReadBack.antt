@@ -8,7 +8,7 @@ use Rattle.std.proofs.lemmas.List.Folds.{list_all-append}
 use Rattle.std.proofs.lemmas.Slice.Eq.{bytes_eq-Decides, starts_is}
 use Rattle.std.proofs.Math.Seq.{drop-append-add, take-append_seam}
 use Rattle.ftp_secret.proofs.WrittenBack.{passed}
-use Rattle.ftp_secret.specs.Crypt.{digest_c, digest_text, group, group_text, groups_text, hash_text, joined, letter, letters}
+use Rattle.ftp_secret.specs.Crypt.{digest_c, digest_text, group, group_text, groups_text, hash_text, joined, letter, letters_of_number}
 use Rattle.ftp_secret.specs.Secret.{cut, dollar, first_dollar, is_letter, letter_count, made, most_rounds, number_behind, opens, read, rounds_of, rounds_said, rounds_text, rounds_word, secret_text, sign, with_letters, with_method, with_rounds, with_salt}
 use Rattle.ftp_secret.specs.declared.method.Method.{Method}
 use Rattle.ftp_secret.specs.declared.method.Method.TheVariants.{Sha256, Sha512}
@@ -135,11 +135,11 @@ pub letter_is : (bits : ℕ) → bits < 64 → is_letter (letter bits) ≡ true
 letter_is bits small = grind (arith, nat_tests, small)
 
 -- so many letters
-letters_length : (count number : ℕ) → length (letters count number) ≡ count
+letters_length : (count number : ℕ) → length (letters_of_number count number) ≡ count
 letters_length zero number = refl
 letters_length (suc count) number = ap suc (letters_length count (number / 64))
 
-letters_are : (count number : ℕ) → list_all is_letter (letters count number) ≡ true
+letters_are : (count number : ℕ) → list_all is_letter (letters_of_number count number) ≡ true
 letters_are zero number = refl
 letters_are (suc count) number = rw (letter_is (number % 64) (omega arith), letters_are count (number / 64)) refl
 

@@ -10,8 +10,8 @@ use Rattle.tool_accounts.specs.declared.accounts_file.fault.TextFault.{TextFault
 use Rattle.tool_accounts.specs.declared.accounts_file.fault.TextFault.TheVariants as Texts
 
 -- a byte order mark, as UTF-8 has it
-abbrev pub mark : List ℕ
-mark = 239 ∷ 187 ∷ 191 ∷ []
+abbrev pub byte_order_mark : List ℕ
+byte_order_mark = 239 ∷ 187 ∷ 191 ∷ []
 
 -- the most accounts
 abbrev pub account_limit : ℕ
@@ -28,7 +28,7 @@ pub record IsNone (text : List ℕ) (number : ℕ) (fault : AccountFault) : Type
   pub faulty : IsFaulty line fault
 
 -- these accounts are a server's, and with this one behind them they are not, and why
-pub record Bars (above : List Account) (account : Account) (fault : AccountFault) : Type 0 where
+pub record BarsAccount (above : List Account) (account : Account) (fault : AccountFault) : Type 0 where
   pub why : AccountsFault
   pub allowed : accounts_refusal above ≡ None
   pub barred : accounts_refusal (above ++ account ∷ []) ≡ Some why
@@ -45,12 +45,12 @@ pub record IsBarred (text : List ℕ) (number : ℕ) (fault : AccountFault) : Ty
   pub whole : speakers text ≡ above ++ (number, line) ∷ below
   pub say : SayEach (speakers text) (before ++ account ∷ behind)
   pub place : length before ≡ length above
-  pub bars : Bars before account fault
+  pub bars : BarsAccount before account fault
 
 -- a text says no accounts, and why; memory may be refused whatever it says
 abbrev pub IsBlamed : List ℕ → TextFault → Type 0
 IsBlamed text (Texts.Line number fault) = IsNone text number fault ⊎ IsBarred text number fault
-IsBlamed text Texts.Mark = IsTrue (starts_with nat_eq text mark)
+IsBlamed text Texts.Mark = IsTrue (starts_with nat_eq text byte_order_mark)
 IsBlamed text Texts.TooMany = IsTrue (nat_lt account_limit (length (speakers text)))
 IsBlamed text Texts.Memory = Unit {0}
 
@@ -73,7 +73,7 @@ pub record HoldsUp (accounts : List Account) (numbers : List ℕ) (number : ℕ)
   pub accounts_are : accounts ≡ before ++ account ∷ behind
   pub numbers_are : numbers ≡ early ++ number ∷ late
   pub place : length before ≡ length early
-  pub bars : Bars before account fault
+  pub bars : BarsAccount before account fault
 
 abbrev pub IsHeld : List Account → List ℕ → TextFault → Type 0
 IsHeld accounts numbers (Texts.Line number fault) = HoldsUp accounts numbers number fault

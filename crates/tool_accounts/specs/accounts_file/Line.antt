@@ -51,19 +51,19 @@ rights_of_letter letter =
     else (if letter == 111 then Some (record no_rights { onto = true }) else None))))))))
 
 -- these rights and those of letters, each of which says some
-abbrev pub with_letters : Rights → List ℕ → Option Rights
-with_letters rights [] = Some rights
-with_letters rights (letter ∷ letters) = elim (rights_of_letter letter) [ Some more ↦ with_letters (joined rights more) letters | None ↦ None ]
+abbrev pub rights_with_letters : Rights → List ℕ → Option Rights
+rights_with_letters rights [] = Some rights
+rights_with_letters rights (letter ∷ letters) = elim (rights_of_letter letter) [ Some more ↦ rights_with_letters (joined rights more) letters | None ↦ None ]
 
 -- the rights that are said: all but to rename onto files where no field stands, and else those of its letters; an empty field says none
 abbrev pub rights_said : Option (List ℕ) → Option Rights
 rights_said None = Some all_rights
 rights_said (Some []) = None
-rights_said (Some (letter ∷ letters)) = with_letters no_rights (letter ∷ letters)
+rights_said (Some (letter ∷ letters)) = rights_with_letters no_rights (letter ∷ letters)
 
 -- a root: a path text that begins with `/`, and leads to a path within the limits
-abbrev pub is_root : List ℕ → Bool
-is_root root = is_path_text root && is_rooted root && fits (resolved [] root)
+abbrev pub is_root_text : List ℕ → Bool
+is_root_text root = is_path_text root && is_rooted root && fits (resolved [] root)
 
 -- what stands after a root: nothing, or a colon and rights
 abbrev pub ending : Option (List ℕ) → List ℕ
@@ -75,7 +75,7 @@ abbrev pub EndsIn : (rest root : List ℕ) → Option (List ℕ) → Type 0
 EndsIn rest root rights = Lacks root colon × (rest ≡ root ++ ending rights)
 
 -- a line is these fields, with colons between
-pub record IsCut (line user pass root : List ℕ) (rights : Option (List ℕ)) : Type 0 where
+pub record AreFields (line user pass root : List ℕ) (rights : Option (List ℕ)) : Type 0 where
   pub rest : List ℕ
   pub whole : line ≡ user ++ colon ∷ (pass ++ colon ∷ rest)
   pub lack : Lacks user colon × Lacks pass colon
@@ -83,11 +83,11 @@ pub record IsCut (line user pass root : List ℕ) (rights : Option (List ℕ)) :
 
 -- what is wrong with the fields after a password
 abbrev pub wrong_after : (root : List ℕ) → Option (List ℕ) → Option AccountFault
-wrong_after root rights = if not (is_root root) then Some Faults.Root else (if is_none (rights_said rights) then Some Faults.Rights else None)
+wrong_after root rights = if not (is_root_text root) then Some Faults.Root else (if is_none (rights_said rights) then Some Faults.Rights else None)
 
 -- what is wrong with the fields of a line: the first that is none
-abbrev pub wrong : (user pass root : List ℕ) → Option (List ℕ) → Option AccountFault
-wrong user pass root rights =
+abbrev pub wrong_field : (user pass root : List ℕ) → Option (List ℕ) → Option AccountFault
+wrong_field user pass root rights =
     if not (is_user user) then Some Faults.User
     else (if not (is_password pass) then Some Faults.Password
     else elim (needed pass) [ Ok secret ↦ wrong_after root rights | Err fault ↦ Some (Faults.Secret fault) ])
@@ -97,10 +97,10 @@ pub record Says (line : List ℕ) (account : Account) : Type 0 where
   pub pass : List ℕ
   pub root : List ℕ
   pub rights : Option (List ℕ)
-  pub cut : IsCut line account.user pass root rights
+  pub cut : AreFields line account.user pass root rights
   pub user : IsTrue (is_user account.user)
   pub password : IsTrue (is_password pass) × (needed pass ≡ Ok account.pass)
-  pub path : IsTrue (is_root root) × (account.root ≡ resolved [] root)
+  pub path : IsTrue (is_root_text root) × (account.root ≡ resolved [] root)
   pub right : rights_said rights ≡ Some account.rights
 
 -- a line has less than two colons
@@ -119,8 +119,8 @@ pub record HasWrong (line : List ℕ) (fault : AccountFault) : Type 0 where
   pub pass : List ℕ
   pub root : List ℕ
   pub rights : Option (List ℕ)
-  pub cut : IsCut line user pass root rights
-  pub is : wrong user pass root rights ≡ Some fault
+  pub cut : AreFields line user pass root rights
+  pub is : wrong_field user pass root rights ≡ Some fault
 
 -- a line says no account, and why; memory may be refused whatever it says
 abbrev pub IsFaulty : List ℕ → AccountFault → Type 0

@@ -48,7 +48,7 @@ abbrev pub Lists : Type 0
 Lists = List Account × List ℕ
 
 -- after what stands so far comes what a line says, if it is not silent
-pub record Adds (line : Line) (old new : Lists) : Type 0 where
+pub record AddsLine (line : Line) (old new : Lists) : Type 0 where
   pub accounts : List Account
   pub say : SayEach (speaking (line ∷ [])) accounts
   pub adds : new.0 ≡ old.0 ++ accounts

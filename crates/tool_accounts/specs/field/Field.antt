@@ -19,5 +19,5 @@ field_of rounds salt (Ok password) = text_of (made Sha512 rounds salt password)
 field_of rounds salt (Err fault) = Err fault
 
 -- the field that is made of an input: SHA-512, with this salt, and with so many rounds or the default
-abbrev pub field : (rounds : Option ℕ) (salt input : List ℕ) → Result (List ℕ) PasswordFault
-field rounds salt input = field_of rounds salt (password_in input)
+abbrev pub made_field : (rounds : Option ℕ) (salt input : List ℕ) → Result (List ℕ) PasswordFault
+made_field rounds salt input = field_of rounds salt (password_in input)

@@ -4,8 +4,8 @@ ghost use Rattle.std.specs.List.{list_all};
 ghost use Rattle.std.specs.Option.{option_map};
 ghost use Rattle.ftp_path.specs.Path.{resolved};
 ghost use Rattle.ftp_operation.specs.Rights.{no_rights};
-ghost use Rattle.tool_accounts.specs.accounts_file.Line.{EndsIn, HasFewFields, IsCut, IsFaulty, Says, is_blank, is_comment, is_root, is_silent};
-ghost use Rattle.tool_accounts.specs.accounts_file.Line.{needed, rights_of_letter, rights_said, with_letters};
+ghost use Rattle.tool_accounts.specs.accounts_file.Line.{EndsIn, HasFewFields, AreFields, IsFaulty, Says, is_blank, is_comment, is_root_text, is_silent};
+ghost use Rattle.tool_accounts.specs.accounts_file.Line.{needed, rights_of_letter, rights_said, rights_with_letters};
 
 use crate::accounts_file::fault::AccountFault;
 use ftp_facts::{Text, cut_at};
@@ -89,7 +89,7 @@ struct Fields<'a> {
 
 /// The fields of a line, if it has two colons.
 fn fields_of(line: &[u8]) -> Option<Fields<'_>>
-    ensures cut { IfSome result (λ fields. IsCut line.now fields.user.now fields.pass.now fields.root.now (option_map (λ field. field.now) fields.rights)) }
+    ensures cut { IfSome result (λ fields. AreFields line.now fields.user.now fields.pass.now fields.root.now (option_map (λ field. field.now) fields.rights)) }
     ensures few { IfNone result (HasFewFields line.now) }
 {
     let Some((user, rest)) = cut_at(line, b':') else {
@@ -132,9 +132,9 @@ fn needed(pass: &[u8]) -> Result<Option<Secret>, SecretFault>
 
 /// The path from `/` that a text names.
 fn root_of<A: Allocator + Copy>(alloc: A, root: &[u8]) -> Result<Path<A>, AccountFault>
-    ensures root { IfOk result (λ path. IsTrue (is_root root.now)) }
+    ensures root { IfOk result (λ path. IsTrue (is_root_text root.now)) }
     ensures path { IfOk result (λ path. path ≡ resolved [] root.now) }
-    ensures none { IfErr result (λ fault. fault ≢ AccountFault.Memory → (fault ≡ AccountFault.Root) × (is_root root.now ≡ false)) }
+    ensures none { IfErr result (λ fault. fault ≢ AccountFault.Memory → (fault ≡ AccountFault.Root) × (is_root_text root.now ≡ false)) }
 {
     if !root.starts_with(b"/") {
         return Err(AccountFault::Root);
@@ -159,7 +159,7 @@ fn rights_of(field: Option<&[u8]>) -> Option<Rights>
 
 /// The rights of letters, where each says some.
 fn rights_of_letters(letters: &[u8]) -> Option<Rights>
-    ensures { result ≡ with_letters no_rights letters.now }
+    ensures { result ≡ rights_with_letters no_rights letters.now }
 {
     let mut rights = Rights::none();
     for at in 0..letters.len() {

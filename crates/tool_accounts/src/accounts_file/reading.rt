@@ -2,7 +2,7 @@
 ghost use Rattle.std.specs.Prelude.{◌≡◌, ◌++◌, ◌∷◌, [], None, IfOk, IfErr, length};
 ghost use Rattle.ftp_operation.specs.Account.{accounts_refusal};
 ghost use Rattle.tool_accounts.specs.accounts_file.Blame.{IsBlamed, IsHeld, IsOff};
-ghost use Rattle.tool_accounts.specs.accounts_file.Lines.{Adds, SaysAll, Stands, speakers, without_cr};
+ghost use Rattle.tool_accounts.specs.accounts_file.Lines.{AddsLine, SaysAll, Stands, speakers, without_cr};
 
 use crate::accounts_file::blame::blamed;
 use crate::accounts_file::fault::TextFault;
@@ -97,7 +97,8 @@ impl<A: Allocator + Copy> ParsedAccounts<A> {
 
     /// Reads one line, of that number.
     fn read_line(&mut self, alloc: A, number: usize, text: &[u8]) -> Result<(), TextFault>
-        ensures adds { IfOk result (λ _. Adds (number, text.now) (self.old.list.items, self.old.numbers.items) (self.new.list.items, self.new.numbers.items)) }
+        ensures adds { IfOk result (λ _. AddsLine (number, text.now) (self.old.list.items, self.old.numbers.items)
+            (self.new.list.items, self.new.numbers.items)) }
         ensures fault { IfErr result (λ fault. IsOff number text.now self.old.list.items fault) }
     {
         if is_silent(text) {

@@ -1,6 +1,6 @@
 // The octets of an input, as many as tell whether a password is too long.
 ghost use Rattle.std.specs.Prelude.{◌≡◌, ◌≤◌, IfOk, length};
-ghost use Rattle.tool_accounts.specs.field.Making.{Adds, IsOver, Reads};
+ghost use Rattle.tool_accounts.specs.field.Making.{ReadAdds, IsOver, Reads};
 
 use arrayvec::ArrayVec;
 use ftp_ports::{Failed, get};
@@ -29,7 +29,7 @@ pub(crate) fn read_all<R: Read>(reader: &mut R) -> Result<InputBuffer, Failed>
 /// Puts what one read gives after what was read before, and gives how many octets; none at the end.
 fn read_more<R: Read>(reader: &mut R, input: &mut InputBuffer) -> Result<usize, Failed>
     ensures fits { length input.new.items ≤ 258 }
-    ensures adds { IfOk result (λ count. Adds (R.remaining reader.old) (R.remaining reader.new) input.old.items input.new.items count) }
+    ensures adds { IfOk result (λ count. ReadAdds (R.remaining reader.old) (R.remaining reader.new) input.old.items input.new.items count) }
     ensures over { IfOk result (λ count. count ≡ 0 → IsOver (R.remaining reader.new) input.new.items) }
 {
     let mut room = [0u8; READ_LIMIT];

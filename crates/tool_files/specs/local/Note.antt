@@ -19,12 +19,12 @@ abbrev pub note_value : List ℕ → List ℕ → Option Note
 note_value text place = if pointwise nat_eq (drop 57 text) place then numbers_of text else None
 
 -- digits with zeros before them, as many as these where there are not more digits, and LF
-abbrev pub padded : (zeros digits : List ℕ) → List ℕ
-padded zeros digits = drop (length digits) zeros ++ digits ++ 10 ∷ []
+abbrev pub zeros_padded : (zeros digits : List ℕ) → List ℕ
+zeros_padded zeros digits = drop (length digits) zeros ++ digits ++ 10 ∷ []
 
 -- a number in 18 digits, or in more, and LF
 abbrev pub number_line : ℕ → List ℕ
-number_line number = padded (codes "000000000000000000") (decimal number)
+number_line number = zeros_padded (codes "000000000000000000") (decimal number)
 
 -- the text of a note of the file at a place
 abbrev pub note_text : Note → List ℕ → List ℕ

@@ -1,7 +1,7 @@
 // The note beside a part of a download: of which file it is, and how much of it.
 ghost use Rattle.std.specs.Prelude.{◌≡◌, ◌≢◌, ◌++◌, IfOk, IfNone, IfSome, OnOk, Some, drop, take};
 ghost use Rattle.ftp_facts.specs.Value.{number_value};
-ghost use Rattle.tool_files.specs.local.Note.{field, note_text, note_value, number_line, numbers_of, padded};
+ghost use Rattle.tool_files.specs.local.Note.{field, note_text, note_value, number_line, numbers_of, zeros_padded};
 
 use ftp_endpoint::number;
 use itoa::Buffer;
@@ -141,7 +141,7 @@ fn put_number(number: u64, text: &mut Vec<u8, Global>) -> Result<(), AllocError>
 
 /// Puts digits with zeros before them, as many as these where there are not more digits, and LF.
 fn put_padded(zeros: &[u8], digits: &[u8], text: &mut Vec<u8, Global>) -> Result<(), AllocError>
-    ensures { OnOk result (text.new.items ≡ text.old.items ++ padded zeros.now digits.now) }
+    ensures { OnOk result (text.new.items ≡ text.old.items ++ zeros_padded zeros.now digits.now) }
 {
     let (_, left) = zeros.split_at(zeros.len().min(digits.len()));
     text.extend_from_slice(left)?;

@@ -9,10 +9,10 @@ use Rattle.std.specs.Prelude.{if◌then◌else◌}
 use Rattle.ftp_facts.proofs.Theorems.{Refuses-same}
 use Rattle.ftp_facts.specs.Entry.{Refuses}
 use Rattle.ftp_facts.specs.Listed.{Listed, entry_value}
-use Rattle.ftp_facts.specs.Listing.{but_empty_last, is_shown, line_feed, lines_of}
+use Rattle.ftp_facts.specs.Listing.{but_empty_last, is_entry_shown, line_feed, lines_of}
 use Rattle.ftp_facts.specs.declared.fault.FactFault.{FactFault}
 use Rattle.ftp_facts.specs.declared.fault.FactFault.TheVariants.{Memory}
-use Rattle.tool_listing.specs.entries.Text.{entries_of, is_odd, odd_of}
+use Rattle.tool_listing.specs.entries.Text.{entries_of, says_no_entry, lines_without_entry}
 
 -- ---- lines
 
@@ -88,11 +88,11 @@ says_none line fault refuses other = no_entry line fault (entry_value line) refl
 -- what lines say is said one line after another
 pub entries_cut : (line : List ℕ) (lines : List (List ℕ)) → entries_of (line ∷ lines) ≡ entries_of (line ∷ []) ++ entries_of lines
 entries_cut line lines =
-    ap (filter is_shown) (filter_map-append entry_value (line ∷ []) lines)
-    ∙ filter-append is_shown (filter_map entry_value (line ∷ [])) (filter_map entry_value lines)
+    ap (filter is_entry_shown) (filter_map-append entry_value (line ∷ []) lines)
+    ∙ filter-append is_entry_shown (filter_map entry_value (line ∷ [])) (filter_map entry_value lines)
 
-pub odd_cut : (line : List ℕ) (lines : List (List ℕ)) → odd_of (line ∷ lines) ≡ odd_of (line ∷ []) ++ odd_of lines
-odd_cut line lines = filter-append is_odd (line ∷ []) lines
+pub odd_cut : (line : List ℕ) (lines : List (List ℕ)) → lines_without_entry (line ∷ lines) ≡ lines_without_entry (line ∷ []) ++ lines_without_entry lines
+odd_cut line lines = filter-append says_no_entry (line ∷ []) lines
 
 -- one line more
 pub line_more : {X : Type 0} (f : List (List ℕ) → List X) → ((line : List ℕ) (lines : List (List ℕ)) → f (line ∷ lines) ≡ f (line ∷ []) ++ f lines)

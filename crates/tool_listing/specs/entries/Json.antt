@@ -5,7 +5,7 @@ use Rattle.ftp_facts.specs.declared.entry.EntryKind.{EntryKind}
 use Rattle.ftp_facts.specs.declared.entry.EntryKind.TheVariants as Kinds
 use Rattle.ftp_facts.specs.declared.moment.Moment.{Moment}
 use Rattle.ftp_facts.specs.Moment.{moment_digits}
-use Rattle.tool_terminal.specs.escaped.Shown.{digit, shown}
+use Rattle.tool_terminal.specs.escaped.Shown.{digit, octets_shown}
 use Rattle.tool_listing.specs.entries.Lines.{is_shown}
 use Rattle.tool_listing.specs.entries.Name.{is_name}
 
@@ -74,4 +74,4 @@ action_json action path = codes "{\"deed\":" ++ string action ++ codes ",\"path\
 
 -- a line that is no entry, as a terminal is to show it
 abbrev pub line_json : List ℕ → List ℕ
-line_json text = codes "{\"line\":" ++ (string (shown text) ++ codes "}\n")
+line_json text = codes "{\"line\":" ++ (string (octets_shown text) ++ codes "}\n")

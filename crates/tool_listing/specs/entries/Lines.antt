@@ -3,16 +3,16 @@ use Rattle.std.specs.Prelude.{ℕ, ◌==◌, ◌&&◌, ◌||◌, ◌++◌, Bool,
 use Rattle.std.specs.List.{starts_with}
 use Rattle.ftp_facts.specs.declared.entry.Entry.{Entry}
 use Rattle.ftp_facts.specs.Entry.{entry_line}
-use Rattle.tool_terminal.specs.escaped.Shown.{shown}
+use Rattle.tool_terminal.specs.escaped.Shown.{octets_shown}
 use Rattle.tool_listing.specs.entries.Name.{is_name}
 
 -- a line: octets as they are shown, and LF
 abbrev pub line : List ℕ → List ℕ
-line octets = shown octets ++ 10 ∷ []
+line octets = octets_shown octets ++ 10 ∷ []
 
 -- what is shown of an entry: its line, where its name is one of a single file, and else nothing
-abbrev pub entry_text : {A : Type 0} → Entry A → List ℕ
-entry_text entry = if is_name entry.name then line (entry_line entry) else []
+abbrev pub shown_entry_text : {A : Type 0} → Entry A → List ℕ
+shown_entry_text entry = if is_name entry.name then line (entry_line entry) else []
 
 -- an entry that is left out
 abbrev pub is_strange_entry : {A : Type 0} → Entry A → Bool

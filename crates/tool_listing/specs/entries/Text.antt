@@ -3,24 +3,24 @@ use Rattle.std.specs.Prelude.{ℕ, ◌==◌, Bool, false, not, nat_eq, List, fil
 use Rattle.std.specs.List.{after_first, filter_map, starts_with}
 use Rattle.ftp_facts.specs.Fact.{space}
 use Rattle.ftp_facts.specs.Listed.{Listed, entry_value}
-use Rattle.ftp_facts.specs.Listing.{is_shown}
+use Rattle.ftp_facts.specs.Listing.{is_entry_shown}
 
 -- the entries that lines of MLSD say, but those of the directory itself and of its parent
 abbrev pub entries_of : List (List ℕ) → List Listed
-entries_of lines = filter is_shown (filter_map entry_value lines)
+entries_of lines = filter is_entry_shown (filter_map entry_value lines)
 
 -- a line that says none
-abbrev pub is_odd : List ℕ → Bool
-is_odd line = is_none (entry_value line)
+abbrev pub says_no_entry : List ℕ → Bool
+says_no_entry line = is_none (entry_value line)
 
 -- those, as they came
-abbrev pub odd_of : List (List ℕ) → List (List ℕ)
-odd_of lines = filter is_odd lines
+abbrev pub lines_without_entry : List (List ℕ) → List (List ℕ)
+lines_without_entry lines = filter says_no_entry lines
 
 -- an entry that is left out
 abbrev pub is_left_out : Option Listed → Bool
 is_left_out None = false
-is_left_out (Some entry) = not (is_shown entry)
+is_left_out (Some entry) = not (is_entry_shown entry)
 
 -- a line that says one
 abbrev pub is_aside : List ℕ → Bool

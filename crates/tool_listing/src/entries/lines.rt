@@ -1,7 +1,7 @@
 // Listings of a server, a line an entry.
 ghost use Rattle.std.specs.Prelude.{◌≡◌, ◌++◌, OnOk, count_by, flat_map};
 ghost use Rattle.ftp_facts.specs.Entry.{entry_line};
-ghost use Rattle.tool_listing.specs.entries.Lines.{entry_text, is_below, is_itself, is_listed, is_shown, without_slash};
+ghost use Rattle.tool_listing.specs.entries.Lines.{shown_entry_text, is_below, is_itself, is_listed, is_shown, without_slash};
 ghost use Rattle.tool_listing.specs.entries.Lines.{is_strange_entry, is_strange_name, line, name_text};
 
 use crate::entries::is_name;
@@ -19,7 +19,7 @@ pub fn put_entries(
     out: &mut Vec<u8, Global>,
 ) -> Result<(), AllocError>
     // Witness: an equation, where memory is not refused.
-    ensures { OnOk result (out.new.items ≡ out.old.items ++ flat_map entry_text entries.now) }
+    ensures { OnOk result (out.new.items ≡ out.old.items ++ flat_map shown_entry_text entries.now) }
 {
     for entry in entries {
         put_entry(alloc, entry, out)?;
@@ -32,7 +32,7 @@ fn put_entry(
     entry: &Entry<Global>,
     out: &mut Vec<u8, Global>,
 ) -> Result<(), AllocError>
-    ensures { OnOk result (out.new.items ≡ out.old.items ++ entry_text entry.now) }
+    ensures { OnOk result (out.new.items ≡ out.old.items ++ shown_entry_text entry.now) }
 {
     if is_name(entry.name.as_slice()) {
         put_entry_line(alloc, entry, out)

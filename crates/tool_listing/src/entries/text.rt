@@ -3,8 +3,8 @@ ghost use Rattle.std.specs.Prelude.{◌≡◌, ◌==◌, ◌∷◌, ◌++◌, �
 ghost use Rattle.std.specs.List.{list_all, position_or_len};
 ghost use Rattle.ftp_facts.specs.Entry.{listed_of};
 ghost use Rattle.ftp_facts.specs.Listed.{entry_value};
-ghost use Rattle.ftp_facts.specs.Listing.{is_shown, line_feed, lines_of};
-ghost use Rattle.tool_listing.specs.entries.Text.{entries_of, is_aside, odd_of};
+ghost use Rattle.ftp_facts.specs.Listing.{is_entry_shown, line_feed, lines_of};
+ghost use Rattle.tool_listing.specs.entries.Text.{entries_of, is_aside, lines_without_entry};
 
 use ftp_facts::{Entry, EntryKind, FactFault, Text, read_entry};
 use std::alloc::{AllocError, Global};
@@ -22,7 +22,7 @@ pub struct TextListing {
 pub fn read_entries(alloc: Global, text: &[u8]) -> Result<TextListing, AllocError>
     // Witness: an equation, where memory is not refused.
     ensures entries { IfOk result (λ listing. map listed_of listing.entries.items ≡ entries_of (lines_of text.now)) }
-    ensures odd { IfOk result (λ listing. listing.odd.items ≡ odd_of (lines_of text.now)) }
+    ensures odd { IfOk result (λ listing. listing.odd.items ≡ lines_without_entry (lines_of text.now)) }
 {
     let mut entries = Vec::new(alloc);
     let mut odd = Vec::new(alloc);
@@ -43,7 +43,7 @@ fn put_line(
     odd: &mut Vec<Text<Global>, Global>,
 ) -> Result<(), AllocError>
     ensures entries { OnOk result (map listed_of entries.new.items ≡ map listed_of entries.old.items ++ entries_of (line.now ∷ [])) }
-    ensures odd { OnOk result (odd.new.items ≡ odd.old.items ++ odd_of (line.now ∷ [])) }
+    ensures odd { OnOk result (odd.new.items ≡ odd.old.items ++ lines_without_entry (line.now ∷ [])) }
 {
     let Some(entry) = entry_in(alloc, line)? else {
         odd.push(Text::copy_of(alloc, line)?)?;
@@ -114,7 +114,7 @@ pub fn read_lines(alloc: Global, text: &[u8]) -> Result<Vec<Text<Global>, Global
 
 /// Whether an entry is neither of the directory itself nor of its parent, nor of another type than file and directory.
 pub(crate) fn is_shown(entry: &Entry<Global>) -> bool
-    ensures { result ≡ is_shown (listed_of entry.now) }
+    ensures { result ≡ is_entry_shown (listed_of entry.now) }
 {
     match &entry.kind {
         None | Some(EntryKind::File) | Some(EntryKind::Dir) => true,

@@ -7,7 +7,7 @@ use Rattle.std.proofs.lemmas.Bool.{cases_lt}
 use Rattle.std.proofs.lemmas.Str.{IsUtf8-encode, encode_ascii}
 use Rattle.tool_terminal.proofs.escaped.ShownLemmas.{front, none}
 use Rattle.std.proofs.lemmas.List.{append-nil, at_drop_all, drop-drop, length-drop}
-use Rattle.tool_terminal.specs.escaped.Shown.{is_from, is_plain, is_tail, is_second_of_three, is_second_of_four, is_three, is_four, len_two, len_three, len_four, shown_len, kept_of, octet_shown, escaped, shown_from, front_shown}
+use Rattle.tool_terminal.specs.escaped.Shown.{is_from, is_plain, is_tail, is_second_of_three, is_second_of_four, is_three, is_four, len_two, len_three, len_four, shown_len, kept_of, octet_shown, octet_escaped, shown_from, front_shown}
 
 -- a number that passes the test is between both
 between : (a b c : ℕ) → is_from a b c ≡ true → (a ≤ c) × (c ≤ b)
@@ -205,7 +205,7 @@ known k octets some = ap (λ t. if t then shown_len octets else k) (ne_eqb k 0 (
 
 -- an octet of which that is known stands as it is
 stands : (k x : ℕ) → 0 < k → octet_shown k x ≡ x ∷ []
-stands k x some = ap (λ t. if t then escaped x else x ∷ []) (ne_eqb k 0 (λ none. absurd (omega (arith, none, some))))
+stands k x some = ap (λ t. if t then octet_escaped x else x ∷ []) (ne_eqb k 0 (λ none. absurd (omega (arith, none, some))))
 
 -- octets that stand as they are, and then what the rest shows
 as_they_are : (k : ℕ) (octets : List ℕ) → k ≤ length octets → shown_from k octets ≡ take k octets ++ shown_from 0 (drop k octets)
@@ -235,7 +235,7 @@ front_and_rest (x ∷ octets) some = by (cases_lt 0 (shown_len (x ∷ octets)))
         let last : suc (n - 1) ≡ n = omega (arith, more) in
         let same : kept_of n (x ∷ octets) ≡ n = known n (x ∷ octets) more in
         let piece : front_shown 0 (x ∷ octets) ≡ take n (x ∷ octets) =
-        ap (λ t. if t then escaped x else take n (x ∷ octets)) (ne_eqb n 0 (λ none. absurd (omega (arith, none, more)))) in
+        ap (λ t. if t then octet_escaped x else take n (x ∷ octets)) (ne_eqb n 0 (λ none. absurd (omega (arith, none, more)))) in
         ap (λ l. l ++ shown_from 0 (drop (suc (n - 1)) (x ∷ octets))) piece
         ∙ ap (λ m. take n (x ∷ octets) ++ shown_from 0 (drop m (x ∷ octets))) last
         ∙ sym (as_they_are n (x ∷ octets) there)
@@ -245,9 +245,9 @@ front_and_rest (x ∷ octets) some = by (cases_lt 0 (shown_len (x ∷ octets)))
     by (inr less) =
         let zero_is : n ≡ 0 = omega (arith, less) in
         let first : suc (n - 1) ≡ 1 = omega (arith, less) in
-        let piece : front_shown 0 (x ∷ octets) ≡ escaped x = ap (λ m. if m == 0 then escaped x else take m (x ∷ octets)) zero_is in
+        let piece : front_shown 0 (x ∷ octets) ≡ octet_escaped x = ap (λ m. if m == 0 then octet_escaped x else take m (x ∷ octets)) zero_is in
         ap (λ l. l ++ shown_from 0 (drop (suc (n - 1)) (x ∷ octets))) piece
-        ∙ ap (λ m. escaped x ++ shown_from 0 (drop m (x ∷ octets))) first
+        ∙ ap (λ m. octet_escaped x ++ shown_from 0 (drop m (x ∷ octets))) first
         ∙ ap (λ m. octet_shown m x ++ shown_from (m - 1) octets) (sym zero_is)
         ∙ sym (front 0 x octets)
 
@@ -264,7 +264,7 @@ one_more_written octets seen done all at written later inside sees is so_far = b
         let same : later ≡ written - 1 = is ∙ ap (λ m. m - 1) (known written seen more) in
         let place : at + 1 + later ≡ at + written = omega (arith, same, more) in
         let none_now : front_shown written seen ≡ [] =
-        ap (λ t. if t then (if shown_len seen == 0 then escaped (get_or seen 0 0) else take (shown_len seen) seen) else [])
+        ap (λ t. if t then (if shown_len seen == 0 then octet_escaped (get_or seen 0 0) else take (shown_len seen) seen) else [])
         (ne_eqb written 0 (λ none. absurd (omega (arith, none, more)))) in
         ap (λ l. (done ++ l) ++ shown_from 0 (drop (at + 1 + later) octets)) none_now
         ∙ ap (λ l. l ++ shown_from 0 (drop (at + 1 + later) octets)) (append-nil done)

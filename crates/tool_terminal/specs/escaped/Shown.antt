@@ -99,12 +99,12 @@ abbrev pub hexadecimal : ℕ → List ℕ
 hexadecimal octet = 92 ∷ 120 ∷ digit (octet / 16) ∷ digit (octet % 16) ∷ []
 
 -- an octet as an escape: a backslash twice, and any other as `\xHH`
-abbrev pub escaped : ℕ → List ℕ
-escaped octet = if octet == 92 then 92 ∷ 92 ∷ [] else hexadecimal octet
+abbrev pub octet_escaped : ℕ → List ℕ
+octet_escaped octet = if octet == 92 then 92 ∷ 92 ∷ [] else hexadecimal octet
 
 -- an octet at the front of a row of which so many stand as they are
 abbrev pub octet_shown : ℕ → ℕ → List ℕ
-octet_shown kept octet = if kept == 0 then escaped octet else octet ∷ []
+octet_shown kept octet = if kept == 0 then octet_escaped octet else octet ∷ []
 
 -- of how many octets at the front it is known that they stand as they are, where it is known of so many
 abbrev pub kept_of : ℕ → List ℕ → ℕ
@@ -117,11 +117,11 @@ shown_from kept (octet ∷ octets) =
     let now = kept_of kept (octet ∷ octets) in octet_shown now octet ++ shown_from (now - 1) octets
 
 -- octets as they are shown
-abbrev pub shown : List ℕ → List ℕ
-shown octets = shown_from 0 octets
+abbrev pub octets_shown : List ℕ → List ℕ
+octets_shown octets = shown_from 0 octets
 
 -- What is written at once of octets of which so many at the front are written already: nothing amid a character, else the character where it stands as it
 -- is, and else the first octet as an escape.
 abbrev pub front_shown : ℕ → List ℕ → List ℕ
 front_shown written octets =
-    if written == 0 then (if shown_len octets == 0 then escaped (get_or octets 0 0) else take (shown_len octets) octets) else []
+    if written == 0 then (if shown_len octets == 0 then octet_escaped (get_or octets 0 0) else take (shown_len octets) octets) else []

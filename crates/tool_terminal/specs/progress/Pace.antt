@@ -17,12 +17,12 @@ abbrev pub seconds_left : (count total rate : ℕ) → Option ℕ
 seconds_left count total rate = if rate == 0 then None else Some ((total - count) / rate)
 
 -- what is left of a file of which so many octets are there
-abbrev pub rest_of : (count rate total : ℕ) → Remaining
-rest_of count rate total = record { total = total; percent = hundredths count total; seconds = seconds_left count total rate }
+abbrev pub rest_of_file : (count rate total : ℕ) → Remaining
+rest_of_file count rate total = record { total = total; percent = hundredths count total; seconds = seconds_left count total rate }
 
 -- how far a transfer is that moved so many octets in so many milliseconds: those before its first octet are there too
 abbrev pub pace_of : Span → (moved millis : ℕ) → Pace
 pace_of span moved millis =
     let rate = per_second moved millis in
     let count = span.start + moved in
-    record { count = count; per_second = rate; rest = option_map (rest_of count rate) span.total }
+    record { count = count; per_second = rate; rest = option_map (rest_of_file count rate) span.total }

@@ -2,7 +2,7 @@
 ghost use Rattle.std.specs.Prelude.{◌≡◌, ◌<◌, ◌≤◌, ◌++◌, ◌-◌, length, get_or, take, OnOk, IfOk, Some};
 ghost use Rattle.std.specs.Fmt.{WritesOnOk};
 ghost use Rattle.tool_terminal.specs.escaped.Shown.{is_four, is_from, is_hidden_80, is_hidden_81, is_hidden_c2, is_hidden_ef, is_hidden_four, is_hidden_three, is_hidden_two, is_plain, is_second_of_four, is_second_of_three, is_tail, is_three};
-ghost use Rattle.tool_terminal.specs.escaped.Shown.{digit, escaped, front_shown, hexadecimal, kept_of, len_four, len_three, len_two, octet_shown, shown, shown_len};
+ghost use Rattle.tool_terminal.specs.escaped.Shown.{digit, octet_escaped, front_shown, hexadecimal, kept_of, len_four, len_three, len_two, octet_shown, octets_shown, shown_len};
 
 use std::alloc::{AllocError, Global};
 use std::fmt;
@@ -14,7 +14,7 @@ use std::fmt::{Display, Formatter};
 /// Refused memory, a part of it may stand there.
 pub fn put_shown(octets: &[u8], out: &mut Vec<u8, Global>) -> Result<(), AllocError>
     // Witness: an equation, where memory is not refused.
-    ensures { OnOk result (out.new.items ≡ out.old.items ++ shown octets.now) }
+    ensures { OnOk result (out.new.items ≡ out.old.items ++ octets_shown octets.now) }
 {
     let mut kept = 0;
     for place in 0..octets.len() {
@@ -28,7 +28,7 @@ pub fn put_shown(octets: &[u8], out: &mut Vec<u8, Global>) -> Result<(), AllocEr
 pub struct Shown<'a>(pub &'a [u8]);
 
 impl<'a> Display for Shown<'a> {
-    ghost output = { λ it. Some (shown it.0.now) };
+    ghost output = { λ it. Some (octets_shown it.0.now) };
 
     fn fmt<W: fmt::Write>(&self, formatter: &mut Formatter<W>) -> fmt::Result {
         let mut written = 0;
@@ -73,7 +73,7 @@ fn front_of(octets: &[u8], count: u8) -> &str
 
 /// Writes an octet as an escape.
 fn write_escaped<W: fmt::Write>(octet: u8, formatter: &mut Formatter<W>) -> fmt::Result
-    ensures { WritesOnOk W.write_str_gives formatter.old result (escaped octet) formatter.new }
+    ensures { WritesOnOk W.write_str_gives formatter.old result (octet_escaped octet) formatter.new }
 {
     if octet == b'\\' {
         return formatter.write_str("\\\\");
@@ -109,7 +109,7 @@ fn put_octet(kept: u8, octet: u8, out: &mut Vec<u8, Global>) -> Result<(), Alloc
 
 /// Appends an octet as an escape.
 fn put_escaped(octet: u8, out: &mut Vec<u8, Global>) -> Result<(), AllocError>
-    ensures { OnOk result (out.new.items ≡ out.old.items ++ escaped octet) }
+    ensures { OnOk result (out.new.items ≡ out.old.items ++ octet_escaped octet) }
 {
     if octet == b'\\' {
         out.extend_from_slice(b"\\\\")

@@ -8,7 +8,7 @@ use Rattle.ftp_driver.specs.Standing.{channel_at}
 use Rattle.ftp_operation.specs.declared.answer.Answer.{Answer}
 use Rattle.ftp_client_driver.proofs.Ending.{drove, ends_from, finishes, gave_up}
 use Rattle.ftp_client_driver.specs.Driving.{Reports}
-use Rattle.ftp_client_driver.specs.Side.{beside, client_machine}
+use Rattle.ftp_client_driver.specs.Side.{client_beside, client_machine}
 use Rattle.ftp_client_driver.proofs.turns.drive_some.Goals as goal
 
 pub returns-in-Over-clause-drives : goal.returns-in-Over-clause-drives
@@ -16,7 +16,7 @@ returns-in-Over-clause-drives g c start unwritten untold first =
     let turned = c.drive_on-turned in
     let history = g.P.Ports.history in
     let channel = channel_at g.P.Stream.Read.remaining g.P.Stream.Write.contents in
-    let stand = beside g.R.Read.remaining g.W.Write.contents in
+    let stand = client_beside g.R.Read.remaining g.W.Write.contents in
     let old = stand (held (g.N.Near.client c.args.client.now) (channel (history c.args.ports.now) c.args.data.now [])) c.args.control.now in
     let off = stand (held (g.N.Near.client turned.new.end) (channel (history turned.new.ports) turned.new.data [])) turned.new.control in
     let ends : Ends client_machine Reports old off (Ok c.in-Over.answer) =
@@ -36,7 +36,7 @@ returns-in-Err-clause-drives g c start unwritten untold first =
     let turned = c.drive_on-turned in
     let history = g.P.Ports.history in
     let channel = channel_at g.P.Stream.Read.remaining g.P.Stream.Write.contents in
-    let stand = beside g.R.Read.remaining g.W.Write.contents in
+    let stand = client_beside g.R.Read.remaining g.W.Write.contents in
     let old = stand (held (g.N.Near.client c.args.client.now) (channel (history c.args.ports.now) c.args.data.now [])) c.args.control.now in
     let end = held (g.N.Near.client turned.new.end) (channel (history turned.new.ports) turned.new.data []) in
     let off = stand end turned.new.control in
@@ -59,7 +59,7 @@ returns-in-Over-clause-made g c =
     let turned = c.drive_on-turned in
     let history = g.P.Ports.history in
     let channel = channel_at g.P.Stream.Read.remaining g.P.Stream.Write.contents in
-    let stand = beside g.R.Read.remaining g.W.Write.contents in
+    let stand = client_beside g.R.Read.remaining g.W.Write.contents in
     let old = stand (held (g.N.Near.client c.args.client.now) (channel (history c.args.ports.now) c.args.data.now [])) c.args.control.now in
     let off = stand (held (g.N.Near.client turned.new.end) (channel (history turned.new.ports) turned.new.data [])) turned.new.control in
     let ends : Ends client_machine Reports old off (Ok c.in-Over.answer) =
@@ -78,7 +78,7 @@ returns-in-Err-clause-made g c =
     let turned = c.drive_on-turned in
     let history = g.P.Ports.history in
     let channel = channel_at g.P.Stream.Read.remaining g.P.Stream.Write.contents in
-    let stand = beside g.R.Read.remaining g.W.Write.contents in
+    let stand = client_beside g.R.Read.remaining g.W.Write.contents in
     let end = held (g.N.Near.client turned.new.end) (channel (history turned.new.ports) turned.new.data []) in
     record {
       off = stand end turned.new.control;

@@ -1,5 +1,5 @@
 use Rattle.std.proofs.Common.{◌≡◌, ◌∙◌, ap, subst, sym}
-use Rattle.ftp_facts.specs.Entry.{IsFit, with_kind_word}
+use Rattle.ftp_facts.specs.Entry.{IsFitEntry, with_kind_word}
 use Rattle.ftp_operation.specs.Answer.{Listed, listed_of}
 use Rattle.ftp_tree.specs.Map.{of_node, shown_of}
 use Rattle.ftp_tree.specs.Tree.{node_at, under}
@@ -8,7 +8,7 @@ use Rattle.ftp_direct.proofs.EntryLemmas.{entry_fit, entry_is, if_ok, words_stay
 use Rattle.ftp_direct.proofs.listings.entry.Goals as goal
 
 pub copy_of-requires : goal.copy_of-requires
-copy_of-requires g c = subst IsFit (sym c.entry_of.ensures) (entry_fit _ c.is_root.result c.args.name.now c.requires)
+copy_of-requires g c = subst IsFitEntry (sym c.entry_of.ensures) (entry_fit _ c.is_root.result c.args.name.now c.requires)
 
 pub returns : goal.returns
 returns g c =

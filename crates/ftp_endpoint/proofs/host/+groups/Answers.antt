@@ -1,5 +1,5 @@
 use Rattle.std.proofs.Common.{◌≡◌, ℕ, List, [], ◌∷◌, ◌++◌, ◌∙◌, append_assoc, ap, length, sym, subst, arith, Bor}
-use Rattle.ftp_endpoint.specs.Host.{BeginsWithGroups, NoGroups, ReadsGroups, Stops, behind_hex}
+use Rattle.ftp_endpoint.specs.Host.{BeginsWithGroups, NoGroups, ReadsGroups, GroupsMayStop, behind_hex}
 use Rattle.ftp_endpoint.proofs.HostLemmas.{first_group, goes_on, more_groups}
 use Rattle.ftp_endpoint.proofs.OutcomeLemmas.{if_none, none_weaker, not_from, some_weaker}
 use Rattle.ftp_endpoint.proofs.host.+groups.Goals as goal
@@ -13,7 +13,7 @@ returns-in_err-group-clause-none t c =
 pub returns-in_err-next-clause-none : goal.returns-in_err-next-clause-none
 returns-in_err-next-clause-none t c =
     let is = c.in_ok-group.ensures.some in
-    let not_here : Stops (behind_hex c.args.text.now) → ⊥ = λ s. not_from _ _ c.stops.ensures c.if-stops.false (subst Stops (sym is.2) s) in
+    let not_here : GroupsMayStop (behind_hex c.args.text.now) → ⊥ = λ s. not_from _ _ c.stops.ensures c.if-stops.false (subst GroupsMayStop (sym is.2) s) in
     let none : NoGroups c.args.text.now (length c.args.out.now.items) = λ ns rest some room stops h.
     let on = goes_on c.args.text.now ns rest some stops h not_here in
     c.in_err-next.ensures.none on.next (is.2 ∙ on.behind) in
@@ -35,7 +35,7 @@ returns-clause-some t c =
 pub returns-clause-none : goal.returns-clause-none
 returns-clause-none t c =
     let is = c.in_ok-group.ensures.some in
-    let not_here : Stops (behind_hex c.args.text.now) → ⊥ = λ s. not_from _ _ c.stops.ensures c.if-stops.false (subst Stops (sym is.2) s) in
+    let not_here : GroupsMayStop (behind_hex c.args.text.now) → ⊥ = λ s. not_from _ _ c.stops.ensures c.if-stops.false (subst GroupsMayStop (sym is.2) s) in
     let none : NoGroups c.in_ok-next.next.now (length c.push.new.self.items) → NoGroups c.args.text.now (length c.args.out.now.items) = λ inner ns rest some room stops h.
     let on = goes_on c.args.text.now ns rest some stops h not_here in
     let behind = on.behind in

@@ -1,7 +1,7 @@
 use Rattle.std.proofs.Common.{min}
-use Rattle.tool_scheduler.specs.Rounds.{Goes, start}
+use Rattle.tool_scheduler.specs.Rounds.{GoesOnTo, start}
 use Rattle.tool_scheduler.proofs.rounds.serve_rounds.Given as goal
 
 -- what was told is of rounds, the last of which is done, and leads to this order
 abbrev pub invariant-loop : goal.invariant-loop
-invariant-loop g l = Goes (g.M.Slot.Slot.history l.fn.tree) (g.M.Slot.Slot.history l.tree) (start (min l.fn.session_limits.at_once 64)) l.order
+invariant-loop g l = GoesOnTo (g.M.Slot.Slot.history l.fn.tree) (g.M.Slot.Slot.history l.tree) (start (min l.fn.session_limits.at_once 64)) l.order

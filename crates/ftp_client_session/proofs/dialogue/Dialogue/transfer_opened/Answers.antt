@@ -1,7 +1,7 @@
 use Rattle.std.proofs.Common.{◌∙◌, ap}
 use Rattle.std.proofs.lemmas.Result.{on_ok_weaker, on_err_weaker}
 use Rattle.ftp_client_model.specs.View.{View}
-use Rattle.ftp_client_session.specs.Client.{job_of, transfer_of, view_of}
+use Rattle.ftp_client_session.specs.Client.{job_of, transfer_seen, view_of}
 use Rattle.ftp_client_session.proofs.AwaitedLemmas.{awaited_short, opened_is}
 use Rattle.ftp_client_session.proofs.dialogue.Dialogue.transfer_opened.Goals as goal
 
@@ -10,7 +10,7 @@ returns-clause-ok g c =
     let d = c.args.self.now in
     let v : View = view_of g.F.ClientTransfer.flow d in
     on_ok_weaker c.with_reply.result (λ now.
-    opened_is (view_of g.F.ClientTransfer.flow c.with_reply.new.self) v c.awaited-self.result d.op (transfer_of g.F.ClientTransfer.flow d.op c.in-Transferring.field-0) c.args.code
+    opened_is (view_of g.F.ClientTransfer.flow c.with_reply.new.self) v c.awaited-self.result d.op (transfer_seen g.F.ClientTransfer.flow d.op c.in-Transferring.field-0) c.args.code
     (ap (job_of g.F.ClientTransfer.flow d.op) c.in-Transferring.is) c.if-code-eq-MARK.false c.awaited-self.ensures now)
     c.with_reply.ensures.ok
 

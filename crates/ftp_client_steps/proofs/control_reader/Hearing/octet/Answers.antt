@@ -1,6 +1,6 @@
 use Rattle.std.proofs.Common.{◌∙◌, ◌++◌, take, sym, ap, arith}
 use Rattle.std.proofs.lemmas.Result.{IfOk-weaker}
-use Rattle.ftp_nvt.specs.Ear.{line_of, event_list}
+use Rattle.ftp_nvt.specs.Ear.{lent_line, event_list}
 use Rattle.ftp_nvt.specs.Fold.{ear_of}
 use Rattle.ftp_reply.specs.Reader.{line_heard}
 use Rattle.ftp_client_model.specs.Calls.{events_taken, line_taken}
@@ -15,7 +15,7 @@ returns-in-More-clause-comes g c = λ v sound ear gathered.
     let new = c.feed-heard.new.self in
     octet_comes c.self.inside.ear new c.self.inside.reader c.self.inside.gathered c.feed-heard.result.event c.args.octet c.feed-heard.result.taken v c.self.invariant
     (c.feed-heard.ensures.some (omega arith)) c.feed-heard.ensures.within c.feed-heard.ensures.hears (ear ∙ sym (ap (λ h. h.ear) c.self.view_is))
-    ∙ ap (λ e. events_taken (event_list e (line_of new)) (record v { ear = ear_of new })) c.in-More.is
+    ∙ ap (λ e. events_taken (event_list e (lent_line new)) (record v { ear = ear_of new })) c.in-More.is
     ∙ ap (λ x. let w : View = record v { ear = ear_of new; gathered = x } in w) (gathered ∙ sym (ap (λ h. h.gathered) c.self.view_is))
 
 pub returns-in-Owed-clause-comes : goal.returns-in-Owed-clause-comes
@@ -23,7 +23,7 @@ returns-in-Owed-clause-comes g c = λ v sound ear gathered.
     let new = c.feed-heard.new.self in
     octet_comes c.self.inside.ear new c.self.inside.reader c.self.inside.gathered c.feed-heard.result.event c.args.octet c.feed-heard.result.taken v c.self.invariant
     (c.feed-heard.ensures.some (omega arith)) c.feed-heard.ensures.within c.feed-heard.ensures.hears (ear ∙ sym (ap (λ h. h.ear) c.self.view_is))
-    ∙ ap (λ e. events_taken (event_list e (line_of new)) (record v { ear = ear_of new })) c.in-Owed.is
+    ∙ ap (λ e. events_taken (event_list e (lent_line new)) (record v { ear = ear_of new })) c.in-Owed.is
     ∙ ap (λ x. let w : View = record v { ear = ear_of new; gathered = x; owed = v.owed ++ c.in-Owed.answer } in w) (gathered ∙ sym (ap (λ h. h.gathered) c.self.view_is))
 
 pub returns-in-TooLong-clause-comes : goal.returns-in-TooLong-clause-comes
@@ -31,7 +31,7 @@ returns-in-TooLong-clause-comes g c = λ v sound ear gathered.
     let new = c.feed-heard.new.self in
     octet_comes c.self.inside.ear new c.self.inside.reader c.self.inside.gathered c.feed-heard.result.event c.args.octet c.feed-heard.result.taken v c.self.invariant
     (c.feed-heard.ensures.some (omega arith)) c.feed-heard.ensures.within c.feed-heard.ensures.hears (ear ∙ sym (ap (λ h. h.ear) c.self.view_is))
-    ∙ ap (λ e. events_taken (event_list e (line_of new)) (record v { ear = ear_of new })) c.in-TooLong.is
+    ∙ ap (λ e. events_taken (event_list e (lent_line new)) (record v { ear = ear_of new })) c.in-TooLong.is
     ∙ ap (λ x. strange (record v { ear = ear_of new; gathered = x })) (gathered ∙ sym (ap (λ h. h.gathered) c.self.view_is))
 
 pub returns-in-Line-clause-comes : goal.returns-in-Line-clause-comes
@@ -40,8 +40,8 @@ returns-in-Line-clause-comes g c =
     IfOk-weaker c.take_line.result _ _ (λ heard leads v sound ear gathered.
     octet_comes c.self.inside.ear new c.self.inside.reader c.self.inside.gathered c.feed-heard.result.event c.args.octet c.feed-heard.result.taken v c.self.invariant
     (c.feed-heard.ensures.some (omega arith)) c.feed-heard.ensures.within c.feed-heard.ensures.hears (ear ∙ sym (ap (λ h. h.ear) c.self.view_is))
-    ∙ ap (λ e. events_taken (event_list e (line_of new)) (record v { ear = ear_of new })) c.in-Line.is
-    ∙ ap (λ x. line_taken (line_heard x (line_of new)) (record v { ear = ear_of new })) (gathered ∙ sym (ap (λ h. h.gathered) c.self.view_is))
+    ∙ ap (λ e. events_taken (event_list e (lent_line new)) (record v { ear = ear_of new })) c.in-Line.is
+    ∙ ap (λ x. line_taken (line_heard x (lent_line new)) (record v { ear = ear_of new })) (gathered ∙ sym (ap (λ h. h.gathered) c.self.view_is))
     ∙ ap (λ x. line_taken (line_heard (gathered_in c.self.inside.reader) x) (record v { ear = ear_of new })) (sym c.line-line.ensures)
     ∙ led (line_heard (gathered_in c.self.inside.reader) c.line-line.result.now) heard (ear_of new) (gathered_in c.take_line.new.reader) v sound leads)
     c.take_line.ensures.heard
@@ -53,7 +53,7 @@ returns-in-More-clause-told g c =
     line_comes c.self.inside.ear new c.self.inside.reader c.self.inside.gathered c.feed-heard.result.event c.args.octet c.feed-heard.result.taken
     c.args.self.now.ear c.args.last.now c.self.invariant
     (c.feed-heard.ensures.some (omega arith)) c.feed-heard.ensures.within c.feed-heard.ensures.hears (sym (ap (λ h. h.ear) c.self.view_is))
-    ∙ ap (λ e. line_behind (event_list e (line_of new)) c.args.last.now) c.in-More.is)
+    ∙ ap (λ e. line_behind (event_list e (lent_line new)) c.args.last.now) c.in-More.is)
 
 pub returns-in-Owed-clause-told : goal.returns-in-Owed-clause-told
 returns-in-Owed-clause-told g c =
@@ -62,7 +62,7 @@ returns-in-Owed-clause-told g c =
     line_comes c.self.inside.ear new c.self.inside.reader c.self.inside.gathered c.feed-heard.result.event c.args.octet c.feed-heard.result.taken
     c.args.self.now.ear c.args.last.now c.self.invariant
     (c.feed-heard.ensures.some (omega arith)) c.feed-heard.ensures.within c.feed-heard.ensures.hears (sym (ap (λ h. h.ear) c.self.view_is))
-    ∙ ap (λ e. line_behind (event_list e (line_of new)) c.args.last.now) c.in-Owed.is)
+    ∙ ap (λ e. line_behind (event_list e (lent_line new)) c.args.last.now) c.in-Owed.is)
 
 pub returns-in-TooLong-clause-told : goal.returns-in-TooLong-clause-told
 returns-in-TooLong-clause-told g c =
@@ -71,7 +71,7 @@ returns-in-TooLong-clause-told g c =
     line_comes c.self.inside.ear new c.self.inside.reader c.self.inside.gathered c.feed-heard.result.event c.args.octet c.feed-heard.result.taken
     c.args.self.now.ear c.args.last.now c.self.invariant
     (c.feed-heard.ensures.some (omega arith)) c.feed-heard.ensures.within c.feed-heard.ensures.hears (sym (ap (λ h. h.ear) c.self.view_is))
-    ∙ ap (λ e. line_behind (event_list e (line_of new)) c.args.last.now) c.in-TooLong.is)
+    ∙ ap (λ e. line_behind (event_list e (lent_line new)) c.args.last.now) c.in-TooLong.is)
 
 pub returns-in-Line-clause-told : goal.returns-in-Line-clause-told
 returns-in-Line-clause-told g c =
@@ -80,4 +80,4 @@ returns-in-Line-clause-told g c =
     line_comes c.self.inside.ear new c.self.inside.reader c.self.inside.gathered c.feed-heard.result.event c.args.octet c.feed-heard.result.taken
     c.args.self.now.ear c.args.last.now c.self.invariant
     (c.feed-heard.ensures.some (omega arith)) c.feed-heard.ensures.within c.feed-heard.ensures.hears (sym (ap (λ h. h.ear) c.self.view_is))
-    ∙ ap (λ e. line_behind (event_list e (line_of new)) c.args.last.now) c.in-Line.is)
+    ∙ ap (λ e. line_behind (event_list e (lent_line new)) c.args.last.now) c.in-Line.is)

@@ -26,7 +26,7 @@ use denote.Triple.Spec.{Meets, triple_of}
 use denote.Triple.Table.{entered}
 use denote.Triple.Walked.{says, Stays, stay_ref, walk_of, AllGo, Goes-ref, Walks, ends_at, walked, walk_Meets}
 use Rattle.ftp_disk_tree.specs.declared.record.Record.{Record}
-use Rattle.ftp_disk_tree.specs.Note.{event_of, taken}
+use Rattle.ftp_disk_tree.specs.Note.{noted_event, taken}
 use Rattle.ftp_disk_tree.specs.contracts.record.Record as T
 use Rattle.ftp_disk_tree.specs.declared.answer.Answer.{Answer}
 use Rattle.ftp_disk_tree.specs.contracts.answer.Answer as E
@@ -52,7 +52,7 @@ module _ {M : Type 1} {𝓤 : Ura M} (𝓛 : Logic 𝓤) (at_mem : Memory → SP
   x = (record { ref_ptr = (b, o); ghost_name = γ; now = h }, (k, (s, tt)))
 
   abbrev h' : Record
-  h' = record { marker = h.marker; events = event_of k.now (taken s.now.events) ∷ h.events }
+  h' = record { marker = h.marker; events = noted_event k.now (taken s.now.events) ∷ h.events }
 
   abbrev at : List Val × (List Val × (List Val × Unit {0}))
   at = (vptr b o ∷ [], (vptr k.ref_ptr.0 k.ref_ptr.1 ∷ [], (vptr s.ref_ptr.0 s.ref_ptr.1 ∷ [], tt)))

@@ -4,7 +4,7 @@ use Rattle.ftp_mode.specs.declared.deframer.Gave.{Gave}
 use Rattle.ftp_mode.specs.declared.deframer.Gave.TheVariants.{Nothing, Octets}
 use Rattle.ftp_mode.specs.Said.{Said, octets_said}
 use Rattle.ftp_mode.specs.Count.{count_on}
-use Rattle.ftp_mode.specs.Deframing.{reading, owed, owed_said, last_marker, gave_said, Moves, SaysLast, reading_of}
+use Rattle.ftp_mode.specs.Deframing.{reading, owed, owed_said, last_marker, gave_said, MovesReading, SaysLast, reading_of}
 use Rattle.ftp_pieces.specs.Machine.{gives}
 use Rattle.ftp_mode.specs.Reading.{reader, plain}
 use Rattle.ftp_mode.proofs.ReaderRuns.{run_gives, plain_runs}
@@ -22,8 +22,8 @@ returns c =
     let some : 0 < length front = omega (arith, c.requires.some, len) in
     let place : new.place ≡ count_on old.place (length front) = c.moved.ensures.place ∙ ap (count_on old.place) (sym len) in
     let none : owed new ≡ [] = ap owed_said c.moved.ensures.owes ∙ c.requires.owes in
-    let P : Gave → List Said → Type 0 = λ g l. Moves (reading old) (reading new) front (gave_said g front (last_marker new) ++ l) in
-    let Q : List Said → Type 0 = λ l. Moves (reading old) (reading new) front l in
+    let P : Gave → List Said → Type 0 = λ g l. MovesReading (reading old) (reading new) front (gave_said g front (last_marker new) ++ l) in
+    let Q : List Said → Type 0 = λ l. MovesReading (reading old) (reading new) front l in
     record {
       fine = elim c.requires.place [
         | inl h ↦ going_by old.state new.state new.place (last_marker new) (inr (inl h.0)) c.moved.ensures.state

@@ -1,7 +1,7 @@
 use Rattle.std.proofs.Common.{◌≡◌, ◌++◌, ◌+◌, ◌<◌, List, ℕ, [], length, take, drop, get_or, refl, sym, ap, subst, ◌∙◌, arith, inl, inr, append-nil}
 use Rattle.std.proofs.lemmas.List.{length-take-le}
 use Rattle.ftp_mode.specs.Said.{Said}
-use Rattle.ftp_mode.specs.Deframing.{reading, owed, last_marker, part_said, gave_said, Moves, Refuses, SaysLast}
+use Rattle.ftp_mode.specs.Deframing.{reading, owed, last_marker, part_said, gave_said, MovesReading, Refuses, SaysLast}
 use Rattle.ftp_mode.proofs.BiteLemmas.{next_bite, next_within, next_last, last_more, one_last, heard, same_going, owes_some, refused_at}
 use Rattle.ftp_mode.proofs.deframer.Deframer.feed.Goals as goal
 
@@ -49,7 +49,7 @@ returns-in-Some-owed_part c =
     let bites = c.in-Ok.ensures.ok in
     let part = c.in-Some-owed_part.part in
     let gave : gave_said bite.gave (take bite.taken rest) (last_marker mid) ++ owed mid ≡ owed mid = ap (λ g. gave_said g (take bite.taken rest) (last_marker mid) ++ owed mid) c.in_default-part_of.ensures.none in
-    let P : List Said → Type 0 = λ l. Moves (reading old) (reading mid) (take (c.loop-at.at + bite.taken) c.args.piece.now) l in
+    let P : List Said → Type 0 = λ l. MovesReading (reading old) (reading mid) (take (c.loop-at.at + bite.taken) c.args.piece.now) l in
     let one : length (part_said part (last_marker new)) ≡ 1 = c.in-Some-owed_part.ensures.one (last_marker new) in
     let alone : bite.taken ≡ 1 = elim (bites.alone c.in_default-part_of.ensures.none) [
       | inl e ↦ e
@@ -80,7 +80,7 @@ loop-at-preserved c =
     let same : c.owed_part-in-loop-at.new.self ≡ mid = c.in_default-owed_part.ensures.owes in
     let gave : gave_said bite.gave (take bite.taken rest) (last_marker mid) ++ owed mid ≡ [] =
     ap (λ g. gave_said g (take bite.taken rest) (last_marker mid) ++ owed mid) c.in_default-part_of.ensures.none ∙ none in
-    let P : List Said → Type 0 = λ l. Moves (reading old) (reading mid) (take (c.loop-at.at + bite.taken) c.args.piece.now) l in
+    let P : List Said → Type 0 = λ l. MovesReading (reading old) (reading mid) (take (c.loop-at.at + bite.taken) c.args.piece.now) l in
     let moves : P [] = subst P gave (next_bite old c.loop-at.self mid c.args.piece.now rest c.loop-at.at bite c.split_at.ensures.back c.loop-at.invariant.quiet bites) in
     record {
       within = next_within c.loop-at.self mid c.args.piece.now rest c.loop-at.at bite c.split_at.ensures.back c.loop-at-test.true bites;

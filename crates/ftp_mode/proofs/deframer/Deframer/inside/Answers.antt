@@ -3,7 +3,7 @@ use Rattle.std.proofs.lemmas.List.{length-take-le}
 use Rattle.ftp_mode.specs.Said.{Said, octets_said}
 use Rattle.ftp_mode.specs.Block.{ends_of}
 use Rattle.ftp_mode.specs.Count.{count_on}
-use Rattle.ftp_mode.specs.Deframing.{reading, reading_of, owed, owed_said, last_marker, Moves}
+use Rattle.ftp_mode.specs.Deframing.{reading, reading_of, owed, owed_said, last_marker, MovesReading}
 use Rattle.ftp_mode.specs.declared.deframer.State.TheVariants.{Inside}
 use Rattle.ftp_mode.proofs.BiteLemmas.{short_moves, full_moves, closed_going, run_last, inside_gives}
 use Rattle.ftp_mode.proofs.deframer.Deframer.inside.Goals as goal
@@ -22,7 +22,7 @@ returns-then-piece-left c =
     let place : mid.place ≡ count_on old.place (length front) = c.moved.ensures.place ∙ ap (count_on old.place) (sym len) in
     let none : owed_said mid.owed ≡ [] = ap owed_said c.moved.ensures.owes ∙ c.requires.owes in
     let said : octets_said front ≡ octets_said front ++ owed_said mid.owed = sym (ap (λ l. octets_said front ++ l) none ∙ append-nil (octets_said front)) in
-    let Q : List Said → Type 0 = λ l. Moves (reading old) (reading_of (Inside c.args.descriptor rest) mid.place (last_marker mid)) front l in
+    let Q : List Said → Type 0 = λ l. MovesReading (reading old) (reading_of (Inside c.args.descriptor rest) mid.place (last_marker mid)) front l in
     record {
       fine = tt;
       some = c.requires.some;
@@ -45,7 +45,7 @@ returns c =
     let len : length front ≡ n = length-take-le n piece c.if-piece-left.false in
     let place : c.moved-2.new.self.place ≡ count_on old.place (length front) = c.moved-2.ensures.place ∙ ap (count_on old.place) (sym len) in
     let said : octets_said front ++ ends_of c.args.descriptor ≡ octets_said front ++ owed new = ap (λ l. octets_said front ++ l) (sym c.close.ensures.owes) in
-    let Q : List Said → Type 0 = λ l. Moves (reading old) (reading new) front l in
+    let Q : List Said → Type 0 = λ l. MovesReading (reading old) (reading new) front l in
     record {
       fine = closed_going (reading new) _ _ c.close.ensures.state;
       some = omega arith;

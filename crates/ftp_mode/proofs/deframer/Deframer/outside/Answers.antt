@@ -2,7 +2,7 @@ use Rattle.std.proofs.Common.{◌≡◌, ◌++◌, ◌<◌, List, [], length, ta
 use Rattle.std.proofs.lemmas.List.{length-take-le}
 use Rattle.ftp_mode.specs.Said.{Said, octets_said}
 use Rattle.ftp_mode.specs.Count.{count_on}
-use Rattle.ftp_mode.specs.Deframing.{reading, owed, owed_said, last_marker, Moves}
+use Rattle.ftp_mode.specs.Deframing.{reading, owed, owed_said, last_marker, MovesReading}
 use Rattle.ftp_mode.proofs.BiteLemmas.{outside_moves, going_by, run_last, outside_gives}
 use Rattle.ftp_mode.proofs.deframer.Deframer.outside.Goals as goal
 
@@ -18,7 +18,7 @@ returns-then-run-gt0 c =
     let place : new.place ≡ count_on old.place (length front) = c.moved.ensures.place ∙ ap (count_on old.place) (sym len) in
     let none : owed new ≡ [] = ap owed_said c.moved.ensures.owes ∙ c.requires.owes in
     let said : octets_said front ≡ octets_said front ++ owed new = sym (ap (λ l. octets_said front ++ l) none ∙ append-nil (octets_said front)) in
-    let Q : List Said → Type 0 = λ l. Moves (reading old) (reading new) front l in
+    let Q : List Said → Type 0 = λ l. MovesReading (reading old) (reading new) front l in
     record {
       fine = going_by old.state new.state new.place (last_marker new) (inl c.requires.place) c.moved.ensures.state;
       some = c.if-run-gt0.true;

@@ -1,16 +1,16 @@
 use Rattle.std.proofs.Common.{rules, arith, length, take, get_or, ◌≡◌, ◌<◌, ◌≤◌, ◌+◌, ◌∷◌, [], ◌++◌, ◌∙◌, ap, sym, subst, refl, false, ℕ, List, ◌==◌}
 use Rattle.std.proofs.lemmas.Grind.{take_at_read}
 use Rattle.memchr.specs.Find.{is_byte2}
-use Rattle.ftp_nvt.specs.Lines.{Lacks}
+use Rattle.ftp_nvt.specs.Lines.{IsNoneOf}
 use Rattle.ftp_nvt.proofs.BufferLemmas.{skip_reads, skip_through}
 use Rattle.ftp_nvt.proofs.CutLemmas.{all_take, all_append, first_false, second_false}
 use Rattle.ftp_nvt.proofs.line.LineBuffer.skip.Goals as goal
 
-no_line_end : (piece : List ℕ) (run : ℕ) → run ≤ length piece → ((k : ℕ) → k < run → is_byte2 10 255 (get_or piece k 0) ≡ false) → Lacks 10 (take run piece)
+no_line_end : (piece : List ℕ) (run : ℕ) → run ≤ length piece → ((k : ℕ) → k < run → is_byte2 10 255 (get_or piece k 0) ≡ false) → IsNoneOf 10 (take run piece)
 no_line_end piece run within plain =
     all_take (λ x. (x == 10) ≡ false) piece run within (λ k less. first_false _ (get_or piece k 0 == 255) (plain k less))
 
-no_command : (piece : List ℕ) (run : ℕ) → run ≤ length piece → ((k : ℕ) → k < run → is_byte2 10 255 (get_or piece k 0) ≡ false) → Lacks 255 (take run piece)
+no_command : (piece : List ℕ) (run : ℕ) → run ≤ length piece → ((k : ℕ) → k < run → is_byte2 10 255 (get_or piece k 0) ≡ false) → IsNoneOf 255 (take run piece)
 no_command piece run within plain =
     all_take (λ x. (x == 255) ≡ false) piece run within (λ k less. second_false (get_or piece k 0 == 10) _ (plain k less))
 
@@ -25,7 +25,7 @@ returns-then-piece-taken-eq-LF g c = record {
       let piece = c.args.piece.now in
       let run = c.skipped_run-taken.result in
       let skipped = c.skipped_run-taken.ensures in
-      subst (λ l. Lacks 255 l) (sym (line_end_behind piece run c.if-taken-piece.true c.if-piece-taken-eq-LF.true))
+      subst (λ l. IsNoneOf 255 l) (sym (line_end_behind piece run c.if-taken-piece.true c.if-piece-taken-eq-LF.true))
       (all_append _ (take run piece) (10 ∷ []) (no_command piece run skipped.within skipped.plain) (refl, tt));
   reads =
       let piece = c.args.piece.now in

@@ -1,8 +1,8 @@
 use Rattle.std.proofs.Common.{◌∙◌, ◌≡◌, true, false, ap, subst}
-use Rattle.ftp_pair_events.specs.events.Calm.{Keeps, tally_of}
+use Rattle.ftp_pair_events.specs.events.Calm.{KeepsTally, tally_of}
 use Rattle.ftp_pair_events.specs.events.Happening.{Progresses}
 use Rattle.ftp_pair_events.specs.events.Shown.{shown}
-use Rattle.laws_settling.specs.Steady.{IsSteady}
+use Rattle.laws_settling.specs.Steady.{IsSteadyWorld}
 use Rattle.laws_world.specs.Still.{IsStill}
 use Rattle.ftp_pair.specs.Session.{Seen, seen}
 use Rattle.ftp_pair.proofs.Reaching.{reached_calm, reached_steady, reached_turn}
@@ -23,7 +23,7 @@ returns-clause-same g c is = ap (seen g.N.Near.client g.F.Far.server) (c.turn.en
 
 pub returns-clause-steady : goal.returns-clause-steady
 returns-clause-steady g c =
-    subst (λ (s : Seen). s.calm ≡ true → ∥ IsSteady s.world ∥₁) c.self.view_is
+    subst (λ (s : Seen). s.calm ≡ true → ∥ IsSteadyWorld s.world ∥₁) c.self.view_is
     (λ calm. reached_steady (shown g.N.Near.client g.F.Far.server c.self.inside.parts) (reached_calm (seen g.N.Near.client g.F.Far.server c.self.inside.parts) c.self.inside.reached calm))
 
 pub invariant_of-self-inside : goal.invariant_of-self-inside
@@ -35,4 +35,4 @@ invariant_of-self-inside g c = (
 
 pub returns-clause-counted : goal.returns-clause-counted
 returns-clause-counted g c =
-    subst (λ (s : Seen). Keeps 12312 s.calm c.turn.new.self.calm s.tally (tally_of g.N.Near.client g.F.Far.server c.turn.new.self)) c.self.view_is c.turn.ensures.counted
+    subst (λ (s : Seen). KeepsTally 12312 s.calm c.turn.new.self.calm s.tally (tally_of g.N.Near.client g.F.Far.server c.turn.new.self)) c.self.view_is c.turn.ensures.counted

@@ -1,7 +1,7 @@
 use Rattle.std.proofs.Common.{◌++◌, ◌<◌, ◌+◌, ℕ, length, vec_capacity, sym, ap, ◌∙◌, subst, append_assoc, arith}
 use Rattle.std.proofs.lemmas.Result.{err_from_is_err_and}
 use Rattle.ftp_repr.specs.Items.{signs}
-use Rattle.ftp_repr.specs.Received.{HasNoRoom, settled_by, lent_octets}
+use Rattle.ftp_repr.specs.Received.{SignsLackRoom, settled_by, lent_octets}
 use Rattle.ftp_repr.proofs.LendLemmas.{lends_rest, no_room_part}
 use Rattle.ftp_repr.proofs.receiver.Receiver.add.Goals as goal
 
@@ -11,7 +11,7 @@ returns-in_err-put-clause-full g c =
     let out = c.loop-rest.out in
     let lent = lent_octets c.next-lent.result in
     let rest = lends_rest c.loop-rest.self c.next-lent.new.self (signs c.loop-rest.rest) c.next-lent.result c.next-lent.ensures in
-    let T : ℕ → Type 0 = λ n. HasNoRoom c.args.self.now (signs c.args.item) (vec_capacity c.args.out.now) n in
+    let T : ℕ → Type 0 = λ n. SignsLackRoom c.args.self.now (signs c.args.item) (vec_capacity c.args.out.now) n in
     let Q : ℕ → Type 0 = λ n. vec_capacity out < n + length lent in
     rw p.1 (subst T (sym c.args.out.now.ok.0)
     (no_room_part c.args.self.now (signs c.args.item) lent c.args.out.now.items out.items (settled_by c.next-lent.new.self (signs c.next-lent.result.rest)) (vec_capacity c.args.out.now) (vec_capacity out)

@@ -1,6 +1,6 @@
 use Rattle.std.proofs.Common.{None, refl, subst, ap, ◌∙◌}
 use Rattle.ftp_ends.specs.Ear.{Ear, ear_out, ear_step}
-use Rattle.ftp_nvt.specs.Ear.{line_of}
+use Rattle.ftp_nvt.specs.Ear.{lent_line}
 use Rattle.ftp_nvt.specs.Fold.{ear_of}
 use Rattle.ftp_nvt.specs.Lines.{line, too_long}
 use Rattle.ftp_server_model.specs.Failing.{LineIsHeard}
@@ -18,7 +18,7 @@ with_ear v e = record v { ear = e }
 pub returns-in-Line-clause-lost : goal.returns-in-Line-clause-lost
 returns-in-Line-clause-lost g c =
     let v = view_of g.T.Tree.table g.J.ServerTransfer.view c.args.self.now in let w = view_of g.T.Tree.table g.J.ServerTransfer.view c.hear_text.new.self in
-    let text = line_of c.hear.new.self.ear in
+    let text = lent_line c.hear.new.self.ear in
     on_err c.hear_text.result
     (λ h course read is. one_event read (line text) (ear_out line_limit v.ear c.args.octet) (with_ear v (ear_step line_limit v.ear c.args.octet)) w c.in-Line.ensures.out
     (subst (λ e. LineIsHeard (read text) (with_ear v e) w) c.hear.ensures.step (h course read is)))
@@ -37,7 +37,7 @@ pub returns-in-Line-clause-done : goal.returns-in-Line-clause-done
 unfolding hears_octet
 returns-in-Line-clause-done g c =
     let v = view_of g.T.Tree.table g.J.ServerTransfer.view c.args.self.now in
-    let text = line_of c.hear.new.self.ear in
+    let text = lent_line c.hear.new.self.ear in
     on_ok c.hear_text.result
     (λ e course read is. e course read is ∙ ap (λ k. heard_line (read text) (with_ear v k)) c.hear.ensures.step
     ∙ ap (λ events. heard_events read events (with_ear v (ear_step line_limit v.ear c.args.octet))) c.in-Line.ensures.out)
@@ -47,7 +47,7 @@ pub returns-in-Line-clause-told : goal.returns-in-Line-clause-told
 unfolding heard_by_octet
 returns-in-Line-clause-told g c =
     let v = view_of g.T.Tree.table g.J.ServerTransfer.view c.args.self.now in
-    let text = line_of c.hear.new.self.ear in
+    let text = lent_line c.hear.new.self.ear in
     on_ok c.hear_text.result
     (λ e course read is. e course read is ∙ ap (λ k. heard_by_line (read text) (with_ear v k)) c.hear.ensures.step
     ∙ ap (λ events. heard_by_events read None events (with_ear v (ear_step line_limit v.ear c.args.octet))) c.in-Line.ensures.out)

@@ -1,6 +1,6 @@
 use Rattle.std.proofs.Common.{◌≡◌, ◌∙◌, List, Option, Some, ap, arith, false, subst, sym, ℕ}
 use Rattle.ftp_server_model.specs.Failing.{LineFails}
-use Rattle.ftp_server_model.specs.Heard.{Heard, code_said, unanswered}
+use Rattle.ftp_server_model.specs.Heard.{Heard, reply_code_said, unanswered}
 use Rattle.ftp_server_model.specs.Machine.{completed, obeyed, replied, turned, with_session}
 use Rattle.ftp_server_model.specs.View.{Session, View}
 use Rattle.ftp_server_model.specs.declared.heard.HeardLine.{HeardLine}
@@ -92,4 +92,4 @@ returns-in-Ok-clause-told g c = λ course.
     let session = session_of table view c.decide.new.self in
     ap Some (c.answered.ensures ∙ ap (λ line. coded line c.reply_code.result) c.of-told.ensures
     ∙ ap (coded (unanswered c.args.heard)) (c.reply_code.ensures session
-    ∙ ap code_said ((c.in-Ok.ensures.idle free).0 (ap (λ n. n.failures.strays) (sym c.complete.ensures.steady) ∙ course))))
+    ∙ ap reply_code_said ((c.in-Ok.ensures.idle free).0 (ap (λ n. n.failures.strays) (sym c.complete.ensures.steady) ∙ course))))

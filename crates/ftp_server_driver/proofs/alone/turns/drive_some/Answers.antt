@@ -7,7 +7,7 @@ use Rattle.ftp_driver.specs.Calling.{Ends, TurnsTo}
 use Rattle.ftp_driver.specs.Standing.{channel_at}
 use Rattle.ftp_driver.specs.declared.drive.Turned.TheVariants as Turns
 use Rattle.ftp_server_driver.proofs.alone.Ending.{drove, ends_from, finishes}
-use Rattle.ftp_server_driver.specs.alone.Driving.{IsDone}
+use Rattle.ftp_server_driver.specs.alone.Driving.{IsFoundDone}
 use Rattle.ftp_server_driver.specs.alone.Side.{beside, server_machine, timed}
 use Rattle.ftp_server_driver.proofs.alone.turns.drive_some.Goals as goal
 
@@ -19,9 +19,9 @@ returns-in-Over-clause-drives g c start unwritten untold first =
     let stand = beside g.R.Read.remaining g.W.Write.contents in
     let old = stand (held (here c.args.clocked.now) (channel (g.P.Ports.history c.args.ports.now) c.args.data.now [])) c.args.control.now in
     let off = stand (held (here turned.new.end) (channel (g.P.Ports.history turned.new.ports) turned.new.data [])) turned.new.control in
-    let ends : Ends server_machine (λ (over : ⊤) old new. IsDone old new) old off (Ok c.in-Over.over) =
-    subst (λ t. TurnsTo server_machine (λ over old new. IsDone old new) c.args.most old off (Ok t)) c.in-Over.is
-    (subst (λ r. TurnsTo server_machine (λ over old new. IsDone old new) c.args.most old off r) c.in-Ok.is turned.ensures.turns) in
+    let ends : Ends server_machine (λ (over : ⊤) old new. IsFoundDone old new) old off (Ok c.in-Over.over) =
+    subst (λ t. TurnsTo server_machine (λ over old new. IsFoundDone old new) c.args.most old off (Ok t)) c.in-Over.is
+    (subst (λ r. TurnsTo server_machine (λ over old new. IsFoundDone old new) c.args.most old off r) c.in-Ok.is turned.ensures.turns) in
     drove start off _ (Ok c.in-Over.over) c.in-Over.over c.leave.ensures.left.0 unwritten untold refl (ends_from start old off (Ok c.in-Over.over) first ends)
     c.leave.ensures.left.1 c.leave.ensures.left.2
 
@@ -41,11 +41,11 @@ returns-in-Err-clause-drives g c start unwritten untold first =
     let old = stand (held (here c.args.clocked.now) (channel (g.P.Ports.history c.args.ports.now) c.args.data.now [])) c.args.control.now in
     let off = stand (held (here turned.new.end) (channel history turned.new.data [])) turned.new.control in
     let failed : Result ⊤ Cause = Err c.in-Err.cause in
-    let ends : Ends server_machine (λ (over : ⊤) old new. IsDone old new) old off failed =
-    subst (λ r. TurnsTo server_machine (λ over old new. IsDone old new) c.args.most old off r) c.in-Err.is turned.ensures.turns in
+    let ends : Ends server_machine (λ (over : ⊤) old new. IsFoundDone old new) old off failed =
+    subst (λ r. TurnsTo server_machine (λ over old new. IsFoundDone old new) c.args.most old off r) c.in-Err.is turned.ensures.turns in
     record {
       off = off;
-      breaks = breaks_off server_machine start unwritten untold (λ over old new. IsDone old new) true turned.new.control.failed off failed c.in-Err.cause refl
+      breaks = breaks_off server_machine start unwritten untold (λ over old new. IsFoundDone old new) true turned.new.control.failed off failed c.in-Err.cause refl
           (ends_from start old off failed first ends) (rw c.in-Err.is at turned.ensures.why);
       stays = refl;
       cut = held (here c.cut.new.end) (channel history c.cut.new.self []);
@@ -64,9 +64,9 @@ returns-in-Over-clause-made g c =
     let stand = beside g.R.Read.remaining g.W.Write.contents in
     let old = stand (held (here c.args.clocked.now) (channel (g.P.Ports.history c.args.ports.now) c.args.data.now [])) c.args.control.now in
     let off = stand (held (here turned.new.end) (channel (g.P.Ports.history turned.new.ports) turned.new.data [])) turned.new.control in
-    let ends : Ends server_machine (λ (over : ⊤) old new. IsDone old new) old off (Ok c.in-Over.over) =
-    subst (λ t. TurnsTo server_machine (λ over old new. IsDone old new) c.args.most old off (Ok t)) c.in-Over.is
-    (subst (λ r. TurnsTo server_machine (λ over old new. IsDone old new) c.args.most old off r) c.in-Ok.is turned.ensures.turns) in
+    let ends : Ends server_machine (λ (over : ⊤) old new. IsFoundDone old new) old off (Ok c.in-Over.over) =
+    subst (λ t. TurnsTo server_machine (λ over old new. IsFoundDone old new) c.args.most old off (Ok t)) c.in-Over.is
+    (subst (λ r. TurnsTo server_machine (λ over old new. IsFoundDone old new) c.args.most old off r) c.in-Ok.is turned.ensures.turns) in
     finishes old off _ c.in-Over.over c.leave.ensures.left.0 ends c.leave.ensures.left.1 c.leave.ensures.left.2
 
 pub returns-in-Later-clause-made : goal.returns-in-Later-clause-made

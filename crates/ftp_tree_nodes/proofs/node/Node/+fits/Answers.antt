@@ -3,7 +3,7 @@ use Rattle.std.specs.List.{list_all}
 use Rattle.std.proofs.lemmas.Bool.{and_parts, and_from, true≢false}
 use Rattle.std.proofs.lemmas.List.{take_all}
 use Rattle.ftp_path.specs.Path.{is_component, is_name}
-use Rattle.ftp_tree_nodes.specs.Branch.{IsBranch, IsDirectory, branch_table, part, parts, parts_table}
+use Rattle.ftp_tree_nodes.specs.Branch.{IsBranch, IsDirectory, branch_table, part_of_child, parts, parts_table}
 use Rattle.ftp_tree.specs.Text.{is_within_room, is_short}
 use Rattle.ftp_tree.specs.Map.{Map, node_at}
 use Rattle.ftp_tree_nodes.specs.declared.node.Child.{Child}
@@ -28,8 +28,8 @@ module _ {A C : Type 0} (room nodes octets : ℕ) (items lent : List (Box (Child
   -- one more that is within the room, or one that is not
   more-fits : here ≡ true → all-parts (is_within_room room) (parts (take place lent)) ≡ true → all-parts (is_within_room room) (parts (take (place + 1) lent)) ≡ true
   more-fits fits before =
-      ap (all-parts (is_within_room room)) (parts-more lent place x within there) ∙ all-parts-append (is_within_room room) (parts (take place lent)) (part x ∷ [])
-      ∙ and_from (all-parts (is_within_room room) (parts (take place lent))) _ before (all-parts-one (is_within_room room) (part x) ∙ fits)
+      ap (all-parts (is_within_room room)) (parts-more lent place x within there) ∙ all-parts-append (is_within_room room) (parts (take place lent)) (part_of_child x ∷ [])
+      ∙ and_from (all-parts (is_within_room room) (parts (take place lent))) _ before (all-parts-one (is_within_room room) (part_of_child x) ∙ fits)
 
   one-long : (table : Map) → parts_table (parts items) ≡ table → here ≡ false → false ≡ list_all (is_within_room room) (fin.keys table)
   one-long table is long =
@@ -39,12 +39,12 @@ module _ {A C : Type 0} (room nodes octets : ℕ) (items lent : List (Box (Child
       none : all-parts (is_within_room room) (parts items) ≡ false
       none =
           ap (λ l. all-parts (is_within_room room) (parts l)) (sym same) ∙ ap (all-parts (is_within_room room)) (parts-split lent place x within there)
-          ∙ all-parts-append (is_within_room room) (parts (take place lent)) (part x ∷ parts (drop (suc place) lent))
+          ∙ all-parts-append (is_within_room room) (parts (take place lent)) (part_of_child x ∷ parts (drop (suc place) lent))
           ∙ false-where _ (λ all.
           let behind = (and_parts (all-parts (is_within_room room) (parts (take place lent))) _ all).1 in
-          let split = all-parts-append (is_within_room room) (part x ∷ []) (parts (drop (suc place) lent)) in
-          let first = (and_parts (all-parts (is_within_room room) (part x ∷ [])) _ (sym split ∙ behind)).0 in
-          true≢false (sym (sym (all-parts-one (is_within_room room) (part x)) ∙ first) ∙ long))
+          let split = all-parts-append (is_within_room room) (part_of_child x ∷ []) (parts (drop (suc place) lent)) in
+          let first = (and_parts (all-parts (is_within_room room) (part_of_child x ∷ [])) _ (sym split ∙ behind)).0 in
+          true≢false (sym (sym (all-parts-one (is_within_room room) (part_of_child x)) ∙ first) ∙ long))
 
 pub returns-in_default : goal.returns-in_default
 returns-in_default g t c =

@@ -3,7 +3,7 @@ use Rattle.std.specs.Box.{with_value}
 use Rattle.std.specs.FinMap.Entries.{find}
 use Rattle.std.proofs.lemmas.Grind.{common_steps}
 use Rattle.ftp_path.specs.Kept.{names_of}
-use Rattle.ftp_tree_nodes.specs.Branch.{HasGap, IsBranch, StandsAt, branch_table, file_alone, found, name_cmp, parts, parts_table}
+use Rattle.ftp_tree_nodes.specs.Branch.{HasGap, IsBranch, NameStandsAt, branch_table, file_alone, found, name_cmp, parts, parts_table}
 use Rattle.ftp_tree.specs.Map.{Map, octets_in, under, with_part}
 use Rattle.ftp_tree_nodes.proofs.BranchLemmas.{but, but-name, directory-as, file-under, is-gone, len-empty, none-below, octets-empty, takes-below, takes-nothing, under-name}
 use Rattle.ftp_tree_nodes.proofs.NameLemmas.{changed-child, find-gap, gone-child}
@@ -81,7 +81,7 @@ without-requires-clause-nodes g t c =
     let rest = names_of c.first_name.result.1.now in
     let kept = subst IsBranch c.in-Dir.is c.self.invariant in
     let gone = is-gone (parts items) n c.in-Dir.count.nodes c.in-Dir.count.octets kept in
-    let stands = subst (λ l. StandsAt (parts l) n c.in-Ok.at) c.as_slice.ensures.value c.in-Ok.ensures.there in
+    let stands = subst (λ l. NameStandsAt (parts l) n c.in-Ok.at) c.as_slice.ensures.value c.in-Ok.ensures.there in
     let is : parts c.remove_child-node.new.children.items ≡ but n (parts items) = gone-child items c.remove_child-node.new.children.items n c.in-Ok.at kept.sorted stands c.remove_child-node.ensures.left in
     let taken : c.remove_child-node.result ≡ found (find name_cmp n (parts items)) = ap found (c.remove_child-node.ensures.node n stands) in
     omega (arith, gone.nodes_fit, c.count.ensures.nodes, ap fin.len taken)
@@ -93,7 +93,7 @@ without-requires-clause-octets g t c =
     let rest = names_of c.first_name.result.1.now in
     let kept = subst IsBranch c.in-Dir.is c.self.invariant in
     let gone = is-gone (parts items) n c.in-Dir.count.nodes c.in-Dir.count.octets kept in
-    let stands = subst (λ l. StandsAt (parts l) n c.in-Ok.at) c.as_slice.ensures.value c.in-Ok.ensures.there in
+    let stands = subst (λ l. NameStandsAt (parts l) n c.in-Ok.at) c.as_slice.ensures.value c.in-Ok.ensures.there in
     let is : parts c.remove_child-node.new.children.items ≡ but n (parts items) = gone-child items c.remove_child-node.new.children.items n c.in-Ok.at kept.sorted stands c.remove_child-node.ensures.left in
     let taken : c.remove_child-node.result ≡ found (find name_cmp n (parts items)) = ap found (c.remove_child-node.ensures.node n stands) in
     omega (arith, gone.octets_fit, c.count.ensures.octets, ap octets_in taken)
@@ -105,7 +105,7 @@ invariant_of-self-then-is_empty g t c =
     let rest = names_of c.first_name.result.1.now in
     let kept = subst IsBranch c.in-Dir.is c.self.invariant in
     let gone = is-gone (parts items) n c.in-Dir.count.nodes c.in-Dir.count.octets kept in
-    let stands = subst (λ l. StandsAt (parts l) n c.in-Ok.at) c.as_slice.ensures.value c.in-Ok.ensures.there in
+    let stands = subst (λ l. NameStandsAt (parts l) n c.in-Ok.at) c.as_slice.ensures.value c.in-Ok.ensures.there in
     let is : parts c.remove_child-node.new.children.items ≡ but n (parts items) = gone-child items c.remove_child-node.new.children.items n c.in-Ok.at kept.sorted stands c.remove_child-node.ensures.left in
     let taken : c.remove_child-node.result ≡ found (find name_cmp n (parts items)) = ap found (c.remove_child-node.ensures.node n stands) in
     directory-as _ _ _ _ _ _ gone.directory is (c.without.ensures.nodes ∙ ap (λ k. c.in-Dir.count.nodes - k) (c.count.ensures.nodes ∙ ap fin.len taken))
@@ -118,7 +118,7 @@ returns-then-is_empty-clause-taken g t c =
     let rest = names_of c.first_name.result.1.now in
     let kept = subst IsBranch c.in-Dir.is c.self.invariant in
     let gone = is-gone (parts items) n c.in-Dir.count.nodes c.in-Dir.count.octets kept in
-    let stands = subst (λ l. StandsAt (parts l) n c.in-Ok.at) c.as_slice.ensures.value c.in-Ok.ensures.there in
+    let stands = subst (λ l. NameStandsAt (parts l) n c.in-Ok.at) c.as_slice.ensures.value c.in-Ok.ensures.there in
     let is : parts c.remove_child-node.new.children.items ≡ but n (parts items) = gone-child items c.remove_child-node.new.children.items n c.in-Ok.at kept.sorted stands c.remove_child-node.ensures.left in
     let taken : c.remove_child-node.result ≡ found (find name_cmp n (parts items)) = ap found (c.remove_child-node.ensures.node n stands) in
     let whole : parts_table (parts items) ≡ c.args.self.now = ap (branch_table g.C.Holder.octets) (sym c.in-Dir.is) ∙ c.self.view_is in
@@ -134,7 +134,7 @@ returns-then-is_empty-clause-left g t c =
     let rest = names_of c.first_name.result.1.now in
     let kept = subst IsBranch c.in-Dir.is c.self.invariant in
     let gone = is-gone (parts items) n c.in-Dir.count.nodes c.in-Dir.count.octets kept in
-    let stands = subst (λ l. StandsAt (parts l) n c.in-Ok.at) c.as_slice.ensures.value c.in-Ok.ensures.there in
+    let stands = subst (λ l. NameStandsAt (parts l) n c.in-Ok.at) c.as_slice.ensures.value c.in-Ok.ensures.there in
     let is : parts c.remove_child-node.new.children.items ≡ but n (parts items) = gone-child items c.remove_child-node.new.children.items n c.in-Ok.at kept.sorted stands c.remove_child-node.ensures.left in
     let taken : c.remove_child-node.result ≡ found (find name_cmp n (parts items)) = ap found (c.remove_child-node.ensures.node n stands) in
     let whole : parts_table (parts items) ≡ c.args.self.now = ap (branch_table g.C.Holder.octets) (sym c.in-Dir.is) ∙ c.self.view_is in
@@ -150,7 +150,7 @@ returns-then-is_empty-clause-counted g t c =
     let rest = names_of c.first_name.result.1.now in
     let kept = subst IsBranch c.in-Dir.is c.self.invariant in
     let gone = is-gone (parts items) n c.in-Dir.count.nodes c.in-Dir.count.octets kept in
-    let stands = subst (λ l. StandsAt (parts l) n c.in-Ok.at) c.as_slice.ensures.value c.in-Ok.ensures.there in
+    let stands = subst (λ l. NameStandsAt (parts l) n c.in-Ok.at) c.as_slice.ensures.value c.in-Ok.ensures.there in
     let is : parts c.remove_child-node.new.children.items ≡ but n (parts items) = gone-child items c.remove_child-node.new.children.items n c.in-Ok.at kept.sorted stands c.remove_child-node.ensures.left in
     let taken : c.remove_child-node.result ≡ found (find name_cmp n (parts items)) = ap found (c.remove_child-node.ensures.node n stands) in
     let whole : parts_table (parts items) ≡ c.args.self.now = ap (branch_table g.C.Holder.octets) (sym c.in-Dir.is) ∙ c.self.view_is in (

@@ -2,7 +2,7 @@ use Rattle.std.proofs.Common.{◌≡◌, ◌+◌, ◌-◌, ◌<◌, ℕ, List, l
 use Rattle.std.proofs.lemmas.List.{drop-drop}
 use Rattle.ftp_repr.specs.Signs.{Sign}
 use Rattle.ftp_repr.specs.Items.{signs}
-use Rattle.ftp_repr.specs.Received.{Lends, lent_octets, receiver_form, taking}
+use Rattle.ftp_repr.specs.Received.{Lends, lent_octets, receiver_form, taking_at_stage}
 use Rattle.ftp_mode.specs.Deframing.{reading}
 use Rattle.ftp_wire.specs.Taking.{decoder_at, settled, Stops}
 use Rattle.ftp_wire.proofs.SettleLemmas.{stops_at, settles_on, settled-add}
@@ -47,7 +47,7 @@ loop-item-preserved g c =
       rest = lends.rest ∙ ap (drop lent.taken) inv.rest ∙ drop-drop lent.taken done ss ∙ ap (λ n. drop n ss) (sym place);
       deframer = readers.0 ∙ inv.deframer;
       decoder = settles_on e (decoder_at octets new) c.loop-item.self.receiver c.next-lent.new.self left lent refl refl lends
-          (ap receiver_form readers.1) (ap reading readers.0) (ap taking readers.1) put
+          (ap receiver_form readers.1) (ap reading readers.0) (ap taking_at_stage readers.1) put
           ∙ ap (λ l. settled e (take lent.taken l)) inv.rest
           ∙ ap (λ x. settled x (take lent.taken (drop done ss))) inv.decoder
           ∙ sym (settled-add d ss done lent.taken) ∙ ap (λ n. settled d (take n ss)) (sym place);

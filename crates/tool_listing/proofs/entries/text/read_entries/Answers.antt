@@ -1,7 +1,7 @@
 use Rattle.std.proofs.Common.{rules, map, refl}
 use Rattle.ftp_facts.specs.Entry.{listed_of}
 use Rattle.ftp_facts.specs.Listing.{lines_of}
-use Rattle.tool_listing.specs.entries.Text.{entries_of, odd_of}
+use Rattle.tool_listing.specs.entries.Text.{entries_of, lines_without_entry}
 use Rattle.tool_listing.proofs.entries.TextLemmas.{entries_cut, line_more, none_left, odd_cut}
 use Rattle.tool_listing.proofs.entries.text.read_entries.Goals as goal
 
@@ -13,7 +13,7 @@ loop-rest-preserved c =
     let text = c.args.text.now in (
       line_more entries_of entries_cut (map listed_of c.loop-rest.entries.items) (map listed_of c.put_line.new.entries.items) (entries_of (lines_of text))
           rest line behind c.cut_line.ensures.lines c.in_ok-put_line.ensures.entries c.loop-rest.invariant.0,
-      line_more odd_of odd_cut c.loop-rest.odd.items c.put_line.new.odd.items (odd_of (lines_of text)) rest line behind c.cut_line.ensures.lines
+      line_more lines_without_entry odd_cut c.loop-rest.odd.items c.put_line.new.odd.items (lines_without_entry (lines_of text)) rest line behind c.cut_line.ensures.lines
           c.in_ok-put_line.ensures.odd c.loop-rest.invariant.1,
     )
 
@@ -24,4 +24,4 @@ returns-clause-entries c =
 
 pub returns-clause-odd : goal.returns-clause-odd
 returns-clause-odd c =
-    none_left odd_of refl c.loop-rest.odd.items (odd_of (lines_of c.args.text.now)) c.loop-rest.rest.now (search rules) c.loop-rest.invariant.1
+    none_left lines_without_entry refl c.loop-rest.odd.items (lines_without_entry (lines_of c.args.text.now)) c.loop-rest.rest.now (search rules) c.loop-rest.invariant.1

@@ -1,5 +1,5 @@
 use Rattle.std.proofs.Common.{false}
-use Rattle.tool_scheduler.specs.Rounds.{standing}
+use Rattle.tool_scheduler.specs.Rounds.{round_standing}
 use Rattle.tool_scheduler.proofs.RoundLemmas.{fewer_first, gives_first, takes_ready}
 use Rattle.tool_scheduler.proofs.rounds.Rounds.first_turns.Goals as goal
 
@@ -14,7 +14,7 @@ loop-place-preserved g c =
     let history = g.M.Slot.Slot.history in
     record {
       told = gives_first (history c.args.tree.now) (history c.loop-place.tree) (history c.give.new.tree)
-          (standing c.args.waiting.now c.args.order.now false) c.loop-place.waiting c.give.new.waiting c.loop-place.order c.take.new.self c.in-Some.place
+          (round_standing c.args.waiting.now c.args.order.now false) c.loop-place.waiting c.give.new.waiting c.loop-place.order c.take.new.self c.in-Some.place
           c.loop-place.invariant.told c.in-Some.ensures.taken c.give.ensures.first c.give.ensures.ready c.give.ensures.hosts c.give.ensures.told;
       first = c.give.ensures.taken_first c.loop-place.invariant.first;
       ready = c.give.ensures.taken c.loop-place.invariant.ready;

@@ -1,5 +1,5 @@
 use Rattle.std.proofs.Common.{false}
-use Rattle.tool_scheduler.specs.Rounds.{AreTaken, Comes, ones, standing}
+use Rattle.tool_scheduler.specs.Rounds.{HaveSlots, ComesMeanwhile, ones, round_standing}
 use Rattle.tool_scheduler.proofs.rounds.Rounds.first_turns.Given as goal
 
 -- what was told leads to how all wait now, and who is ready has a slot
@@ -7,9 +7,9 @@ abbrev pub invariant-loop-place : goal.invariant-loop-place
 invariant-loop-place g l =
     let history = g.M.Slot.Slot.history in
     record {
-      told : Comes (history l.fn.tree) (history l.tree) (standing l.fn.waiting l.fn.order false) (standing l.waiting l.order false);
-      first : AreTaken l.waiting.first l.self.table.slots.items;
-      ready : AreTaken l.waiting.ready l.self.table.slots.items;
+      told : ComesMeanwhile (history l.fn.tree) (history l.tree) (round_standing l.fn.waiting l.fn.order false) (round_standing l.waiting l.order false);
+      first : HaveSlots l.waiting.first l.self.table.slots.items;
+      ready : HaveSlots l.waiting.ready l.self.table.slots.items;
     }
 
 -- how many are ready whose address had no turn

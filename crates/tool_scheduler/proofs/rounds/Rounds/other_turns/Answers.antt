@@ -1,5 +1,5 @@
 use Rattle.std.proofs.Common.{false}
-use Rattle.tool_scheduler.specs.Rounds.{standing}
+use Rattle.tool_scheduler.specs.Rounds.{round_standing}
 use Rattle.tool_scheduler.proofs.RoundLemmas.{gives_other, takes_ready}
 use Rattle.tool_scheduler.proofs.rounds.Rounds.other_turns.Goals as goal
 
@@ -11,7 +11,7 @@ loop-preserved g c =
     let history = g.M.Slot.Slot.history in
     record {
       told = gives_other (history c.args.tree.now) (history c.loop.tree) (history c.give.new.tree)
-          (standing c.args.waiting.now c.args.order.now false) c.loop.waiting c.give.new.waiting c.loop.order c.take.new.self c.in-Some.place
+          (round_standing c.args.waiting.now c.args.order.now false) c.loop.waiting c.give.new.waiting c.loop.order c.take.new.self c.in-Some.place
           c.loop.invariant.told c.in-Some.ensures.taken c.give.ensures.first c.give.ensures.ready c.give.ensures.hosts c.give.ensures.told;
       ready = c.give.ensures.taken c.loop.invariant.ready;
     }

@@ -1,6 +1,6 @@
 use Rattle.std.proofs.Common.{◌≡◌, ◌≤◌, ◌-◌, ◌*◌}
 use Rattle.ftp_pair_events.specs.events.Calm.{Counted}
-use Rattle.ftp_pair_events.specs.events.Shown.{shown, Calmly, FillsSo, HasRoom, queue_of, len_of, room_of}
+use Rattle.ftp_pair_events.specs.events.Shown.{shown, Calmly, FillsSo, HasRoom, queue_of, len_of, queue_room_of}
 use Rattle.ftp_pair_events.proofs.events.parts.Parts.fill.Given as goal
 
 abbrev pub invariant-loop-self : goal.invariant-loop-self
@@ -9,7 +9,7 @@ invariant-loop-self g l = record {
   taken : l.self.taken ≡ l.fn.self.taken;
   report : HasRoom g.N.Near.client l.fn.self → HasRoom g.N.Near.client l.self;
   counted : Counted (3 * (l.count - (l.count - len_of l.queue l.self))) g.N.Near.client g.F.Far.server l.fn.self l.self;
-  room : l.count ≤ room_of l.queue l.self;
+  room : l.count ≤ queue_room_of l.queue l.self;
 }
 
 abbrev pub decreases-loop-self : goal.decreases-loop-self

@@ -4,7 +4,7 @@ use Rattle.std.specs.Vec.{with_item}
 use Rattle.ftp_server_calls.specs.one.Cues.{cue_of, gift_of}
 use Rattle.ftp_server_calls.proofs.several.LentLemmas.{err_both, ok_goes, slot-at, slot-same, slot-set, turned_gives}
 use Rattle.ftp_server_calls.specs.several.Lent.{Lent}
-use Rattle.ftp_server_calls.specs.several.Slots.{GivesIn, Slots, Turned, in_slot_of, slots_of}
+use Rattle.ftp_server_calls.specs.several.Slots.{GivesIn, Slots, SlotTurned, in_slot_of, slots_seen}
 use Rattle.ftp_server_calls.proofs.several.sessions.Sessions.call.Goals as goal
 
 -- the call is made with the tree of all, and all else stays
@@ -20,7 +20,7 @@ turned g c =
     let items = (with_item old.slots c.args.slot c.lent.new.in_slot).items in
     let now : Slots = record { table = table c.lent.new.tree; failures = failures c.lent.new.tree; slots = map (in_slot_of server) items } in
     ok_goes (λ gift. Lent (cue_of c.args.cue.now) (gift_of gift) (in_slot_of server sat) (table old.tree) (failures old.tree) (in_slot_of server c.lent.new.in_slot) (table c.lent.new.tree) (failures c.lent.new.tree))
-    (λ gift. Turned (record { slot = c.args.slot; cue = cue_of c.args.cue.now }) (gift_of gift) (slots_of table failures server old) now) c.lent.result
+    (λ gift. SlotTurned (record { slot = c.args.slot; cue = cue_of c.args.cue.now }) (gift_of gift) (slots_seen table failures server old) now) c.lent.result
     (λ gift lent. record {
       before = in_slot_of server sat;
       after = in_slot_of server c.lent.new.in_slot;
@@ -39,9 +39,9 @@ returns-clause-gives g c =
     let old = c.args.self.now in
     let items = (with_item old.slots c.args.slot c.lent.new.in_slot).items in
     let now : Slots = record { table = table c.lent.new.tree; failures = failures c.lent.new.tree; slots = map (in_slot_of server) items } in
-    ok_goes (λ gift. Turned (record { slot = c.args.slot; cue = cue_of c.args.cue.now }) (gift_of gift) (slots_of table failures server old) now)
-    (λ gift. GivesIn (record { slot = c.args.slot; cue = cue_of c.args.cue.now }) (gift_of gift) (slots_of table failures server old) now) c.lent.result
-    (λ gift t. turned_gives (record { slot = c.args.slot; cue = cue_of c.args.cue.now }) (gift_of gift) (slots_of table failures server old) now t)
+    ok_goes (λ gift. SlotTurned (record { slot = c.args.slot; cue = cue_of c.args.cue.now }) (gift_of gift) (slots_seen table failures server old) now)
+    (λ gift. GivesIn (record { slot = c.args.slot; cue = cue_of c.args.cue.now }) (gift_of gift) (slots_seen table failures server old) now) c.lent.result
+    (λ gift t. turned_gives (record { slot = c.args.slot; cue = cue_of c.args.cue.now }) (gift_of gift) (slots_seen table failures server old) now t)
     (turned g c)
 
 pub returns-clause-back : goal.returns-clause-back
