@@ -389,16 +389,16 @@ listing table root d kids x =
     ∙ ap (λ n. sent None (x_line n (decimal 1) ∷ [])) of_3 ∙ ap (λ n. sent None (x_line (codes "3") n ∷ [])) of_1
 
 -- a file at the current directory is not listed without an argument
-file_code : (s : Session) (path : Names) (octets : List ℕ) (moment : ℕ) → node_at (seen s) path ≡ Some (File octets moment) → s.cwd ≡ path → fits path ≡ true
+file_here_code : (s : Session) (path : Names) (octets : List ℕ) (moment : ℕ) → node_at (seen s) path ≡ Some (File octets moment) → s.cwd ≡ path → fits path ≡ true
     → refusal (direct_of s) (Ops.Names [] (how_in_force s.settings)) ≡ Some Unavailable
-file_code s path octets moment f home fit = rw home (rw fit (rw f refl))
+file_here_code s path octets moment f home fit = rw home (rw fit (rw f refl))
 
 pub no_directory : DirectoryReplaced
 unfolding obeyed fits text_of
 no_directory table root octets moment f =
     let v : View = at_directory (of (codes "d")) (member table root []) in
     let code : refusal (direct_of v.session) (Ops.Names [] (how_in_force v.session.settings)) ≡ Some Unavailable =
-    file_code v.session (of (codes "d")) octets moment f refl refl in
+    file_here_code v.session (of (codes "d")) octets moment f refl refl in
     let names : List (List ℕ) = name_lines (seen v.session) (path_or_here v.session None) [] in (
       ap (λ c. (listed v c).owed) code,
       ap (λ c. (started v (Transfers.Listing (listing_wire v.session.settings.mode names)) c).owed) code,
