@@ -1,9 +1,9 @@
 #!/usr/bin/env python3
 """A server that falls silent, at whatever step, holds no program of a client: with --timeout 1 each try ends, and nothing that stood is lost.
 
-What the server said finally stands, though its data connection stays open. All rows run side by side, since a program that finds silence asks
-anew over four more control connections, behind 1, 2, 4 and 8 seconds; where the server never said a line, over one at most, and all of that within the
-seconds of --timeout.
+What the server said finally stands, though its data connection stays open. All rows run side by side, since a program that finds silence after octets
+of a data connection asks anew over four more control connections, after 1, 2, 4 and 8 seconds. If none moved until then, it asks no more. If the server
+never said a line, it asks over one more at most, and all of that within the seconds of --timeout.
 """
 import socket
 import tempfile
@@ -129,6 +129,31 @@ def together(rows):
         rows.row(f"ls, {what}: {accepted} accepted, within the seconds of --timeout", holds, (status, ACCEPTED.get(port), round(took, 1), told[-300:]))
 
 
+def once(rows, size):
+    """A server that falls silent before an octet of a data connection moved is tried once; one that sent some is tried again."""
+    (rows.folder / "up").write_bytes(WHOLE)
+    get = ("get", "127.0.0.1:PORT/f", "out")
+    two = ("get", "127.0.0.1:PORT/f", "127.0.0.1:PORT/g", "./")
+    cases = (
+        ("get, silent after PASS", {"PASS": hang}, get, False),
+        ("get, silent after SIZE", {"SIZE": hang}, get, False),
+        ("get, silent after EPSV", {"SIZE": size, "EPSV": hang}, get, False),
+        ("get, silent after RETR", {"SIZE": size, "RETR": hang}, get, False),
+        ("get --parallel 4, silent after PASS", {"PASS": hang}, (*two, "--parallel", "4"), False),
+        ("get --parallel 4, silent after RETR", {"SIZE": size, "RETR": hang}, (*two, "--parallel", "4"), False),
+        ("put, silent after STOR", {"SIZE": "550 no", "STOR": hang}, ("put", "up", "127.0.0.1:PORT/f"), False),
+        ("ls, silent after MLSD", {"MLSD": hang}, ("ls", "127.0.0.1:PORT/"), False),
+        ("get, silent after 1,000 octets", {"SIZE": size, "RETR": hang_in_data}, get, True),
+    )
+    for what, answers, words, is_repeated in cases:
+        port = FakeServer(answers).port
+        begun = time.monotonic()
+        status, _, told = rows.tool(*(word.replace("PORT", str(port)) for word in words), "--timeout", "1", seconds=LIMIT)
+        took = time.monotonic() - begun
+        holds = status == 3 and (b"trying again" in told) == is_repeated and (is_repeated or took < 12)
+        rows.row(f"{what}: {'tried again' if is_repeated else 'tried once'}", holds, (status, round(took, 1), told[-300:]))
+
+
 def main():
     rows = Rows()
     size = f"213 {len(WHOLE)}"
@@ -162,6 +187,7 @@ def main():
         rows.row(*it.result())
     rows.row("get, no greeting: tried once, since no second is left", ACCEPTED[unsaid] == 1, ACCEPTED[unsaid])
     together(rows)
+    once(rows, size)
     rows.finish()
 
 

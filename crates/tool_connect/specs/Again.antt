@@ -1,5 +1,5 @@
 -- When a further control connection may bring an answer (own choice: RFC 959, section 3.5, leaves recovery to the user).
-use Rattle.std.specs.Prelude.{ℕ, ◌-◌, ◌*◌, ◌+◌, ◌/◌, ◌==◌, max, min, nat_le, nat_lt, Bool, true, false, not, Option, Some, None, Result, Ok, Err, if◌then◌else◌}
+use Rattle.std.specs.Prelude.{ℕ, ◌-◌, ◌*◌, ◌+◌, ◌/◌, ◌==◌, ◌&&◌, ◌||◌, max, min, nat_le, nat_lt, Bool, true, false, not, Option, Some, None, Result, Ok, Err, if◌then◌else◌}
 use Rattle.ftp_operation.specs.declared.answer.Answer.{Answer}
 use Rattle.ftp_operation.specs.declared.answer.Answer.TheVariants as Answers
 use Rattle.tool_connect.specs.declared.again.Loss.{Loss}
@@ -20,10 +20,14 @@ loss_by (Ok Answers.Lost) = Some Losses.Ended
 loss_by (Ok answer) = None
 loss_by (Err fault) = loss_amid fault.stage
 
--- nothing more is tried behind a further control connection: it ended too, and the server never said a line
-abbrev pub gives_up : Loss → (is_heard : Bool) → Bool
-gives_up Losses.Ended is_heard = not is_heard
-gives_up Losses.Unconnected is_heard = false
+-- a try got nowhere: the server fell silent, and until then no octet moved over a data connection
+abbrev pub is_stalled : (is_silent has_moved : Bool) → Bool
+is_stalled is_silent has_moved = is_silent && not has_moved
+
+-- nothing more is tried after a further control connection: it ended too, and the server never said a line, or that try got nowhere
+abbrev pub gives_up : Loss → (is_heard is_stalled : Bool) → Bool
+gives_up Losses.Ended is_heard is_stalled = not is_heard || is_stalled
+gives_up Losses.Unconnected is_heard is_stalled = false
 
 -- for how many seconds a server may be silent over a further control connection, where so many went by over those before: as ever; where it never said a
 -- line, what is left of them, and nothing is tried where nothing is; 0 is without a limit

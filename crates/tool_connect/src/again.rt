@@ -1,6 +1,6 @@
 // What is asked anew where its control connection ends.
 ghost use Rattle.std.specs.Prelude.{◌≡◌};
-ghost use Rattle.tool_connect.specs.Again.{fits, gives_up, loss_by, silence_left};
+ghost use Rattle.tool_connect.specs.Again.{fits, gives_up, is_stalled, loss_by, silence_left};
 
 use crate::conversing::{Converses, Logins, converse_as};
 use crate::server::left_until;
@@ -27,7 +27,7 @@ pub(crate) enum Loss {
 
 /// Plays over a control connection of its own, for a user. Where one was made and ended before the answer, it is played anew, from the beginning,
 /// over at most four more; of a server that never said a line over one, and then all of it takes no longer than the server may be silent. No further one is
-/// opened where the time for all would be over by then.
+/// opened after one that got nowhere until the server fell silent, or where the time for all would be over by then.
 pub fn ask<R, P>(
     rt: &R,
     server: ServerAddress<'_>,
@@ -43,6 +43,9 @@ where
     match loss_of(&answered) {
         Some(Loss::Ended) => {
             drop(answered);
+            if has_stalled(last_reply) {
+                return Ok(Answer::Lost);
+            }
             ask_again(rt, server, user, last_reply, play)
         }
         _ => answered,
@@ -77,7 +80,7 @@ where
         match loss_of(&answered) {
             Some(found) => {
                 drop(answered);
-                if gives_up(found, last_reply.is_heard()) {
+                if gives_up(found, last_reply.is_heard(), has_stalled(last_reply)) {
                     break;
                 }
                 loss = found;
@@ -129,12 +132,24 @@ fn fits(left: Option<u64>, seconds: u16) -> bool
     }
 }
 
-/// Whether nothing more is tried behind a further control connection: it ended too, and the server never said a line.
-fn gives_up(found: Loss, is_heard: bool) -> bool
-    ensures { result ≡ gives_up found is_heard }
+/// Whether the last try got nowhere.
+fn has_stalled(last_reply: &LastReply) -> bool {
+    is_stalled(last_reply.is_silent(), last_reply.has_moved())
+}
+
+/// Whether a try got nowhere: the server fell silent, and until then no octet moved over a data connection.
+fn is_stalled(is_silent: bool, has_moved: bool) -> bool
+    ensures { result ≡ is_stalled is_silent has_moved }
+{
+    is_silent && !has_moved
+}
+
+/// Whether nothing more is tried after a further control connection: it ended too, and the server never said a line, or that try got nowhere.
+fn gives_up(found: Loss, is_heard: bool, is_stalled: bool) -> bool
+    ensures { result ≡ gives_up found is_heard is_stalled }
 {
     match found {
-        Loss::Ended => !is_heard,
+        Loss::Ended => !is_heard || is_stalled,
         Loss::Unconnected => false,
     }
 }

@@ -157,6 +157,7 @@ impl<'a, R: Clock + Eprint> MeteredLink<'a, R> {
     /// So many octets more were moved.
     fn add(&mut self, count: usize) {
         self.moved = self.moved.saturating_add(count as u64);
+        self.course.moved(count);
         let (Some(told), Ok(now)) = (self.told, Instant::now(self.rt)) else {
             return;
         };

@@ -49,13 +49,22 @@ where
         passive: &passive,
         server,
     };
-    play_over::<OperationTransfer<Global>, R, T, P>(
+    let done = play_over::<OperationTransfer<Global>, R, T, P>(
         &channel_settings,
         streams,
         courses.as_slice(),
         last_reply,
         play,
-    )
+    );
+    note_moved(courses.as_slice(), last_reply);
+    done
+}
+
+/// Notes whether octets moved over a data connection of any channel.
+fn note_moved(courses: &[RequestState], last_reply: &mut LastReply) {
+    if courses.iter().any(|course| course.has_moved()) {
+        last_reply.octets_moved();
+    }
 }
 
 /// What the channels have in common.

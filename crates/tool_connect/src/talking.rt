@@ -98,6 +98,7 @@ where
         health,
     };
     let done = talk_over(rt.alloc(), link, &mut ports, login, last_reply, play);
+    note_moved(&course, last_reply);
     if timeouts.is_over() {
         health.fail();
     }
@@ -107,6 +108,13 @@ where
         last_reply.fell_silent(server.timeout);
     }
     done
+}
+
+/// Notes whether octets moved over a data connection.
+fn note_moved(course: &RequestState, last_reply: &mut LastReply) {
+    if course.has_moved() {
+        last_reply.octets_moved();
+    }
 }
 
 /// A control connection that is open, and what is known of it.

@@ -28,6 +28,8 @@ pub struct LastReply {
     opened: u32,
     /// What this end waited for no longer, where that ended the last control connection.
     over: Option<Over>,
+    /// Whether octets moved over a data connection, beside the last control connection.
+    has_moved: bool,
     /// How many whole seconds went by over all control connections, from the first address that was tried on.
     spent: u32,
 }
@@ -41,6 +43,7 @@ impl LastReply {
             is_heard: false,
             opened: 0,
             over: None,
+            has_moved: false,
             spent: 0,
         }
     }
@@ -53,6 +56,7 @@ impl LastReply {
             is_heard: self.is_heard,
             opened,
             over: self.over,
+            has_moved: self.has_moved,
             spent: self.spent,
         }
     }
@@ -65,6 +69,11 @@ impl LastReply {
     /// The control connection ended since the time was over that there was for all.
     pub fn ran_out(&mut self) {
         self.over = Some(Over::Time);
+    }
+
+    /// Octets moved over a data connection, beside the control connection that is there or was there last.
+    pub fn octets_moved(&mut self) {
+        self.has_moved = true;
     }
 
     /// So many data connections more were opened.
@@ -90,6 +99,16 @@ impl LastReply {
     /// Whether the server never said a line, and that this end waited no longer ended the last control connection.
     pub fn is_mute(&self) -> bool {
         !self.is_heard && self.over.is_some()
+    }
+
+    /// Whether the last control connection ended since the server was silent.
+    pub fn is_silent(&self) -> bool {
+        matches!(self.over, Some(Over::Silence(_)))
+    }
+
+    /// Whether octets moved over a data connection, beside the last control connection.
+    pub fn has_moved(&self) -> bool {
+        self.has_moved
     }
 
     /// How many data connections were opened.
@@ -160,6 +179,7 @@ impl LastReply {
     pub fn begin(&mut self) {
         self.len = 0;
         self.over = None;
+        self.has_moved = false;
     }
 
     /// This line was said last, without its end; an empty one is none.

@@ -40,6 +40,8 @@ pub struct RequestState {
     /// Whether a wait for its data connection found no end.
     is_silent: Cell<bool>,
     ending: Cell<DataEnding>,
+    /// Whether octets moved over any of its data connections, of this request or one before.
+    has_moved: Cell<bool>,
     /// What goes over its data connection, where that is carried, while none has it.
     pub stream_body: Cell<Option<StreamBody>>,
 }
@@ -64,6 +66,7 @@ impl RequestState {
             }),
             is_silent: Cell::new(false),
             ending: Cell::new(DataEnding::Answered),
+            has_moved: Cell::new(false),
             stream_body,
         }
     }
@@ -81,6 +84,18 @@ impl RequestState {
         if ready == Ready::Lost {
             self.is_silent.set(true);
         }
+    }
+
+    /// So many octets moved over a data connection.
+    pub fn moved(&self, count: usize) {
+        if count > 0 {
+            self.has_moved.set(true);
+        }
+    }
+
+    /// Whether octets moved over a data connection, of this request or one before.
+    pub fn has_moved(&self) -> bool {
+        self.has_moved.get()
     }
 
     /// This is reported, and the server said this line last.

@@ -175,6 +175,7 @@ impl<'a> ChannelLink<'a> {
     /// So many octets more were moved.
     fn add(&mut self, count: usize) {
         self.moved = self.moved.saturating_add(count as u64);
+        self.course.moved(count);
     }
 
     /// The lines that end in octets that came, where they are counted.
