@@ -176,7 +176,7 @@ fn is_large(facts: ItemFacts) -> bool {
 
 /// Whether a file stands here with the size that is listed.
 fn is_here<R: Places>(rt: &R, mirror: &MirrorRequest<'_>, below: &str, facts: ItemFacts) -> bool {
-    match facts_here(rt, mirror.folder, below) {
+    match facts_here(rt, mirror, below) {
         Some(here) => here.size == facts.size,
         None => false,
     }

@@ -425,10 +425,7 @@ impl<'a, R: LocalMachine> MirrorWalk<'a, R> {
         let mirror = self.mirror;
         match way {
             CopyDirection::Down => entries_there(self.alloc, slot, mirror, below),
-            CopyDirection::Up => {
-                let folder = mirror.folder;
-                Ok(entries_here(self.rt, self.alloc, folder, below, mirror.excluded)?)
-            }
+            CopyDirection::Up => Ok(entries_here(self.rt, self.alloc, mirror, below)?),
         }
     }
 

@@ -1,5 +1,5 @@
 -- What a mirror asks of a file that LIST tells (RFC 959, section 4.1.3, leaves the form of its lines open), and how it sends one (own choice).
-use Rattle.std.specs.Prelude.{ℕ, Bool, true, false, Option, Some, None, nat_lt}
+use Rattle.std.specs.Prelude.{ℕ, Bool, true, false, Option, Some, None, nat_lt, if◌then◌else◌}
 use Rattle.tool_mirror_plan.specs.declared.actions.CopyDirection.{CopyDirection}
 use Rattle.tool_mirror_plan.specs.declared.actions.CopyDirection.TheVariants as Ways
 
@@ -13,3 +13,9 @@ asks_moment Ways.Up (Some moment) = false
 abbrev pub is_drawn : Option ℕ → Bool
 is_drawn None = true
 is_drawn (Some octets) = nat_lt 65536 octets
+
+-- the second by which a file here counts as changed last: its own; of one that is sent, where its own lies in the future, that of the last change of its
+-- inode, which no program sets
+abbrev pub changed_at : CopyDirection → (now moment touched : ℕ) → ℕ
+changed_at Ways.Down now moment touched = moment
+changed_at Ways.Up now moment touched = if nat_lt now moment then touched else moment

@@ -145,7 +145,7 @@ where
     R: Places,
     S: ClientSession,
 {
-    let Some(here) = facts_here(rt, mirror.folder, below) else {
+    let Some(here) = facts_here(rt, mirror, below) else {
         return Ok(false);
     };
     if here.size != facts.size || here.moment.is_none() {

@@ -1,4 +1,8 @@
 // What stands in a folder of this machine.
+ghost use Rattle.std.specs.Prelude.{◌≡◌};
+ghost use Rattle.tool_mirror_copy.specs.Copying.{changed_at};
+
+use crate::asked::MirrorRequest;
 use ftp_facts::Text;
 use std::alloc::{AllocError, Global};
 use std::fs::Metadata;
@@ -6,18 +10,18 @@ use std::io;
 use std::os::unix::fs::MetadataExt;
 use tool_files::{DirectoryEntry, Places, Sightings};
 use tool_listing::{DirectoryListing, ItemFacts, ItemKind, ListedItem, is_excluded};
+use tool_mirror_plan::CopyDirection;
 use tool_session::MOST_ENTRIES;
 
-/// The entries of the directory `below` a folder. Links are not followed.
+/// The entries of the directory `below` the folder of a mirror. Links are not followed.
 pub fn entries_here<R: Places>(
     rt: &R,
     alloc: Global,
-    folder: &str,
+    mirror: &MirrorRequest<'_>,
     below: &str,
-    excluded: &[&str],
 ) -> io::Result<DirectoryListing<Global>> {
-    match rt.sightings(folder, below, MOST_ENTRIES)? {
-        Sightings::All(all) => Ok(items_of(alloc, all.as_slice(), below, excluded)?),
+    match rt.sightings(mirror.folder, below, MOST_ENTRIES)? {
+        Sightings::All(all) => Ok(items_of(alloc, all.as_slice(), mirror, below)?),
         Sightings::TooMany => Ok(DirectoryListing::CutOff),
     }
 }
@@ -25,13 +29,13 @@ pub fn entries_here<R: Places>(
 fn items_of(
     alloc: Global,
     all: &[DirectoryEntry],
+    mirror: &MirrorRequest<'_>,
     below: &str,
-    excluded: &[&str],
 ) -> Result<DirectoryListing<Global>, AllocError> {
     let mut items = Vec::new(alloc);
     for finding in all {
         let kind = match &finding.found {
-            Some(found) => kind_of(found),
+            Some(found) => kind_of(found, mirror.rules.way, mirror.begun),
             None => ItemKind::Other,
         };
         put_item(
@@ -40,7 +44,7 @@ fn items_of(
             finding.name.as_slice(),
             kind,
             below,
-            excluded,
+            mirror.excluded,
         )?;
     }
     Ok(DirectoryListing::Whole(items))
@@ -71,10 +75,10 @@ pub(crate) fn put_item(
     Ok(())
 }
 
-/// What is known of the file `below` a folder; none where no file stands there, or the system tells nothing of it.
-pub fn facts_here<R: Places>(rt: &R, folder: &str, below: &str) -> Option<ItemFacts> {
-    match rt.found(folder, below) {
-        Ok(Some(found)) => match kind_of(&found) {
+/// What is known of the file `below` the folder of a mirror; none where no file stands there, or the system tells nothing of it.
+pub fn facts_here<R: Places>(rt: &R, mirror: &MirrorRequest<'_>, below: &str) -> Option<ItemFacts> {
+    match rt.found(mirror.folder, below) {
+        Ok(Some(found)) => match kind_of(&found, mirror.rules.way, mirror.begun) {
             ItemKind::File(facts) => Some(facts),
             ItemKind::Dir | ItemKind::Other | ItemKind::Excluded | ItemKind::Odd => None,
         },
@@ -82,15 +86,34 @@ pub fn facts_here<R: Places>(rt: &R, folder: &str, below: &str) -> Option<ItemFa
     }
 }
 
-fn kind_of(found: &Metadata) -> ItemKind {
+/// What the system found, for a copy in this direction that began at this second.
+fn kind_of(found: &Metadata, way: CopyDirection, now: u64) -> ItemKind {
     if found.is_dir() {
         ItemKind::Dir
     } else if found.is_file() {
         ItemKind::File(ItemFacts {
             size: Some(found.len()),
-            moment: u64::try_from(found.mtime()).ok(),
+            moment: moment_here(found, way, now),
         })
     } else {
         ItemKind::Other
+    }
+}
+
+/// The moment by which a file counts as changed last, where the system tells one from 1970 on.
+fn moment_here(found: &Metadata, way: CopyDirection, now: u64) -> Option<u64> {
+    let moment = u64::try_from(found.mtime()).ok()?;
+    let touched = u64::try_from(found.ctime()).unwrap_or(moment);
+    Some(changed_at(way, now, moment, touched))
+}
+
+/// The moment by which a file here counts as changed last: its own; of one that is sent, where its own lies in the future, that of the last change of its
+/// inode (`touched`), which no program sets. All in seconds from the beginning of 1970.
+fn changed_at(way: CopyDirection, now: u64, moment: u64, touched: u64) -> u64
+    ensures { result ≡ changed_at way now moment touched }
+{
+    match way {
+        CopyDirection::Up if now < moment => touched,
+        CopyDirection::Up | CopyDirection::Down => moment,
     }
 }
