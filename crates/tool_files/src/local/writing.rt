@@ -84,10 +84,11 @@ fn open_new<R: Files<File = File>>(
     }
 }
 
-/// Opens a part that stands, to be written behind what it has; none where another process has it open.
+/// Opens a part that stands, to be written after what it has; none where another process has it open. It is opened for reading too: so the system opens a
+/// named pipe that came in its place at once, and does not wait for who reads that.
 pub(crate) fn open_again<R: Files<File = File>>(files: &R, name: &str) -> io::Result<Option<File>> {
     let mut how = OpenOptions::new();
-    how.append(true);
+    how.read(true).append(true);
     let opened = how.open(files, name)?;
     match opened.try_lock() {
         Err(TryLockError::WouldBlock) => Ok(None),
