@@ -1,5 +1,6 @@
 // Why a program stops before it has an answer of the server.
 ghost use Rattle.std.specs.Prelude.{◌≡◌};
+ghost use Rattle.tool_session.specs.Fault.{with_fault};
 
 use crate::saying::told;
 use crate::subject::{Stop, Subject};
@@ -47,7 +48,9 @@ pub struct SessionFault {
 }
 
 /// What was done at a stage, or that it stops the program.
-pub fn at<T: Drop>(stage: Phase, done: io::Result<T>) -> Result<T, SessionFault> {
+pub fn at<T: Drop>(stage: Phase, done: io::Result<T>) -> Result<T, SessionFault>
+    ensures { result ≡ with_fault (λ error. record { stage = stage; error = error }) done }
+{
     match done {
         Ok(value) => Ok(value),
         Err(error) => Err(SessionFault { stage, error }),

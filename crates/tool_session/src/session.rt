@@ -1,9 +1,10 @@
 // What whoever asks sees of a client between its connections: how an answer comes about, and what is kept of a download, are ghost members, so that what
 // stands on these calls is proved without the clauses of a client.
 ghost use Rattle.std.specs.Global.{Global};
-ghost use Rattle.std.specs.Prelude.{ℕ, List, ⊤};
+ghost use Rattle.std.specs.Prelude.{ℕ, Bool, false, List, ⊤};
 ghost use Rattle.ftp_operation.specs.declared.answer.Answer.{Answer};
 ghost use Rattle.tool_session.specs.declared.request.Request.{Request};
+ghost use Rattle.tool_session.specs.Talking.{SessionExchange, HasExchanged, Played};
 
 use crate::last_reply::LastReply;
 use crate::request::Request;
@@ -104,6 +105,14 @@ pub trait ClientSession {
 
 /// What is done over one control connection.
 pub trait SessionTask<T> {
+    /// Whether it tells its exchanges: `plays` counts only then.
+    ghost tells: { Bool } = { false };
+
+    /// What came of it, by what was asked and answered.
+    ghost plays: { List SessionExchange → T → (old new : Self) → Type 0 } = { λ heard result old new. ⊤ };
+
     /// Asks, and gives what came of it.
-    fn play<S: ClientSession>(&mut self, slot: &mut S) -> T;
+    fn play<S: ClientSession>(&mut self, slot: &mut S) -> T
+        // Witness: edits of `tool_get_put`, as `an_order_more_is_asked`; a task that does not tell its exchanges says nothing.
+        ensures { Played tells (λ heard. HasExchanged S.answers slot.old heard slot.new) plays self.old self.new result };
 }
