@@ -1,5 +1,8 @@
 // Who can ask servers, as whoever asks sees it: what stands on traits without types of their own is proved for less than on those of the system's
 // sockets, files and environment.
+ghost use Rattle.std.specs.Prelude.{◌≡◌, ◌&&◌, ℕ, Bool, false, List, ⊤};
+ghost use Rattle.tool_session.specs.Talking.{Conversed, SessionExchange};
+
 use crate::health::Health;
 use crate::talking;
 use ftp_operation::Login;
@@ -15,6 +18,12 @@ use tool_session::{LastReply, Phase, ServerAddress, SessionFault, SessionTask, a
 
 /// Who can open control connections.
 pub trait Converses {
+    /// Whether it is known what is heard: else no clause says how a task is played. Of the system's control connections it is not yet.
+    ghost is_known: { Bool } = { false };
+
+    /// What can be heard over so many control connections at once.
+    ghost hears: { Self → (at_once : ℕ) → List SessionExchange → Type 0 } = { λ rt at_once heard. ⊤ };
+
     /// Opens a control connection, plays over it by a client, says goodbye and closes it. Notices whether it failed; of several that is not known.
     fn converse_noticing<T, P>(
         &self,
@@ -26,7 +35,9 @@ pub trait Converses {
     ) -> Result<T, SessionFault>
     where
         T: Drop,
-        P: SessionTask<Result<T, SessionFault>>;
+        P: SessionTask<Result<T, SessionFault>>,
+        // Witness: `run_orders` of `tool_get_put` needs it, and its edits, as `nothing_is_asked`.
+        ensures { Conversed (is_known && P.tells) (hears self.now server.entry.at_once) P.plays play.old play.new result };
 
     /// The same, where nobody asks whether it failed.
     fn converse<T, P>(
@@ -39,6 +50,8 @@ pub trait Converses {
     where
         T: Drop,
         P: SessionTask<Result<T, SessionFault>>,
+        // Witness: as `converse_noticing`.
+        ensures { Conversed (is_known && P.tells) (hears self.now server.entry.at_once) P.plays play.old play.new result }
     {
         self.converse_noticing(server, login, last_reply, &Health::new(), play)
     }
