@@ -1,2 +1,2 @@
--- The exit status of `run`.
+-- What `run` asks and reports, and its exit status.
 pub mod Running

@@ -11,4 +11,4 @@ mod running;
 pub use each::{Each, FilePair, fetch_each};
 pub use fetching::{PlaceTask, fetch};
 pub use listing::ListingFormat;
-pub use running::{run, run_as};
+pub use running::{run, run_as, run_orders, run_script, run_script_as};
