@@ -1,3 +1,4 @@
 pub mod FairLemmas
 pub mod RoundLemmas
+pub mod SharingLemmas
 pub mod WaitLemmas

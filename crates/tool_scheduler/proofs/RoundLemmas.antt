@@ -1,5 +1,5 @@
 -- Rounds: what is told is put together, and after each turn fewer wait.
-use Rattle.std.proofs.Common.{◌≡◌, ◌≢◌, ◌⊎◌, ◌∙◌, ℕ, zero, suc, ◌+◌, ◌<◌, ◌≤◌, Bool, true, false, not, ◌&&◌, cond, true≢false}
+use Rattle.std.proofs.Common.{◌≡◌, ◌≢◌, ◌∙◌, ℕ, zero, suc, ◌+◌, ◌<◌, ◌≤◌, Bool, true, false, not, ◌&&◌, cond, true≢false}
 use Rattle.std.proofs.Common.{Option, Some, None, List, [], ◌∷◌, ◌++◌, length, get_or, append_assoc, eqb, unwrap_or, slice_get}
 use Rattle.std.proofs.Common.{refl, sym, ap, subst, inl, inr, arith, replicate, set}
 use Rattle.std.proofs.lemmas.Bool.{and_parts, cases_eq, cases_lt, eq-eqb}
@@ -10,8 +10,8 @@ use Rattle.std.proofs.lemmas.Option.{get_or_from_slice_get, slice_get_past, unwr
 use Rattle.std.specs.List.{range_with_len}
 use Rattle.ftp_ports.specs.Asking.{Adds}
 use Rattle.tool_scheduler.specs.Order.{LeavesOne, Takes, first_ready, is_ready, is_so}
-use Rattle.tool_scheduler.specs.Rounds.{AreEnded, AreRounds, HaveSlots, Began, ComesMeanwhile, RoundAction, Ended, Gave, GoesOnTo, IsRoundDone, IsNext, LeavesAddress, LeavesPlace, Spares}
-use Rattle.tool_scheduler.specs.Rounds.{RoundStanding, Step, Steps, TakesTurnInOrder, action_of, host_in, is_same, is_slot_taken, ones, round_standing, start, told_if}
+use Rattle.tool_scheduler.specs.Rounds.{AreEnded, AreRounds, HaveSlots, Began, ComesMeanwhile, RoundAction, Ended, Gave, GoesOnTo, IsRoundDone, LeavesAddress, LeavesPlace, Spares}
+use Rattle.tool_scheduler.specs.Rounds.{RoundStanding, Step, Steps, action_of, host_in, is_same, is_slot_taken, ones, round_standing, start, told_if}
 use Rattle.tool_scheduler.specs.declared.slot.Turn.{Turn}
 use Rattle.tool_scheduler.specs.declared.waiting.WaitQueue.{WaitQueue}
 

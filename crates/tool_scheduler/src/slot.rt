@@ -47,10 +47,17 @@ pub trait Slot<T>: Drop {
     /// What was told of rounds and turns, the last one first, where a tree tells that.
     ghost history: { T → Option (List RoundAction) } = { λ tree. None };
 
+    ghost use Rattle.tool_scheduler.specs.declared.slot.TurnResult.{TurnResult};
+
+    /// What a turn does, as its owner states it: of the tree that was lent, the tree that it left, how it ended, and the session before and after.
+    ghost takes: { T → T → TurnResult → (old new : Self) → Type 0 };
+
     /// Goes on until it waits, is over, or has had its part; `told` is what the last poll told of what it waited for.
     fn turn(&mut self, turn: Turn, told: Awaits, tree: &mut T) -> TurnResult
-        // Witness: what an owner tells of itself: rounds tell by no other call, and `serve_rounds` says what they told.
-        ensures { Adds (history tree.old) (history tree.new) (action_of turn ∷ []) };
+        // Witness of told: what an owner tells of itself: rounds tell by no other call, and `serve_rounds` says what they told.
+        ensures told { Adds (history tree.old) (history tree.new) (action_of turn ∷ []) }
+        // Witness of takes: what an owner states of its turns: `serve_rounds` says that they follow one another.
+        ensures takes { takes tree.old tree.new result self.old self.new };
 
     /// What it waits for.
     fn awaits(&self) -> Awaits;
@@ -75,6 +82,9 @@ pub trait Slots {
 
     type Slot: Slot<Self::Tree>;
 
+    /// What becomes of the tree as a round begins.
+    ghost begins: { (old new : Self.Tree) → Type 0 };
+
     /// As whom a client counts, of whom only so many are served at once.
     fn host(&self, peer: SocketAddr) -> u128;
 
@@ -88,8 +98,10 @@ pub trait Slots {
 
     /// A round begins, in which the sessions in these slots are ready, and whose clients count as these; who does not tell that does nothing.
     fn begin_round(&self, ready: &[bool], hosts: &[u128], tree: &mut Self::Tree)
-        // Witness: as of `turn`.
-        ensures { Adds (Self.Slot.history tree.old) (Self.Slot.history tree.new) (Began ready.now hosts.now ∷ []) };
+        // Witness of told: as of `turn`.
+        // Witness of begins: as of `takes`.
+        ensures told { Adds (Self.Slot.history tree.old) (Self.Slot.history tree.new) (Began ready.now hosts.now ∷ []) }
+        ensures begins { begins tree.old tree.new };
 
     /// A client for whom there is no slot was told so, and its connection.
     fn turn_away(

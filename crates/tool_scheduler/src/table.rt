@@ -1,7 +1,8 @@
 // The slots of all sessions.
 ghost use Rattle.std.specs.Global.{Global};
-ghost use Rattle.std.specs.Prelude.{◌≡◌, ◌≢◌, ◌↔◌, ℕ, IsTrue, IsSome};
+ghost use Rattle.std.specs.Prelude.{◌≡◌, ◌≢◌, ◌↔◌, ℕ, IsTrue, IsSome, IfOk, Some, is_none, position, slice_set};
 ghost use Rattle.tool_scheduler.specs.Rounds.{is_slot_taken};
+ghost use Rattle.tool_scheduler.specs.Sharing.{AreFree, Frees, Seats, sessions_of};
 
 use crate::crowd::{Sitting, crowded_place};
 use crate::slot::{Slot, TurnResult};
@@ -28,7 +29,9 @@ pub(crate) struct Table<S: Drop> {
 
 impl<S: Drop> Table<S> {
     /// So many free slots.
-    pub(crate) fn new(alloc: Global, count: usize) -> Result<Table<S>, AllocError> {
+    pub(crate) fn new(alloc: Global, count: usize) -> Result<Table<S>, AllocError>
+        ensures { IfOk result (λ table. AreFree (sessions_of table.slots.items)) }
+    {
         let mut slots = Vec::new(alloc);
         for _ in 0..count {
             slots.push(None)?;
@@ -65,6 +68,7 @@ impl<S: Drop> Table<S> {
     pub(crate) fn free(&mut self, place: usize) -> Option<TakenSlot<S>>
         ensures had { IsTrue (is_slot_taken self.old.slots.items place) ↔ IsSome result }
         ensures others { (other : ℕ) → other ≢ place → is_slot_taken self.new.slots.items other ≡ is_slot_taken self.old.slots.items other }
+        ensures freed { Frees place result self.old.slots.items self.new.slots.items }
     {
         self.slots.get_mut(place)?.take()
     }
@@ -72,23 +76,31 @@ impl<S: Drop> Table<S> {
     /// Puts back a session into its slot.
     pub(crate) fn put(&mut self, place: usize, taken: TakenSlot<S>)
         ensures others { (other : ℕ) → other ≢ place → is_slot_taken self.new.slots.items other ≡ is_slot_taken self.old.slots.items other }
+        ensures put { self.new.slots.items ≡ slice_set self.old.slots.items place (Some taken) }
     {
         if let Some(slot) = self.slots.get_mut(place) {
             *slot = Some(taken);
         }
     }
 
+    /// The first slot that is free.
+    fn first_free(&self) -> Option<usize>
+        ensures { result ≡ position is_none self.now.slots.items }
+    {
+        self.slots.iter().position(|slot| slot.is_none())
+    }
+
     /// Takes a free slot; where there is none, the session is let go.
-    pub(crate) fn take(&mut self, session: Box<S, Global>, host: u128) {
-        for slot in self.slots.iter_mut() {
-            if slot.is_none() {
-                *slot = Some(TakenSlot {
-                    session,
-                    host,
-                    course: TurnResult::More,
-                });
-                return;
-            }
+    pub(crate) fn take(&mut self, session: Box<S, Global>, host: u128)
+        ensures { Seats session.value self.old.slots.items self.new.slots.items }
+    {
+        if let Some(place) = self.first_free() {
+            let taken = TakenSlot {
+                session,
+                host,
+                course: TurnResult::More,
+            };
+            self.put(place, taken);
         }
     }
 }

@@ -1,6 +1,7 @@
 use Rattle.std.proofs.Common.{false}
 use Rattle.tool_scheduler.specs.Rounds.{round_standing}
 use Rattle.tool_scheduler.proofs.RoundLemmas.{fewer_first, gives_first, takes_ready}
+use Rattle.tool_scheduler.proofs.SharingLemmas.{shares_then}
 use Rattle.tool_scheduler.proofs.rounds.Rounds.first_turns.Goals as goal
 
 pub give-requires : goal.give-requires
@@ -18,4 +19,5 @@ loop-place-preserved g c =
           c.loop-place.invariant.told c.in-Some.ensures.taken c.give.ensures.first c.give.ensures.ready c.give.ensures.hosts c.give.ensures.told;
       first = c.give.ensures.taken_first c.loop-place.invariant.first;
       ready = c.give.ensures.taken c.loop-place.invariant.ready;
+      shares = shares_then _ _ _ _ _ c.loop-place.invariant.shares c.give.ensures.shares;
     }

@@ -3,4 +3,4 @@ use Rattle.tool_scheduler.proofs.rounds.Rounds.ready.Given as goal
 
 -- who is said to be ready has a slot
 abbrev pub invariant-loop-place : goal.invariant-loop-place
-invariant-loop-place g l = HaveSlots l.ready l.self.table.slots.items
+invariant-loop-place g l = HaveSlots l.ready l.table.slots.items
