@@ -1,2 +1,3 @@
 pub mod Listening
 pub mod Manner
+pub mod Sharing

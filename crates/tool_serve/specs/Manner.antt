@@ -1,5 +1,5 @@
 -- How refused logins slow a connection, and end it (own choice; RFC 2577, section 5, advises both).
-use Rattle.std.specs.Prelude.{ℕ, ◌+◌, ◌==◌, ◌&&◌, ◌||◌, nat_lt, Bool, true, false, Option, Some, None, if◌then◌else◌}
+use Rattle.std.specs.Prelude.{ℕ, ◌+◌, ◌==◌, ◌&&◌, ◌||◌, nat_lt, Bool, true, false, Option, Some, if◌then◌else◌}
 use Rattle.ftp_command.specs.declared.verb.Verb.{Verb}
 use Rattle.ftp_command.specs.declared.verb.Verb.TheVariants as Verbs
 use Rattle.ftp_reply.specs.declared.code.TheConstants.{NOT_LOGGED_IN}

@@ -1,5 +1,7 @@
 // One session in its slot: a server beside its connections, and the session log of both.
 ghost use Rattle.std.specs.Global.{Global};
+ghost use Rattle.ftp_server_driver.specs.shared.Lending.{holding};
+ghost use Rattle.tool_serve.specs.Sharing.{TakesSlotTurn, ended_by, stand_of};
 
 use crate::connections::{CountedLink, CountedPorts, SaidWriter};
 use crate::goodbye::last_reply;
@@ -145,6 +147,9 @@ where
     T: Tree<Global> + Explains,
     F: Lends<Global, T>,
 {
+    ghost takes = { λ lent left result old new. TakesSlotTurn (holding (T.table lent) (T.failures lent)) (holding (T.table left) (T.failures left))
+        old.stood new.stood result (stand_of F.Far.server old.clocked old.control old.data) (stand_of F.Far.server new.clocked new.control new.data) };
+
     fn turn(&mut self, _turn: Turn, told: Awaits, tree: &mut T) -> TurnResult {
         self.session_log.line().begin_turn(told);
         self.session_log.begin(&self.clocked.server);
@@ -210,7 +215,7 @@ fn some_turns<'a, R, T, F>(
     clocked: &mut Clocked<F, SystemWatch<'a, R>, Watching<'a, R, T>>,
     control: &mut Control<LineReader, SaidWriter<'a, R>>,
     ports: &mut CountedPorts<'a, R>,
-    data: &mut Data<CountedLink<'a, R>>,
+    link: &mut Data<CountedLink<'a, R>>,
     tree: &mut T,
     stood: &mut Option<Standing>,
 ) -> Result<Turned<()>, Cause>
@@ -218,6 +223,8 @@ where
     R: Sockets + Tells + Clock,
     T: Tree<Global> + Explains,
     F: Lends<Global, T>,
+    ensures { TakesSlotTurn (holding (T.table tree.old) (T.failures tree.old)) (holding (T.table tree.new) (T.failures tree.new)) stood.old stood.new
+        (ended_by result) (stand_of F.Far.server clocked.old control.old link.old) (stand_of F.Far.server clocked.new control.new link.new) }
 {
     lent_turns::<
         Global,
@@ -228,5 +235,5 @@ where
         CountedPorts<'a, R>,
         SystemWatch<'a, R>,
         Watching<'a, R, T>,
-    >(clocked, control, ports, data, tree, stood, MOST)
+    >(clocked, control, ports, link, tree, stood, MOST)
 }

@@ -70,6 +70,9 @@ where
 
     type Slot = ServerSession<'a, R, T, M::Server>;
 
+    /// The tree stays.
+    ghost begins = { λ old new. new ≡ old };
+
     fn host(&self, peer: SocketAddr) -> u128 {
         guessed_from(peer.ip())
     }
