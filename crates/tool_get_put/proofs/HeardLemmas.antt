@@ -65,7 +65,7 @@ pub asked_next : (front : List (Order (List ℕ))) (order : Order (List ℕ)) (h
     → one.0 ≡ request_of order → requests_in (heard ++ one ∷ []) ≡ map request_of (front ++ order ∷ [])
 asked_next front order heard one asked is =
     requests_more heard one ∙ ap (λ before. before ++ one.0 ∷ []) asked ∙ ap (λ last. map request_of front ++ last ∷ []) is
-        ∙ sym (map-append request_of front (order ∷ []))
+    ∙ sym (map-append request_of front (order ∷ []))
 
 -- What is asked up to the next order is a front of all.
 pub front_asked : (all front rest more : List (Order (List ℕ))) (order : Order (List ℕ)) (heard : List SessionExchange) (one : SessionExchange)
@@ -105,7 +105,7 @@ error_by (Err fault) has_failed fails = fails
 pub orders_done : {P E : Type 0} (contents : P → Option (List ℕ)) (kept : P → Option (Vec (Order (List ℕ)) Global)) (hears : List SessionExchange → Type 0)
     (orders : Vec (Order (List ℕ)) Global) (done : Result Status E) (has_failed : Bool) (old new : P) (known : Bool) → kept old ≡ Some orders
     → Conversed (known && true) hears (λ heard result before after. (all : Vec (Order (List ℕ)) Global) → kept before ≡ Some all
-        → Reported IsWorst all.items (contents before) (contents after) heard result) old new done
+    → Reported IsWorst all.items (contents before) (contents after) heard result) old new done
     → DoesOrders known hears orders.items (contents old) (contents new) (result_by done has_failed)
 orders_done contents kept hears orders done has_failed old new false has said = tt
 orders_done contents kept hears orders done has_failed old new true has (inl played) =

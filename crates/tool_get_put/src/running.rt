@@ -45,13 +45,7 @@ where
         + Clock
         + AllocGlobal,
 {
-    let (done, _out) = run_script(
-        rt,
-        rt.alloc(),
-        server,
-        &mut rt.reader(),
-        io::writer(rt),
-    );
+    let (done, _out) = run_script(rt, rt.alloc(), server, &mut rt.reader(), io::writer(rt));
     match done {
         Ok(status) => Ok(status),
         Err(stop) => stop.tell(rt, subject_of(server, None)),
@@ -249,7 +243,10 @@ impl<W: Write + Drop> SessionTask<Result<Status, SessionFault>> for All<W> {
 
     fn play<S: ClientSession>(&mut self, slot: &mut S) -> Result<Status, SessionFault> {
         match self.orders.take() {
-            Some(orders) => at(Phase::Report, do_all(&mut self.out, self.alloc, orders, slot)),
+            Some(orders) => at(
+                Phase::Report,
+                do_all(&mut self.out, self.alloc, orders, slot),
+            ),
             None => Ok(Status::Done),
         }
     }
