@@ -17,16 +17,16 @@ const PORT: u16 = 2121;
 /// How long the other end may be silent, in seconds.
 const SECONDS: u32 = 60;
 
-/// `example_embed serve` serves one client, and `example_embed` is a client. The status is 1 where a socket or memory failed.
+/// `example_embed serve` serves one client, and `example_embed ask` is one. The status is 1 where a socket or memory failed, and 2 for other words.
 fn main(rt: HostRuntime) -> ExitCode {
-    let is_server = match env::args(&rt) {
-        Ok(words) => words.count() > 1,
-        Err(_) => false,
+    let word = match env::args(&rt) {
+        Ok(words) => words.skip(1).next(),
+        Err(_) => None,
     };
-    let done = if is_server {
-        server::serve_one(&rt)
-    } else {
-        client::put_and_get(&rt)
+    let done = match word.as_deref() {
+        Some("serve") => server::serve_one(&rt),
+        Some("ask") => client::put_and_get(&rt),
+        _ => return ExitCode::from(2),
     };
     match done {
         Ok(()) => ExitCode::SUCCESS,
