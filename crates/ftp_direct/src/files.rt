@@ -113,7 +113,7 @@ fn put_behind<A: Allocator + Copy, T: Tree<A>>(
     if !has_room(room, kept, octets) {
         return Ok(tell(Refusal::TooMuch));
     }
-    let mut draft = match tree.begin(root, path) {
+    let mut draft = match tree.begin(root, path, 0) {
         Ok(draft) => draft,
         Err(fault) => return refused(fault, Refusal::TooMuch),
     };

@@ -3,7 +3,7 @@ ghost use Rattle.std.specs.Prelude.{◌≡◌, IfOk};
 ghost use Rattle.ftp_server_model.specs.Ask.{or_empty};
 ghost use Rattle.ftp_server_transfer.specs.TreeTransfer.{transfer_of};
 
-use crate::ending::fault_by;
+use crate::ending::{fault_by, kept_count};
 use crate::line::What;
 use crate::listing::Listing;
 use crate::named::Named;
@@ -56,7 +56,7 @@ impl<A: Allocator + Copy, T: Tree<A>> ServerTransfer<A, T> for TreeTransfer<A, T
         settings: Representation,
     ) -> Result<TreeTransfer<A, T>, Fault> {
         let failures = tree.device_failures();
-        match tree.begin(root, path) {
+        match tree.begin(root, path, kept_count(keep)) {
             Ok(draft) => {
                 let path = mem::replace(path, Path::root(alloc));
                 Ok(TreeTransfer::Upload(Upload::new(path, keep, settings, draft)))

@@ -246,11 +246,13 @@ pub trait Tree<A: Allocator + Copy>: Drop {
         // Witness of sound: as of `fits`.
         ensures sound { IsSoundTree (table self.old) };
 
-    /// Begins a file that is to come to a path: none of its octets came yet, and the tree stays as it is until it is put there.
+    /// Begins a file that is to come to a path: none of its octets came yet, and the tree stays as it is until it is put there. So many first
+    /// octets of the file there `put` is expected to keep, `keep` of them: a tree may copy them before that.
     fn begin<B: Allocator + Copy, C: Allocator + Copy>(
         &mut self,
         root: &Path<B>,
         path: &Path<C>,
+        keep: u64,
     ) -> Result<Self::Draft, TreeFault>
         // Witness: equations; `edits/a_draft_begins_with_an_octet` of `ftp_tree_memory`.
         ensures none { IfOk result (λ draft. Self.Draft.octets draft ≡ []) }

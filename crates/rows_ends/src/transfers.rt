@@ -179,7 +179,7 @@ impl<J: ServerTransfer<Global, StrayingTree<Global>>> TransferStage<J> {
         let Ok(octets) = octets_of(self.alloc, octets) else {
             return Err(TreeFault::Memory);
         };
-        let mut came = self.tree.begin(&root, path)?;
+        let mut came = self.tree.begin(&root, path, 0)?;
         if came.push(octets.as_slice()).is_err() {
             return Err(TreeFault::Memory);
         }

@@ -93,7 +93,7 @@ fn put<A: Allocator + Copy, T: Tree<A>>(
     path: &Path<A>,
     line: &TreeLine<'_>,
 ) -> Result<(), TreeFault> {
-    let mut draft = tree.begin(root, path)?;
+    let mut draft = tree.begin(root, path, 0)?;
     let Ok(_) = draft.push(line.third) else {
         return Err(TreeFault::Memory);
     };

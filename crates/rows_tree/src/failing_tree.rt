@@ -249,11 +249,12 @@ impl<A: Allocator + Copy> Tree<A> for FailingTree<A> {
         &mut self,
         root: &Path<B>,
         path: &Path<C>,
+        keep: u64,
     ) -> Result<Content<A>, TreeFault> {
         if self.fails() {
             return Err(TreeFault::Device);
         }
-        self.tree.begin(root, path)
+        self.tree.begin(root, path, keep)
     }
 
     fn put<B: Allocator + Copy, C: Allocator + Copy>(

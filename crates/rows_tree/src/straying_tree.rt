@@ -224,8 +224,9 @@ impl<A: Allocator + Copy> Tree<A> for StrayingTree<A> {
         &mut self,
         root: &Path<B>,
         path: &Path<C>,
+        keep: u64,
     ) -> Result<Content<A>, TreeFault> {
-        self.tree.begin(root, path)
+        self.tree.begin(root, path, keep)
     }
 
     fn put<B: Allocator + Copy, C: Allocator + Copy>(

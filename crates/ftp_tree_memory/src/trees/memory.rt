@@ -207,6 +207,7 @@ impl<A: Allocator + Copy> Tree<A> for MemTree<A> {
         &mut self,
         _root: &Path<B>,
         _path: &Path<C>,
+        _keep: u64,
     ) -> Result<Content<A>, TreeFault> {
         Ok(Content::new(self.alloc))
     }

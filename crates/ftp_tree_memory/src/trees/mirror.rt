@@ -287,6 +287,7 @@ impl<A: Allocator + Copy, D: Folder> Tree<A> for Mirror<A, D> {
         &mut self,
         _root: &Path<B>,
         _path: &Path<C>,
+        _keep: u64,
     ) -> Result<Content<A>, TreeFault> {
         Ok(Content::new(self.tree.alloc))
     }
