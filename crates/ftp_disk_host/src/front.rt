@@ -7,10 +7,10 @@ use crate::reading::{open_same, read_some};
 use std::alloc::Global;
 use std::fs::Files;
 use std::io;
-use std::io::{Read, Write};
+use std::io::{Read, Seek, SeekFrom, Write};
 
 /// How many octets are copied at once.
-const PIECE: usize = 262_144;
+pub(crate) const PIECE: usize = 262_144;
 
 /// Copies the first octets of a file, `count` of them, and then all that a part has, into a part that has none.
 pub(crate) fn put_front<R: Files>(
@@ -23,14 +23,27 @@ pub(crate) fn put_front<R: Files>(
 ) -> io::Result<()> {
     let mut room = vec![in alloc; 0u8; PIECE]?;
     copy_front(old, count, &mut fresh.file, room.as_mut_slice())?;
+    put_written(files, alloc, part, fresh)
+}
+
+/// Copies all that was written of a part into another one.
+pub(crate) fn put_written<R: Files>(
+    files: &R,
+    alloc: Global,
+    part: &mut SystemPart<R::File>,
+    fresh: &mut SystemPart<R::File>,
+) -> io::Result<()> {
+    let mut room = vec![in alloc; 0u8; PIECE]?;
     part.hand_on()?;
     let look = part.look()?;
     let mut came = open_same(files, part.beside()?, look)?;
-    copy_front(&mut came, look.len, &mut fresh.file, room.as_mut_slice())
+    came.seek(SeekFrom::Start(part.owed))?;
+    let count = look.len.saturating_sub(part.owed);
+    copy_front(&mut came, count, &mut fresh.file, room.as_mut_slice())
 }
 
 /// Copies the next octets that a reader gives, `count` of them, to a writer.
-fn copy_front<F: Read, W: Write>(
+pub(crate) fn copy_front<F: Read, W: Write>(
     from: &mut F,
     count: u64,
     to: &mut W,

@@ -78,6 +78,22 @@ pub trait Host {
     /// name itself, the part gets none any more.
     fn begin(&self, below: &str) -> io::Result<Self::Part>;
 
+    /// The same of one that is to be put over the file that looked so, after the first octets of that, `count` of them. `copy_on` may copy these
+    /// meanwhile; `keep` copies them where it did not, or where another file stands there by then.
+    fn begin_after(&self, below: &str, _look: Look, _count: u64) -> io::Result<Self::Part> {
+        self.begin(below)
+    }
+
+    /// The number by which `copy_on` copies the first octets of the part that was begun last, once; none where `keep` copies them.
+    fn begun(&self) -> Option<u64> {
+        None
+    }
+
+    /// Copies some more of these first octets, few enough that nobody else waits for long, and says whether there are more to copy.
+    fn copy_on(&self, _number: u64) -> bool {
+        false
+    }
+
     /// Writes octets after those that a part has. Where that fails, the part is of no use any more.
     fn write(&self, part: &mut Self::Part, octets: &[u8]) -> io::Result<()>;
 

@@ -3,6 +3,7 @@
 //! (own choice).
 #![tactic(auto)]
 
+mod copying;
 mod folder;
 mod front;
 mod host;

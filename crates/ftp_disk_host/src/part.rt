@@ -9,7 +9,7 @@ use crate::place::{check_free, look_of, sync_above};
 use ftp_facts::Moment;
 use std::alloc::Global;
 use std::fs::{FileTimes, Files, OpenFile, OpenOptions, Permissions};
-use std::io::{BufWriter, Error, ErrorKind, Write};
+use std::io::{BufWriter, Error, ErrorKind, Seek, SeekFrom, Write};
 use std::os::unix::fs::{OpenOptionsExt, PermissionsExt};
 use std::{fs, io};
 
@@ -31,6 +31,8 @@ pub struct SystemPart<F: Write + Drop> {
     pub(crate) beside: Option<String<Global>>,
     /// The permissions of the file that had the name when this one was begun.
     pub(crate) kept: Option<u32>,
+    /// How many octets lie before the first one that was written, and are not its own yet.
+    pub(crate) owed: u64,
 }
 
 impl<F: Write + OpenFile + Drop> SystemPart<F> {
@@ -77,13 +79,15 @@ impl<F: Write + OpenFile + Drop> SystemPart<F> {
     }
 }
 
-/// Makes the part of a file beside a place, by its number and its own place. Nobody else may open one that is to replace a file. None where something has its name.
+/// Makes the part of a file beside a place, by its number and its own place, with room for so many octets in front. Nobody else may open one that is to
+/// replace a file. None where something has its name.
 pub(crate) fn begun_at<R: Files>(
     files: &R,
     alloc: Global,
     number: u64,
     beside: String<Global>,
     kept: Option<u32>,
+    front: u64,
 ) -> io::Result<Option<SystemPart<R::File>>>
     ensures { IfOk result (λ made. IfSome made (λ part. writer_buffer part.file ≡ [])) }
 {
@@ -91,7 +95,7 @@ pub(crate) fn begun_at<R: Files>(
     let mode = if kept.is_some() { OWN_MODE } else { NEW_MODE };
     how.write(true).create_new(true).mode(mode);
     let made = match how.open(files, beside.as_str()) {
-        Ok(file) => BufWriter::with_capacity(alloc, GATHERED, file),
+        Ok(file) => writer_after(alloc, file, front),
         Err(error) if error.kind() == ErrorKind::AlreadyExists => return Ok(None),
         Err(error) => return Err(error),
     };
@@ -101,7 +105,23 @@ pub(crate) fn begun_at<R: Files>(
         number,
         beside: Some(beside),
         kept,
+        owed: front,
     }))
+}
+
+/// A writer of a new file from a place on.
+fn writer_after<F: Write + Seek + Drop>(
+    alloc: Global,
+    file: F,
+    front: u64,
+) -> io::Result<BufWriter<F, Global>>
+    ensures { IfOk result (λ writer. writer_buffer writer ≡ []) }
+{
+    let mut file = file;
+    if front > 0 {
+        file.seek(SeekFrom::Start(front))?;
+    }
+    BufWriter::with_capacity(alloc, GATHERED, file)
 }
 
 /// The permissions of the file at a place, if one is there.

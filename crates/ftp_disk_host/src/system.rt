@@ -2,8 +2,9 @@
 ghost use Rattle.std.specs.Prelude.{◌≡◌, ◌≤◌, ◌<◌, ◌++◌, IfOk, length, string_bytes};
 ghost use Rattle.ftp_disk_host.specs.Place.{folder_text};
 
+use crate::copying::{COPIED_AT_ONCE, Fronts};
 use crate::folder::SystemFolder;
-use crate::front::put_front;
+use crate::front::{put_front, put_written};
 use crate::host::{Found, Host, Look, Stamp};
 use crate::left::{is_left, leave_at, part_in};
 use crate::listing::names_in;
@@ -32,6 +33,8 @@ pub struct SystemHost<'a, R: Files + Clock + AllocGlobal> {
     number: Cell<u64>,
     /// The parts that are written.
     writing: Writing,
+    /// The fronts that are copied to some of them.
+    fronts: Fronts<R::File>,
     /// Why the last call that was blamed failed.
     reason: Cell<Option<io::Error>>,
 }
@@ -44,6 +47,7 @@ impl<'a, R: Files + Clock + AllocGlobal> Drop for SystemHost<'a, R> {
             dir: _,
             number: _,
             writing: _,
+            fronts: _,
             reason: _,
         } = self;
     }
@@ -60,6 +64,7 @@ impl<'a, R: Files + Clock + AllocGlobal> SystemHost<'a, R> {
             dir,
             number: Cell::new(first_number(now(files))),
             writing: Writing::new(files.alloc()),
+            fronts: Fronts::new(files.alloc()),
             reason: Cell::new(None),
         })
     }
@@ -80,16 +85,20 @@ impl<'a, R: Files + Clock + AllocGlobal> SystemHost<'a, R> {
         Ok(place)
     }
 
-    /// Begins a part beside a place.
-    fn part_at(&self, place: &str) -> io::Result<SystemPart<R::File>> {
+    /// Begins a part beside a place, with room for so many octets in front, in the place of a file of these permissions, if one is there.
+    fn part_at(
+        &self,
+        place: &str,
+        kept: Option<u32>,
+        front: u64,
+    ) -> io::Result<SystemPart<R::File>> {
         let alloc = self.files.alloc();
-        let kept = mode_at(self.files, place)?;
         for _ in 0..TRIES {
             let number = self.number.get();
             self.number.set(number.wrapping_add(1));
             let beside = part_in(alloc, above(place), number)?;
             self.writing.add(number, beside.as_str())?;
-            match begun_at(self.files, alloc, number, beside, kept) {
+            match begun_at(self.files, alloc, number, beside, kept, front) {
                 Ok(Some(part)) => return Ok(part),
                 Ok(None) => self.writing.remove(number),
                 Err(error) => {
@@ -105,7 +114,47 @@ impl<'a, R: Files + Clock + AllocGlobal> SystemHost<'a, R> {
     fn note(&self, part: &SystemPart<R::File>) {
         if part.beside.is_none() {
             self.writing.remove(part.number);
+            self.fronts.remove(part.number);
         }
+    }
+
+    /// Copies the first octets of the file at a place, `count` of them, and what was written of a part into a fresh one, which takes its place.
+    fn copy_front(
+        &self,
+        part: &mut SystemPart<R::File>,
+        place: &str,
+        old: &mut R::File,
+        count: u64,
+    ) -> io::Result<()> {
+        let kept = mode_at(self.files, place)?;
+        let mut fresh = self.part_at(place, kept, 0)?;
+        let put = put_front(self.files, self.files.alloc(), old, count, part, &mut fresh);
+        self.replace(part, fresh, put)
+    }
+
+    /// Where the room in front of what was written of a part is nobody's, it is closed, before the part gets the name of a place.
+    fn close_room(&self, part: &mut SystemPart<R::File>, place: &str) -> io::Result<()> {
+        if part.owed == 0 {
+            return Ok(());
+        }
+        let mut fresh = self.part_at(place, part.kept, 0)?;
+        let put = put_written(self.files, self.files.alloc(), part, &mut fresh);
+        self.replace(part, fresh, put)
+    }
+
+    /// A fresh part takes the place of another, where it has all of it; the one of them that is of no use goes.
+    fn replace(
+        &self,
+        part: &mut SystemPart<R::File>,
+        fresh: SystemPart<R::File>,
+        put: io::Result<()>,
+    ) -> io::Result<()> {
+        let mut fresh = fresh;
+        if put.is_ok() {
+            mem::swap(part, &mut fresh);
+        }
+        self.discarded(&mut fresh);
+        put
     }
 
     /// Removes a part that got no name.
@@ -175,7 +224,37 @@ impl<'a, R: Files + Clock + AllocGlobal> Host for SystemHost<'a, R> {
     }
 
     fn begin(&self, below: &str) -> io::Result<SystemPart<R::File>> {
-        self.part_at(self.way(below)?.as_str())
+        let place = self.way(below)?;
+        let kept = mode_at(self.files, place.as_str())?;
+        self.part_at(place.as_str(), kept, 0)
+    }
+
+    fn begin_after(&self, below: &str, look: Look, count: u64) -> io::Result<SystemPart<R::File>> {
+        if count <= COPIED_AT_ONCE {
+            return self.begin(below);
+        }
+        let place = self.way(below)?;
+        let kept = mode_at(self.files, place.as_str())?;
+        let part = self.part_at(place.as_str(), kept, count)?;
+        if let Some(beside) = &part.beside {
+            let _begun = self.fronts.begin(
+                self.files,
+                part.number,
+                place.as_str(),
+                beside.as_str(),
+                look,
+                count,
+            );
+        }
+        Ok(part)
+    }
+
+    fn begun(&self) -> Option<u64> {
+        self.fronts.begun()
+    }
+
+    fn copy_on(&self, number: u64) -> bool {
+        self.fronts.copy_on(number)
     }
 
     fn write(&self, part: &mut SystemPart<R::File>, octets: &[u8]) -> io::Result<()> {
@@ -191,20 +270,11 @@ impl<'a, R: Files + Clock + AllocGlobal> Host for SystemHost<'a, R> {
     ) -> io::Result<()> {
         let place = self.way(below)?;
         let mut old = open_same(self.files, place.as_str(), look)?;
-        let mut fresh = self.part_at(place.as_str())?;
-        let put = put_front(
-            self.files,
-            self.files.alloc(),
-            &mut old,
-            count,
-            part,
-            &mut fresh,
-        );
-        if put.is_ok() {
-            mem::swap(part, &mut fresh);
+        if self.fronts.is_whole(part.number, look, count) {
+            part.owed = 0;
+            return Ok(());
         }
-        self.discarded(&mut fresh);
-        put
+        self.copy_front(part, place.as_str(), &mut old, count)
     }
 
     fn put_new(
@@ -214,6 +284,7 @@ impl<'a, R: Files + Clock + AllocGlobal> Host for SystemHost<'a, R> {
         moment: Moment,
     ) -> io::Result<Look> {
         let place = self.way(below)?;
+        self.close_room(part, place.as_str())?;
         let named = name_new(self.files, part, place.as_str(), moment);
         self.note(part);
         named
@@ -226,6 +297,7 @@ impl<'a, R: Files + Clock + AllocGlobal> Host for SystemHost<'a, R> {
         moment: Moment,
     ) -> io::Result<Look> {
         let place = self.way(below)?;
+        self.close_room(part, place.as_str())?;
         let named = name_over(self.files, part, place.as_str(), moment);
         self.note(part);
         named
