@@ -1,4 +1,5 @@
 // What is asked of a host at a path, and which directories are listed anew after it.
+use crate::putting::Old;
 use ftp_disk_host::{Host, Look};
 use ftp_disk_scan::{Dirs, above, below_of};
 use ftp_path::Path;
@@ -16,14 +17,18 @@ pub(crate) fn open_at<H: Host, B: Allocator + Copy, C: Allocator + Copy>(
     host.open(below.as_str(), look)
 }
 
-/// Begins a file that is written beside a path.
+/// Begins a file that is written beside a path, after the front that is kept of the file there, if one is.
 pub(crate) fn begin_at<H: Host, B: Allocator + Copy, C: Allocator + Copy>(
     host: &H,
     root: &Path<B>,
     path: &Path<C>,
+    old: Option<Old>,
 ) -> io::Result<H::Part> {
     let below = below_of(host.memory(), root, path)?;
-    host.begin(below.as_str())
+    match old {
+        Some(old) => host.begin_after(below.as_str(), old.look, old.front.count),
+        None => host.begin(below.as_str()),
+    }
 }
 
 /// Makes a directory.

@@ -413,9 +413,10 @@ impl<'a, H: Host, K: Held> Tree<Global> for DiskTree<'a, H, K> {
         &mut self,
         root: &Path<B>,
         path: &Path<C>,
+        keep: u64,
     ) -> Result<DiskDraft<'a, H>, TreeFault> {
         let host = self.device.host();
-        match begin_at(host, root, path) {
+        match begin_at(host, root, path, self.old_file(root, path, keep)) {
             Ok(part) => Ok(DiskDraft::new(host, part)),
             Err(error) => {
                 self.device.fail(error);

@@ -10,6 +10,7 @@ mod draft;
 mod opened;
 mod opening;
 mod parked;
+mod preparing;
 mod putting;
 mod record;
 
@@ -19,3 +20,4 @@ pub use ftp_disk_scan::{Held, LeftOut, LoadFault, Odd, Reason, Unknown, Version}
 pub use opened::DiskOpen;
 pub use opening::open;
 pub use parked::Parks;
+pub use preparing::Prepares;
