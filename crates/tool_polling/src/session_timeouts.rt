@@ -116,8 +116,8 @@ impl Timeouts {
         matches!(self.transfers.get(), Transfers::AreSpared)
     }
 
-    /// Octets of a data connection went.
-    pub(crate) fn carry(&self) {
+    /// Octets of a data connection went, or of the file that an upload is put over.
+    pub fn carry(&self) {
         let now = monotonic_millis();
         self.has_heard.set(false);
         self.last.set(now);

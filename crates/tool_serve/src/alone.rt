@@ -5,7 +5,7 @@ use crate::begins::{Begins, Ours};
 use crate::log_line::Tells;
 use crate::session_in_slot::{Guest, ServerSession};
 use crate::session_start::session_of;
-use ftp_disk_tree::{Explains, Parks};
+use ftp_disk_tree::{Parks, Prepares};
 use ftp_ports::Failed;
 use std::alloc::Global;
 use std::time::Clock;
@@ -16,7 +16,7 @@ use tool_sockets::Sockets;
 pub fn session<R, T>(rt: &R, tree: &mut T, guest: Guest<'_>) -> Result<(), Failed>
 where
     R: Sockets + Tells + Clock + AllocGlobal,
-    T: Parks<Global> + Explains,
+    T: Parks<Global> + Prepares,
 {
     session_of_ours(rt, tree, guest)
 }
@@ -25,7 +25,7 @@ where
 fn session_of_ours<R, T>(rt: &R, tree: &mut T, guest: Guest<'_>) -> Result<(), Failed>
 where
     R: ServesOne,
-    T: Parks<Global> + Explains,
+    T: Parks<Global> + Prepares,
 {
     rt.serve_one(&Ours, tree, guest)
 }
@@ -34,14 +34,14 @@ where
 trait ServesOne {
     fn serve_one<T, M>(&self, begins: &M, tree: &mut T, guest: Guest<'_>) -> Result<(), Failed>
     where
-        T: Parks<Global> + Explains,
+        T: Parks<Global> + Prepares,
         M: Begins<T>;
 }
 
 impl<R: Sockets + Tells + Clock + AllocGlobal> ServesOne for R {
     fn serve_one<T, M>(&self, begins: &M, tree: &mut T, guest: Guest<'_>) -> Result<(), Failed>
     where
-        T: Parks<Global> + Explains,
+        T: Parks<Global> + Prepares,
         M: Begins<T>,
     {
         session_by(self, begins, tree, guest)
@@ -52,7 +52,7 @@ impl<R: Sockets + Tells + Clock + AllocGlobal> ServesOne for R {
 fn session_by<R, T, M>(rt: &R, begins: &M, tree: &mut T, guest: Guest<'_>) -> Result<(), Failed>
 where
     R: Sockets + Tells + Clock + AllocGlobal,
-    T: Parks<Global> + Explains,
+    T: Parks<Global> + Prepares,
     M: Begins<T>,
 {
     let session: Option<ServerSession<'_, R, T, M::Server>> = session_of(rt, begins, tree, guest);

@@ -152,11 +152,18 @@ impl<'a, R: Sockets + Tells> Ports for CountedPorts<'a, R> {
         self.inner.wait(&mut stream.inner, what, hears)
     }
 
+    /// While the front of an upload is copied, replies go, and nothing else is there.
     fn looks(&mut self, what: Awaited) -> bool {
+        if self.session_log.is_copying() && !matches!(what, Awaited::Replies) {
+            return false;
+        }
         self.inner.looks(what)
     }
 
     fn looks_at(&mut self, stream: &mut CountedLink<'a, R>, what: For, beside: Beside) -> bool {
+        if self.session_log.is_copying() {
+            return false;
+        }
         self.inner.looks_at(&mut stream.inner, what, beside)
     }
 

@@ -13,7 +13,7 @@ use crate::session_start::Seating;
 use crate::sessions::SessionCount;
 use crate::starting::{Unserved, dir_text, is_folder, opened, tell_roots};
 use ftp_disk_host::{Host, SystemHost};
-use ftp_disk_tree::{Explains, LoadFault, Odd, Others, Parks};
+use ftp_disk_tree::{LoadFault, Odd, Others, Parks, Prepares};
 use ftp_operation::Rights;
 use ftp_tree::Limits;
 use std::alloc::{AllocError, Global};
@@ -276,7 +276,7 @@ where
         + Print
         + Eprint
         + AllocGlobal,
-    T: Parks<Global> + Explains,
+    T: Parks<Global> + Prepares,
 {
     match listener_for(rt, job, rights) {
         Ok(Some(listener)) => Ok(serve_by(rt, tree, job, &listener, lines)),
@@ -348,7 +348,7 @@ fn serve_by<R, T>(
 ) -> Status
 where
     R: Net<Listener = TcpListener, Stream = TcpStream> + Files + Clock + Eprint + AllocGlobal,
-    T: Parks<Global> + Explains,
+    T: Parks<Global> + Prepares,
 {
     let passive = passive_of(rt.alloc(), job);
     let login_limiter = RefCell::new(LoginLimiter::nothing(rt.alloc()));
@@ -372,7 +372,7 @@ fn serve_ours<R, T>(
 ) -> Status
 where
     R: ServesMany,
-    T: Parks<Global> + Explains,
+    T: Parks<Global> + Prepares,
 {
     rt.serve_many(Ours, tree, job, listener, service)
 }
@@ -388,7 +388,7 @@ trait ServesMany {
         service: Service<'_>,
     ) -> Status
     where
-        T: Parks<Global> + Explains,
+        T: Parks<Global> + Prepares,
         M: Begins<T>;
 }
 
@@ -402,7 +402,7 @@ impl<R: Sockets + Tells + Clock + Files + AllocGlobal> ServesMany for R {
         service: Service<'_>,
     ) -> Status
     where
-        T: Parks<Global> + Explains,
+        T: Parks<Global> + Prepares,
         M: Begins<T>,
     {
         serve_over(self, begins, tree, job, listener, service)
@@ -420,7 +420,7 @@ fn serve_over<R, T, M>(
 ) -> Status
 where
     R: Sockets + Tells + Clock + Files + AllocGlobal,
-    T: Parks<Global> + Explains,
+    T: Parks<Global> + Prepares,
     M: Begins<T>,
 {
     let mut tree = tree;

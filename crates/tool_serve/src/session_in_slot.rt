@@ -8,7 +8,7 @@ use crate::goodbye::last_reply;
 use crate::log_line::Tells;
 use crate::session_log::{Log, SessionLog};
 use crate::watching::Watching;
-use ftp_disk_tree::Explains;
+use ftp_disk_tree::Prepares;
 use ftp_operation::Accounts;
 use ftp_ports::{Cause, Ports};
 use ftp_server_driver::{Clocked, Control, Data, Turned, lent_turns};
@@ -67,7 +67,7 @@ enum SessionOutcome {
 pub struct ServerSession<'a, R, T, F>
 where
     R: Sockets + Tells + Clock,
-    T: Tree<Global> + Explains,
+    T: Tree<Global> + Prepares,
     F: Lends<Global, T>,
 {
     clocked: Clocked<F, SystemWatch<'a, R>, Watching<'a, R, T>>,
@@ -84,7 +84,7 @@ where
 impl<'a, R, T, F> Drop for ServerSession<'a, R, T, F>
 where
     R: Sockets + Tells + Clock,
-    T: Tree<Global> + Explains,
+    T: Tree<Global> + Prepares,
     F: Lends<Global, T>,
 {
     fn drop(self) {
@@ -112,7 +112,7 @@ pub(crate) struct Connected<'a, R: Sockets + Tells> {
 impl<'a, R, T, F> ServerSession<'a, R, T, F>
 where
     R: Sockets + Tells + Clock,
-    T: Tree<Global> + Explains,
+    T: Tree<Global> + Prepares,
     F: Lends<Global, T>,
 {
     /// A session that begins, of a server that has a bare tree; `watching` is its session log too.
@@ -144,7 +144,7 @@ where
 impl<'a, R, T, F> Slot<T> for ServerSession<'a, R, T, F>
 where
     R: Sockets + Tells + Clock,
-    T: Tree<Global> + Explains,
+    T: Tree<Global> + Prepares,
     F: Lends<Global, T>,
 {
     ghost takes = { λ lent left result old new. TakesSlotTurn (holding (T.table lent) (T.failures lent)) (holding (T.table left) (T.failures left))
@@ -161,8 +161,9 @@ where
             tree,
             &mut self.stood,
         );
+        let has_copied = self.session_log.copy_on(tree);
         match turned {
-            Ok(Turned::Later) => TurnResult::Later,
+            Ok(Turned::Later) => later(has_copied),
             Ok(Turned::More) => TurnResult::More,
             Ok(Turned::Over(())) => {
                 self.went = SessionOutcome::Whole;
@@ -210,6 +211,15 @@ where
     }
 }
 
+/// How a turn ends that waits for its connections; where the front of an upload is copied, that goes on at once.
+fn later(has_copied: bool) -> TurnResult {
+    if has_copied {
+        TurnResult::More
+    } else {
+        TurnResult::Later
+    }
+}
+
 /// Some turns of a drive, with the tree that is lent.
 fn some_turns<'a, R, T, F>(
     clocked: &mut Clocked<F, SystemWatch<'a, R>, Watching<'a, R, T>>,
@@ -221,7 +231,7 @@ fn some_turns<'a, R, T, F>(
 ) -> Result<Turned<()>, Cause>
 where
     R: Sockets + Tells + Clock,
-    T: Tree<Global> + Explains,
+    T: Tree<Global> + Prepares,
     F: Lends<Global, T>,
     ensures { TakesSlotTurn (holding (T.table tree.old) (T.failures tree.old)) (holding (T.table tree.new) (T.failures tree.new)) stood.old stood.new
         (ended_by result) (stand_of F.Far.server clocked.old control.old link.old) (stand_of F.Far.server clocked.new control.new link.new) }

@@ -6,7 +6,7 @@ use crate::refused_logins::{AnswerPace, LoginHistory, password_awaited};
 use crate::session_in_slot::Service;
 use crate::text::TextFront;
 use ftp_command::Verb;
-use ftp_disk_tree::Explains;
+use ftp_disk_tree::Prepares;
 use ftp_reply::code::COMPLETE;
 use ftp_server_model::{Answered, Far};
 use ftp_tree::Tree;
@@ -72,6 +72,8 @@ pub(crate) struct SessionLog<'a, R: Tells> {
     fate: Cell<DataClose>,
     /// Why the folder failed last, where no line was told of that yet.
     why: Cell<Option<io::Error>>,
+    /// The draft whose front is copied: until that is done nothing is heard and no octet of the upload is taken.
+    copied: Cell<Option<u64>>,
     /// Whether the server owes octets that were not given to be written.
     owes: Cell<bool>,
     /// Whether what was written is whole replies.
@@ -105,6 +107,7 @@ impl<'a, R: Tells> SessionLog<'a, R> {
             moved: Cell::new(0),
             fate: Cell::new(DataClose::Ended),
             why: Cell::new(None),
+            copied: Cell::new(None),
             owes: Cell::new(false),
             is_whole: Cell::new(true),
         }
@@ -159,7 +162,7 @@ impl<'a, R: Tells> SessionLog<'a, R> {
     /// The server was called: takes in which lines it answered for good, and tells them.
     pub(crate) fn saw<T, F>(&self, server: &F)
     where
-        T: Tree<Global> + Explains,
+        T: Tree<Global> + Prepares,
         F: Far<Global, T>,
     {
         self.owes.set(server.owes());
@@ -169,6 +172,9 @@ impl<'a, R: Tells> SessionLog<'a, R> {
         }
         if let Some(left) = server.tree().left_out() {
             self.rt.tell(self.service.lines, &NotTaken(left));
+        }
+        if let Some(draft) = server.tree().begun() {
+            self.copied.set(Some(draft));
         }
         if let Some((asked, code)) = self.ended(server) {
             self.close(is_in, asked, code);
@@ -181,6 +187,23 @@ impl<'a, R: Tells> SessionLog<'a, R> {
             }
         }
         self.begin(server);
+    }
+
+    /// Whether the front of an upload is copied now, in a session that is not ended.
+    pub(crate) fn is_copying(&self) -> bool {
+        self.copied.get().is_some() && !self.line.timeouts.is_spent()
+    }
+
+    /// Copies some more of the front of an upload, which counts as octets that went. Whether some was to be copied.
+    pub(crate) fn copy_on<T: Prepares>(&self, tree: &T) -> bool {
+        let Some(draft) = self.copied.get() else {
+            return false;
+        };
+        self.line.timeouts.carry();
+        if !tree.copy_on(draft) {
+            self.copied.set(None);
+        }
+        true
     }
 
     /// The line that waited for its last reply, and the code of that, where it was said in the call: the transfer ended, or the port that was

@@ -13,7 +13,7 @@ use crate::session_in_slot::{Connected, Guest, ServerSession, Service};
 use crate::session_log::{Log, SessionLog};
 use crate::sessions::SessionCount;
 use crate::watching::Watching;
-use ftp_disk_tree::{Explains, Parks};
+use ftp_disk_tree::{Parks, Prepares};
 use ftp_endpoint::Host;
 use ftp_server_driver::Control;
 use ftp_tree::Tree;
@@ -63,7 +63,7 @@ impl<'a, R, T, M> Seating<'a, R, T, M> {
 impl<'a, R, T, M> Slots for Seating<'a, R, T, M>
 where
     R: Sockets + Tells + Clock + Files + AllocGlobal,
-    T: Parks<Global> + Explains,
+    T: Parks<Global> + Prepares,
     M: Begins<T>,
 {
     type Tree = T;
@@ -144,7 +144,7 @@ pub(crate) fn session_of<'a, R, T, M>(
 ) -> Option<ServerSession<'a, R, T, M::Server>>
 where
     R: Sockets + Tells + Clock + AllocGlobal,
-    T: Parks<Global> + Explains,
+    T: Parks<Global> + Prepares,
     M: Begins<T>,
 {
     let Guest {

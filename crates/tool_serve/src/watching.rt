@@ -3,7 +3,7 @@ ghost use Rattle.std.specs.Global.{Global};
 
 use crate::log_line::Tells;
 use crate::session_log::SessionLog;
-use ftp_disk_tree::Explains;
+use ftp_disk_tree::Prepares;
 use ftp_server_driver::Watches;
 use ftp_server_model::Far;
 use ftp_tree::Tree;
@@ -33,7 +33,7 @@ impl<'a, R: Tells, T> Watching<'a, R, T> {
 impl<'a, R, T, F> Watches<F> for Watching<'a, R, T>
 where
     R: Tells,
-    T: Tree<Global> + Explains,
+    T: Tree<Global> + Prepares,
     F: Far<Global, T>,
 {
     fn saw(&mut self, server: &F) {
