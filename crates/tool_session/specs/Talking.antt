@@ -19,6 +19,7 @@ Played false had plays old new result = Unit {0}
 Played true had plays old new result = (heard : List SessionExchange) × had heard × plays heard result old new
 
 -- a task was played so over a control connection; or there was none, and nothing was asked
-abbrev pub Conversed : {P T F : Type 0} → (tells : Bool) → (List SessionExchange → Type 0) → (List SessionExchange → Result T F → P → P → Type 0) → P → P → Result T F → Type 0
+abbrev pub Conversed : {P T F : Type 0} → (tells : Bool) → (List SessionExchange → Type 0) → (List SessionExchange → Result T F → P → P → Type 0) → P → P
+    → Result T F → Type 0
 Conversed false had plays old new result = Unit {0}
 Conversed true had plays old new result = Played true had plays old new result ⊎ ((new ≡ old) × IsErr result)
