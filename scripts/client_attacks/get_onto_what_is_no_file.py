@@ -1,6 +1,7 @@
 #!/usr/bin/env python3
 """`get` never puts a file in the place of a link, a device or a pipe: it writes where a link leads, and into what is no file."""
 import os
+import socket
 import subprocess
 import threading
 
@@ -44,6 +45,23 @@ def links(rows):
     rows.row("onto a directory, where one has its name: refused", status == 3 and (there / "f").is_dir(), (status, told))
 
 
+def unread(rows, pipe):
+    """A pipe that nobody reads is waited for, as by curl, wget and cp: who reads it later has the whole file."""
+    server = FakeServer({"SIZE": f"213 {len(WHOLE)}", "RETR": lambda session, _: session.send(WHOLE)})
+    words = [TOOL, "get", f"127.0.0.1:{server.port}/f", str(pipe)]
+    with subprocess.Popen(words, stdin=subprocess.DEVNULL, stderr=subprocess.PIPE) as process:
+        try:
+            process.wait(2)
+            waits = False
+        except subprocess.TimeoutExpired:
+            waits = True
+        came = pipe.read_bytes() if waits else b""
+        _, told = process.communicate(timeout=60)
+    server.close()
+    holds = waits and (process.returncode, came) == (0, WHOLE) and pipe.is_fifo()
+    rows.row("onto a pipe that nobody reads: who reads it later has the file", holds, (waits, process.returncode, len(came), told))
+
+
 def others(rows):
     pipe = rows.folder / "pipe"
     os.mkfifo(pipe)
@@ -53,6 +71,11 @@ def others(rows):
     status, _, told = get(rows, "pipe")
     reader.join(10)
     rows.row("onto a pipe: its reader has the file, and it stays", status == 0 and came == [WHOLE] and pipe.is_fifo(), (status, told))
+    unread(rows, pipe)
+    with socket.socket(socket.AF_UNIX) as listening:
+        listening.bind(str(rows.folder / "socket"))
+        status, _, told = get(rows, "socket")
+    rows.row("onto a socket: refused, and it stays", status == 3 and (rows.folder / "socket").is_socket() and b"socket: " in told, (status, told))
     status, _, told = get(rows, "/dev/null")
     rows.row("onto /dev/null", status == 0 and not os.path.isfile("/dev/null"), (status, told))
     status, octets, told = get(rows, "/dev/stdout")
