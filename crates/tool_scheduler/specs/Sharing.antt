@@ -1,18 +1,35 @@
 -- One tree and the sessions in their slots: what rounds make of both (own choice).
-use Rattle.std.specs.Prelude.{◌≡◌, ◌⊎◌, ℕ, List, [], ◌∷◌, map, Option, Some, None, slice_get, slice_set}
+use Rattle.std.specs.Prelude.{◌≡◌, ◌⊎◌, ◌<◌, ℕ, List, [], ◌∷◌, length, map, Option, Some, None, slice_get, slice_set}
 use Rattle.std.specs.Option.{option_map}
+use Rattle.tool_scheduler.specs.Rounds.{host_in}
 use Rattle.tool_scheduler.specs.declared.slot.TurnResult.{TurnResult}
 use Rattle.tool_scheduler.specs.declared.slot.TurnResult.TheVariants as Results
 use Rattle.tool_scheduler.specs.declared.table.TakenSlot.{TakenSlot}
 
--- the one tree, and the session in each slot, where one is
+-- who has a slot: the session, and as whom its client counts
+pub record Occupant (S : Type 0) : Type 0 where
+  pub session : S
+  pub host : ℕ
+
+-- the one tree, and who has each slot, where one has it
 pub record Shared (T S : Type 0) : Type 0 where
   pub tree : T
-  pub slots : List (Option S)
+  pub slots : List (Option (Occupant S))
 
--- what happens to them: a round begins, of which whoever has the tree is told; the session in a slot has a turn; a session that begins takes a free slot
+-- as whom the client in a slot counts
+abbrev pub host_of : {S : Type 0} → Option (Option (Occupant S)) → ℕ
+host_of (Some (Some occupant)) = occupant.host
+host_of (Some None) = 0
+host_of None = 0
+
+-- the clients in the slots count as these
+abbrev pub AreHosts : {S : Type 0} → List ℕ → List (Option (Occupant S)) → Type 0
+AreHosts hosts slots = (place : ℕ) → place < length hosts → host_in hosts place ≡ host_of (slice_get slots place)
+
+-- what happens to them: a round begins, of which whoever has the tree is told, and as whom the clients count; the session in a slot has a turn; a session that
+-- begins takes a free slot
 pub data SharedEvent : Type 0 where
-  Began : SharedEvent
+  Began : (hosts : List ℕ) → SharedEvent
   Turned : (place : ℕ) → (result : TurnResult) → SharedEvent
   Seated : (place : ℕ) → SharedEvent
 
@@ -26,47 +43,57 @@ left_by Results.More session = Some session
 pub record TurnsIn {T S : Type 0} (takes : T → T → TurnResult → S → S → Type 0) (place : ℕ) (result : TurnResult) (old new : Shared T S) : Type 0 where
   pub before : S
   pub after : S
-  pub sits : slice_get old.slots place ≡ Some (Some before)
+  pub host : ℕ
+  pub sits : slice_get old.slots place ≡ Some (Some (record { session = before; host = host }))
   pub took : takes old.tree new.tree result before after
-  pub left : new.slots ≡ slice_set old.slots place (left_by result after)
+  pub left : new.slots ≡ slice_set old.slots place (left_by result (record { session = after; host = host }))
 
--- a session that begins takes a free slot; the tree stays, and all other sessions
-pub record SeatsIn {T S : Type 0} (place : ℕ) (old new : Shared T S) : Type 0 where
-  pub session : S
+-- a session that starts takes a free slot; the tree stays, and all other sessions
+pub record SeatsIn {T S : Type 0} (starts : S → Type 0) (place : ℕ) (old new : Shared T S) : Type 0 where
+  pub occupant : Occupant S
+  pub started : starts occupant.session
   pub free : slice_get old.slots place ≡ Some None
-  pub seated : new ≡ record old { slots = slice_set old.slots place (Some session) }
+  pub seated : new ≡ record old { slots = slice_set old.slots place (Some occupant) }
 
--- what each event does, where a turn takes and a round begins as their owner says
-abbrev pub Happens : {T S : Type 0} → (begins : T → T → Type 0) → (takes : T → T → TurnResult → S → S → Type 0) → SharedEvent → (old new : Shared T S) → Type 0
-Happens begins takes Began old new = begins old.tree new.tree × (new.slots ≡ old.slots)
-Happens begins takes (Turned place result) old new = TurnsIn takes place result old new
-Happens begins takes (Seated place) old new = SeatsIn place old new
+-- what an owner says of its tree and sessions: what becomes of the tree as a round begins, how a session starts, and what a turn does
+pub record Rules (T S : Type 0) : Type 1 where
+  pub begins : (hosts : List ℕ) → T → T → Type 0
+  pub starts : S → Type 0
+  pub takes : T → T → TurnResult → S → S → Type 0
+
+abbrev pub rules_of : {T S : Type 0} → (List ℕ → T → T → Type 0) → (S → Type 0) → (T → T → TurnResult → S → S → Type 0) → Rules T S
+rules_of begins starts takes = record { begins = begins; starts = starts; takes = takes }
+
+-- what each event does
+abbrev pub Happens : {T S : Type 0} → Rules T S → SharedEvent → (old new : Shared T S) → Type 0
+Happens rules (Began hosts) old new = rules.begins hosts old.tree new.tree × AreHosts hosts old.slots × (new.slots ≡ old.slots)
+Happens rules (Turned place result) old new = TurnsIn rules.takes place result old new
+Happens rules (Seated place) old new = SeatsIn rules.starts place old new
 
 -- so do events, the last one first: each finds the tree and the sessions that the one before left
-abbrev pub Happened : {T S : Type 0} → (begins : T → T → Type 0) → (takes : T → T → TurnResult → S → S → Type 0) → List SharedEvent → (old new : Shared T S)
-    → Type 0
-Happened begins takes [] old new = new ≡ old
-Happened {T} {S} begins takes (event ∷ before) old new = (between : Shared T S) × Happened begins takes before old between × Happens begins takes event between new
+abbrev pub Happened : {T S : Type 0} → Rules T S → List SharedEvent → (old new : Shared T S) → Type 0
+Happened rules [] old new = new ≡ old
+Happened {T} {S} rules (event ∷ before) old new = (between : Shared T S) × Happened rules before old between × Happens rules event between new
 
 -- nothing else happened to the tree and to the sessions
-pub record OnlyShared {T S : Type 0} (begins : T → T → Type 0) (takes : T → T → TurnResult → S → S → Type 0) (old new : Shared T S) : Type 0 where
+pub record OnlyShared {T S : Type 0} (rules : Rules T S) (old new : Shared T S) : Type 0 where
   pub events : List SharedEvent
-  pub happened : Happened begins takes events old new
+  pub happened : Happened rules events old new
 
 -- no slot is taken
-abbrev pub AreFree : {S : Type 0} → List (Option S) → Type 0
-AreFree {S} slots = (place : ℕ) (session : S) → slice_get slots place ≡ Some (Some session) → ⊥
+abbrev pub AreFree : {A : Type 0} → List (Option A) → Type 0
+AreFree {A} slots = (place : ℕ) (occupant : A) → slice_get slots place ≡ Some (Some occupant) → ⊥
 
--- the sessions of a table
-abbrev pub session_in : {S : Type 0} → TakenSlot S → S
-session_in taken = taken.session.value
+-- who has the slots of a table
+abbrev pub occupant_of : {S : Type 0} → TakenSlot S → Occupant S
+occupant_of taken = record { session = taken.session.value; host = taken.host }
 
-abbrev pub sessions_of : {S : Type 0} → List (Option (TakenSlot S)) → List (Option S)
-sessions_of slots = map (option_map session_in) slots
+abbrev pub occupants_of : {S : Type 0} → List (Option (TakenSlot S)) → List (Option (Occupant S))
+occupants_of slots = map (option_map occupant_of) slots
 
 -- a tree beside a table
 abbrev pub shared : {T S : Type 0} → T → List (Option (TakenSlot S)) → Shared T S
-shared tree slots = record { tree = tree; slots = sessions_of slots }
+shared tree slots = record { tree = tree; slots = occupants_of slots }
 
 -- a slot is freed of the session that had it; where it had none, all slots stay
 abbrev pub Frees : {A : Type 0} → (place : ℕ) → Option A → (old new : List (Option A)) → Type 0
@@ -77,11 +104,11 @@ Frees place None old new = new ≡ old
 abbrev pub Seats : {S : Type 0} → S → (old new : List (Option (TakenSlot S))) → Type 0
 Seats {S} session old new =
     (new ≡ old)
-    ⊎ ((place : ℕ) × (taken : TakenSlot S) × (slice_get old place ≡ Some None) × (session_in taken ≡ session) × (new ≡ slice_set old place (Some taken)))
+    ⊎ ((place : ℕ) × (taken : TakenSlot S) × (slice_get old place ≡ Some None) × (taken.session.value ≡ session) × (new ≡ slice_set old place (Some taken)))
 
 -- from no session to the sessions that stand at last: nothing but rounds, turns and sessions that begin happened to the tree
-pub record IsServed {T S : Type 0} (begins : T → T → Type 0) (takes : T → T → TurnResult → S → S → Type 0) (old new : T) : Type 0 where
-  pub first : List (Option S)
+pub record IsServed {T S : Type 0} (rules : Rules T S) (old new : T) : Type 0 where
+  pub first : List (Option (Occupant S))
   pub free : AreFree first
-  pub last : List (Option S)
-  pub only : OnlyShared begins takes (record { tree = old; slots = first }) (record { tree = new; slots = last })
+  pub last : List (Option (Occupant S))
+  pub only : OnlyShared rules (record { tree = old; slots = first }) (record { tree = new; slots = last })

@@ -6,7 +6,7 @@ ghost use Rattle.tool_scheduler.specs.Order.{first_ready};
 ghost use Rattle.tool_scheduler.specs.Rounds.{AreRounds, ComesMeanwhile, Gave, GoesOnTo, HaveSlots, IsRoundDone, LeavesAddress, LeavesPlace, RoundStanding};
 ghost use Rattle.tool_scheduler.specs.Rounds.{Spares};
 ghost use Rattle.tool_scheduler.specs.Rounds.{is_slot_taken, place_of, round_standing, told_if};
-ghost use Rattle.tool_scheduler.specs.Sharing.{IsServed, OnlyShared, shared};
+ghost use Rattle.tool_scheduler.specs.Sharing.{AreHosts, IsServed, OnlyShared, occupants_of, rules_of, shared};
 
 use crate::input::Heeded;
 use crate::listening_port::{Caller, ListeningPort};
@@ -51,8 +51,9 @@ pub fn serve_rounds<M: Slots>(
     // Witness of rounds: `edits/a_slot_that_is_next_has_no_turn.edit`, `one_slot_has_two_turns`, `the_order_is_not_asked`, `who_had_a_turn_is_still_ready`,
     // `an_address_has_a_second_turn_first`.
     ensures rounds { AreRounds (min session_limits.at_once 64) (M.Slot.history tree.old) (M.Slot.history tree.new) }
-    // Witness of shares: `edits/a_session_that_goes_on_is_ended.edit`, `a_session_moves_to_another_slot`, `a_session_takes_the_slot_of_another`.
-    ensures shares { IsServed M.begins M.Slot.takes tree.old tree.new }
+    // Witness of shares: `edits/a_session_that_goes_on_is_ended.edit`, `a_session_moves_to_another_slot`, `a_session_takes_the_slot_of_another`,
+    // `all_addresses_count_as_one`, `a_round_is_told_of_other_addresses`.
+    ensures shares { IsServed (rules_of M.begins M.starts M.Slot.takes) tree.old tree.new }
 {
     let count = session_limits.at_once.min(MOST_SLOTS);
     let mut order = TurnOrder::new(alloc, count)?;
@@ -131,7 +132,7 @@ impl<'a, M: Slots> Rounds<'a, M> {
         tree: &mut M::Tree,
     )
         ensures goes { (old : RoundStanding) → IsRoundDone old → old.order ≡ order.old → GoesOnTo (M.Slot.history tree.old) (M.Slot.history tree.new) old order.new }
-        ensures shares { OnlyShared M.begins M.Slot.takes (shared tree.old table.old.slots.items) (shared tree.new table.new.slots.items) }
+        ensures shares { OnlyShared (rules_of M.begins M.starts M.Slot.takes) (shared tree.old table.old.slots.items) (shared tree.new table.new.slots.items) }
     {
         self.stop_some(table);
         self.await_all(table);
@@ -212,7 +213,7 @@ impl<'a, M: Slots> Rounds<'a, M> {
         tree: &mut M::Tree,
     )
         ensures goes { (old : RoundStanding) → IsRoundDone old → old.order ≡ order.old → GoesOnTo (M.Slot.history tree.old) (M.Slot.history tree.new) old order.new }
-        ensures shares { OnlyShared M.begins M.Slot.takes (shared tree.old table.old.slots.items) (shared tree.new table.new.slots.items) }
+        ensures shares { OnlyShared (rules_of M.begins M.starts M.Slot.takes) (shared tree.old table.old.slots.items) (shared tree.new table.new.slots.items) }
     {
         let mut ready = self.ready(table);
         let hashing = hashing(table);
@@ -243,7 +244,7 @@ impl<'a, M: Slots> Rounds<'a, M> {
             (round_standing waiting.old order.old false) (round_standing waiting.new order.new false) }
         ensures done { first_ready waiting.new.first order.new ≡ None }
         ensures taken { HaveSlots waiting.new.ready table.new.slots.items }
-        ensures shares { OnlyShared M.begins M.Slot.takes (shared tree.old table.old.slots.items) (shared tree.new table.new.slots.items) }
+        ensures shares { OnlyShared (rules_of M.begins M.starts M.Slot.takes) (shared tree.old table.old.slots.items) (shared tree.new table.new.slots.items) }
     {
         while let Some(place) = order.take(&waiting.first) {
             self.give(place, waiting, table, tree);
@@ -262,7 +263,7 @@ impl<'a, M: Slots> Rounds<'a, M> {
         requires done { first_ready waiting.old.first order.old ≡ None }
         requires ready { HaveSlots waiting.old.ready table.old.slots.items }
         ensures goes { GoesOnTo (M.Slot.history tree.old) (M.Slot.history tree.new) (round_standing waiting.old order.old false) order.new }
-        ensures shares { OnlyShared M.begins M.Slot.takes (shared tree.old table.old.slots.items) (shared tree.new table.new.slots.items) }
+        ensures shares { OnlyShared (rules_of M.begins M.starts M.Slot.takes) (shared tree.old table.old.slots.items) (shared tree.new table.new.slots.items) }
     {
         let until = self.rows.now().saturating_add(ROUND_MILLIS);
         for _ in 0..MOST_SLOTS {
@@ -292,7 +293,7 @@ impl<'a, M: Slots> Rounds<'a, M> {
         ensures hosts { waiting.new.hosts ≡ waiting.old.hosts }
         ensures taken { HaveSlots waiting.old.ready table.old.slots.items → HaveSlots waiting.new.ready table.new.slots.items }
         ensures taken_first { HaveSlots waiting.old.first table.old.slots.items → HaveSlots waiting.new.first table.new.slots.items }
-        ensures shares { OnlyShared M.begins M.Slot.takes (shared tree.old table.old.slots.items) (shared tree.new table.new.slots.items) }
+        ensures shares { OnlyShared (rules_of M.begins M.starts M.Slot.takes) (shared tree.old table.old.slots.items) (shared tree.new table.new.slots.items) }
     {
         waiting.had_turn(place);
         self.turn(Turn::Next(place), table, tree);
@@ -330,7 +331,7 @@ impl<'a, M: Slots> Rounds<'a, M> {
             (told_if (is_slot_taken table.old.slots.items (place_of turn)) turn) }
         ensures others { (other : ℕ) → other ≢ place_of turn
             → is_slot_taken table.new.slots.items other ≡ is_slot_taken table.old.slots.items other }
-        ensures shares { OnlyShared M.begins M.Slot.takes (shared tree.old table.old.slots.items) (shared tree.new table.new.slots.items) }
+        ensures shares { OnlyShared (rules_of M.begins M.starts M.Slot.takes) (shared tree.old table.old.slots.items) (shared tree.new table.new.slots.items) }
     {
         let place = turn.place();
         let told = self.rows.take(FIRST_SLOT.saturating_add(place));
@@ -366,7 +367,7 @@ impl<'a, M: Slots> Rounds<'a, M> {
     #[tactic(auto, using(crate::proofs::RoundLemmas::spares_nothing, crate::proofs::RoundLemmas::spares_then, crate::proofs::RoundLemmas::spares_one, crate::proofs::SharingLemmas::shares_nothing, crate::proofs::SharingLemmas::shares_then))]
     fn welcome_all(&mut self, table: &mut Table<M::Slot>, tree: &mut M::Tree)
         ensures spares { Spares (M.Slot.history tree.old) (M.Slot.history tree.new) }
-        ensures shares { OnlyShared M.begins M.Slot.takes (shared tree.old table.old.slots.items) (shared tree.new table.new.slots.items) }
+        ensures shares { OnlyShared (rules_of M.begins M.starts M.Slot.takes) (shared tree.old table.old.slots.items) (shared tree.new table.new.slots.items) }
     {
         if !self.rows.is_told(DOOR) {
             return;
@@ -396,7 +397,7 @@ impl<'a, M: Slots> Rounds<'a, M> {
         tree: &mut M::Tree,
     )
         ensures spares { Spares (M.Slot.history tree.old) (M.Slot.history tree.new) }
-        ensures shares { OnlyShared M.begins M.Slot.takes (shared tree.old table.old.slots.items) (shared tree.new table.new.slots.items) }
+        ensures shares { OnlyShared (rules_of M.begins M.starts M.Slot.takes) (shared tree.old table.old.slots.items) (shared tree.new table.new.slots.items) }
     {
         let host = self.slots.host(peer);
         self.make_room(host, table, tree);
@@ -410,7 +411,7 @@ impl<'a, M: Slots> Rounds<'a, M> {
     #[tactic(auto, using(crate::proofs::RoundLemmas::spares_nothing, crate::proofs::RoundLemmas::spares_then, crate::proofs::RoundLemmas::spares_one, crate::proofs::SharingLemmas::shares_nothing, crate::proofs::SharingLemmas::shares_then))]
     fn make_room(&mut self, host: u128, table: &mut Table<M::Slot>, tree: &mut M::Tree)
         ensures spares { Spares (M.Slot.history tree.old) (M.Slot.history tree.new) }
-        ensures shares { OnlyShared M.begins M.Slot.takes (shared tree.old table.old.slots.items) (shared tree.new table.new.slots.items) }
+        ensures shares { OnlyShared (rules_of M.begins M.starts M.Slot.takes) (shared tree.old table.old.slots.items) (shared tree.new table.new.slots.items) }
     {
         let Some(why) = self.full(table, host) else {
             return;
@@ -427,7 +428,7 @@ impl<'a, M: Slots> Rounds<'a, M> {
     #[tactic(auto, using(crate::proofs::RoundLemmas::spares_nothing, crate::proofs::RoundLemmas::spares_then, crate::proofs::RoundLemmas::spares_one, crate::proofs::SharingLemmas::shares_nothing, crate::proofs::SharingLemmas::shares_then))]
     fn spare(&mut self, why: Full, host: u128, table: &mut Table<M::Slot>, tree: &mut M::Tree)
         ensures spares { Spares (M.Slot.history tree.old) (M.Slot.history tree.new) }
-        ensures shares { OnlyShared M.begins M.Slot.takes (shared tree.old table.old.slots.items) (shared tree.new table.new.slots.items) }
+        ensures shares { OnlyShared (rules_of M.begins M.starts M.Slot.takes) (shared tree.old table.old.slots.items) (shared tree.new table.new.slots.items) }
     {
         if let Some((place, over)) = spared(table, why, host) {
             if let Some(taken) = table.at(place) {
@@ -447,7 +448,7 @@ impl<'a, M: Slots> Rounds<'a, M> {
         table: &mut Table<M::Slot>,
         tree: &M::Tree,
     )
-        ensures { OnlyShared M.begins M.Slot.takes (shared tree.now table.old.slots.items) (shared tree.now table.new.slots.items) }
+        ensures { OnlyShared (rules_of M.begins M.starts M.Slot.takes) (shared tree.now table.old.slots.items) (shared tree.now table.new.slots.items) }
     {
         self.session_limits.sessions = self
             .session_limits
@@ -479,12 +480,12 @@ fn hashing<T, S: Slot<T>>(table: &Table<S>) -> [bool; MOST_SLOTS] {
 }
 
 /// As whom the client in each slot counts.
-fn hosts<S: Drop>(table: &Table<S>) -> [u128; MOST_SLOTS] {
+fn hosts<S: Drop>(table: &Table<S>) -> [u128; MOST_SLOTS]
+    ensures { AreHosts result (occupants_of table.now.slots.items) }
+{
     let mut hosts = [0; MOST_SLOTS];
-    for (place, host) in hosts.iter_mut().enumerate() {
-        if let Some(taken) = table.at(place) {
-            *host = taken.host;
-        }
+    for place in 0..MOST_SLOTS {
+        hosts[place] = table.host_at(place);
     }
     hosts
 }

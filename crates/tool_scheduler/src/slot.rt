@@ -1,5 +1,5 @@
 // A session in a slot, and who slots clients, as the rounds see them.
-ghost use Rattle.std.specs.Prelude.{◌≡◌, ◌∷◌, [], List, None, Option};
+ghost use Rattle.std.specs.Prelude.{◌≡◌, ◌∷◌, [], ℕ, IfSome, List, None, Option};
 ghost use Rattle.ftp_ports.specs.Asking.{Adds};
 ghost use Rattle.tool_scheduler.specs.Rounds.{RoundAction, Began, action_of, place_of};
 
@@ -82,8 +82,11 @@ pub trait Slots {
 
     type Slot: Slot<Self::Tree>;
 
-    /// What becomes of the tree as a round begins.
-    ghost begins: { (old new : Self.Tree) → Type 0 };
+    /// What becomes of the tree as a round begins, whose clients count as these.
+    ghost begins: { (hosts : List ℕ) → (old new : Self.Tree) → Type 0 };
+
+    /// How a session is as it starts.
+    ghost starts: { Self.Slot → Type 0 };
 
     /// As whom a client counts, of whom only so many are served at once.
     fn host(&self, peer: SocketAddr) -> u128;
@@ -94,14 +97,16 @@ pub trait Slots {
         stream: TcpStream,
         peer: SocketAddr,
         tree: &Self::Tree,
-    ) -> Option<Box<Self::Slot, Global>>;
+    ) -> Option<Box<Self::Slot, Global>>
+        // Witness: what an owner states of its sessions: `serve_rounds` says that each one that takes a slot starts so.
+        ensures starts { IfSome result (λ session. starts session.value) };
 
     /// A round begins, in which the sessions in these slots are ready, and whose clients count as these; who does not tell that does nothing.
     fn begin_round(&self, ready: &[bool], hosts: &[u128], tree: &mut Self::Tree)
         // Witness of told: as of `turn`.
         // Witness of begins: as of `takes`.
         ensures told { Adds (Self.Slot.history tree.old) (Self.Slot.history tree.new) (Began ready.now hosts.now ∷ []) }
-        ensures begins { begins tree.old tree.new };
+        ensures begins { begins hosts.now tree.old tree.new };
 
     /// A client for whom there is no slot was told so, and its connection.
     fn turn_away(

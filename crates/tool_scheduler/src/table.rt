@@ -1,8 +1,8 @@
 // The slots of all sessions.
 ghost use Rattle.std.specs.Global.{Global};
-ghost use Rattle.std.specs.Prelude.{◌≡◌, ◌≢◌, ◌↔◌, ℕ, IsTrue, IsSome, IfOk, Some, is_none, position, slice_set};
+ghost use Rattle.std.specs.Prelude.{◌≡◌, ◌≢◌, ◌↔◌, ℕ, IsTrue, IsSome, IfOk, Some, is_none, position, slice_get, slice_set};
 ghost use Rattle.tool_scheduler.specs.Rounds.{is_slot_taken};
-ghost use Rattle.tool_scheduler.specs.Sharing.{AreFree, Frees, Seats, sessions_of};
+ghost use Rattle.tool_scheduler.specs.Sharing.{AreFree, Frees, Seats, host_of, occupants_of};
 
 use crate::crowd::{Sitting, crowded_place};
 use crate::slot::{Slot, TurnResult};
@@ -30,7 +30,7 @@ pub(crate) struct Table<S: Drop> {
 impl<S: Drop> Table<S> {
     /// So many free slots.
     pub(crate) fn new(alloc: Global, count: usize) -> Result<Table<S>, AllocError>
-        ensures { IfOk result (λ table. AreFree (sessions_of table.slots.items)) }
+        ensures { IfOk result (λ table. AreFree (occupants_of table.slots.items)) }
     {
         let mut slots = Vec::new(alloc);
         for _ in 0..count {
@@ -62,6 +62,16 @@ impl<S: Drop> Table<S> {
         ensures { IsTrue (is_slot_taken self.now.slots.items place) ↔ IsSome result }
     {
         self.slots.get(place)?.as_ref()
+    }
+
+    /// As whom the client in a slot counts; nobody is 0.
+    pub(crate) fn host_at(&self, place: usize) -> u128
+        ensures { result ≡ host_of (slice_get (occupants_of self.now.slots.items) place) }
+    {
+        match self.slots.get(place) {
+            Some(Some(taken)) => taken.host,
+            Some(None) | None => 0,
+        }
     }
 
     /// Frees a slot, and gives the session that had it.

@@ -19,5 +19,5 @@ loop-place-preserved g c =
           c.loop-place.invariant.told c.in-Some.ensures.taken c.give.ensures.first c.give.ensures.ready c.give.ensures.hosts c.give.ensures.told;
       first = c.give.ensures.taken_first c.loop-place.invariant.first;
       ready = c.give.ensures.taken c.loop-place.invariant.ready;
-      shares = shares_then _ _ _ _ _ c.loop-place.invariant.shares c.give.ensures.shares;
+      shares = shares_then _ _ _ _ c.loop-place.invariant.shares c.give.ensures.shares;
     }

@@ -15,5 +15,5 @@ loop-preserved g c =
           (round_standing c.args.waiting.now c.args.order.now false) c.loop.waiting c.give.new.waiting c.loop.order c.take.new.self c.in-Some.place
           c.loop.invariant.told c.in-Some.ensures.taken c.give.ensures.first c.give.ensures.ready c.give.ensures.hosts c.give.ensures.told;
       ready = c.give.ensures.taken c.loop.invariant.ready;
-      shares = shares_then _ _ _ _ _ c.loop.invariant.shares c.give.ensures.shares;
+      shares = shares_then _ _ _ _ c.loop.invariant.shares c.give.ensures.shares;
     }

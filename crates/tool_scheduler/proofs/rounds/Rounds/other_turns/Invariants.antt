@@ -1,6 +1,6 @@
 use Rattle.std.proofs.Common.{false}
 use Rattle.tool_scheduler.specs.Rounds.{HaveSlots, round_standing}
-use Rattle.tool_scheduler.specs.Sharing.{OnlyShared, shared}
+use Rattle.tool_scheduler.specs.Sharing.{OnlyShared, rules_of, shared}
 use Rattle.tool_scheduler.proofs.RoundLemmas.{Others}
 use Rattle.tool_scheduler.proofs.rounds.Rounds.other_turns.Given as goal
 
@@ -11,5 +11,5 @@ invariant-loop g l =
     record {
       told : Others (history l.fn.tree) (history l.tree) (round_standing l.fn.waiting l.fn.order false) l.waiting l.order;
       ready : HaveSlots l.waiting.ready l.table.slots.items;
-      shares : OnlyShared g.M.Slots.begins g.M.Slot.Slot.takes (shared l.fn.tree l.fn.table.slots.items) (shared l.tree l.table.slots.items);
+      shares : OnlyShared (rules_of g.M.Slots.begins g.M.Slots.starts g.M.Slot.Slot.takes) (shared l.fn.tree l.fn.table.slots.items) (shared l.tree l.table.slots.items);
     }

@@ -14,4 +14,4 @@ returns-clause-goes g c =
 
 pub returns-clause-shares : goal.returns-clause-shares
 returns-clause-shares g c =
-    shares_then _ _ _ _ _ (shares_then _ _ _ _ _ (shares_round _ _ _ _ _ c.begin_round.ensures.begins) c.first_turns.ensures.shares) c.other_turns.ensures.shares
+    shares_then _ _ _ _ (shares_then _ _ _ _ (shares_round _ _ _ _ _ c.begin_round.ensures.begins c.hosts-hosts.ensures) c.first_turns.ensures.shares) c.other_turns.ensures.shares
