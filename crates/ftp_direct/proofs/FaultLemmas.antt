@@ -73,6 +73,10 @@ unfolding is_fault
 if_no true why other = refl
 if_no false why other = other
 
+either_no : (first : Bool) (one other : Option Refusal) → is_fault one ≡ false → is_fault other ≡ false → is_fault (if first then one else other) ≡ false
+either_no true one other o s = o
+either_no false one other o s = s
+
 not_parameter : is_fault (Some BadParameter) ≡ false
 unfolding is_fault
 not_parameter = refl
@@ -108,7 +112,7 @@ refusal_no state (Ops.PutFrom text offset octets how) = or_no _ _ (if_no _ BadPa
 refusal_no state (Ops.Get text how) = there_no _
 refusal_no state (Ops.GetFrom text offset how) = or_no _ _ (if_no _ BadParameter not_parameter) (or_no _ _ (there_no _) (there_no _))
 refusal_no state (Ops.Peek text count how) = there_no _
-refusal_no state (Ops.Size text how) = or_no _ _ (there_no _) (if_no _ Unavailable not_unavailable)
+refusal_no state (Ops.Size text how) = or_no _ _ (there_no _) (either_no _ _ _ (if_no _ Unavailable not_unavailable) not_unavailable)
 refusal_no state (Ops.Modified text) = there_no _
 refusal_no state (Ops.Facts text) = there_no _
 refusal_no state (Ops.List text how) = listing_no _

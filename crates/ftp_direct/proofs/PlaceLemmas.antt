@@ -1,5 +1,5 @@
 -- Where an offset leads to in a file, found piece by piece.
-use Rattle.std.proofs.Common.{◌≡◌, ◌≢◌, ℕ, zero, suc, ◌+◌, ◌<◌, ◌≤◌, ◌⊎◌, inl, inr, Bool, true, false, ◌==◌, List, [], ◌++◌, length, take, drop, nat_le, leb-false, Some, None, refl, ap, sym, subst, ◌∙◌, arith, zero-add, if◌then◌else◌}
+use Rattle.std.proofs.Common.{◌≡◌, ◌≢◌, ℕ, zero, suc, ◌+◌, ◌<◌, ◌≤◌, ◌⊎◌, inl, inr, Bool, true, false, ◌||◌, ◌==◌, List, [], ◌++◌, length, take, drop, nat_le, leb-false, Some, None, refl, ap, sym, subst, ◌∙◌, arith, zero-add, if◌then◌else◌}
 use Rattle.std.specs.List.{find, range_with_len}
 use Rattle.std.proofs.lemmas.Bool.{leb-true}
 use Rattle.std.proofs.lemmas.List.{take-append-drop, length-drop, length-take-le}
@@ -11,7 +11,8 @@ use Rattle.ftp_repr.specs.declared.skipping.Skipped.TheVariants.{Within, Left, I
 use Rattle.ftp_repr.proofs.SkipLemmas.{goes_up, place_once, row_append, within_stays, inside_stays}
 use Rattle.ftp_settings.specs.declared.representation.Kind.{Kind}
 use Rattle.ftp_settings.specs.declared.representation.Kind.TheVariants.{Ascii, Image}
-use Rattle.ftp_direct.specs.Direct.{place_in, size_in}
+use Rattle.ftp_direct.specs.Direct.{counted_place, is_counted, place_in, refused_number, refused_size, size_in}
+use Rattle.ftp_direct.specs.declared.refusal.Refusal.TheVariants.{Unavailable}
 use Rattle.ftp_direct.specs.Laws.{OffsetsLead}
 use Rattle.ftp_direct.proofs.SizeLemmas.{size_piece}
 
@@ -74,6 +75,22 @@ module _ (kind : Kind) (file : List ℕ) (offset : ℕ) where
   pub led : (place : ℕ) → place_in kind file offset ≡ Some place → IsPlaceOfOffset kind file offset place
   unfolding place_in test
   led place is = let both = passing place (length file + 1) 0 is in is_place place (omega (arith, both.0)) both.1
+
+-- the place of a file that is counted is the one that the offset leads to
+pub found_place : (kind : Kind) (octets : List ℕ) (offset place : ℕ) → counted_place kind octets offset ≡ Some place → place_in kind octets offset ≡ Some place
+found_place kind octets offset place is = by (is_counted kind (length octets) || (offset == 0)) is
+  where
+    by : (b : Bool) → (if b then place_in kind octets offset else None) ≡ Some place → place_in kind octets offset ≡ Some place
+    by true is = is
+    by false is = absurd (cc)
+
+-- the number of a size that is not refused is not refused
+pub told_size : (kind : Kind) (octets : List ℕ) → refused_size kind octets ≡ None → refused_number (size_in kind octets) ≡ None
+told_size kind octets none = by (is_counted kind (length octets)) none
+  where
+    by : (b : Bool) → (if b then refused_number (size_in kind octets) else Some Unavailable) ≡ None → refused_number (size_in kind octets) ≡ None
+    by true none = none
+    by false none = absurd (cc)
 
 pub offsets_lead : OffsetsLead
 offsets_lead kind octets offset place = (led kind octets offset place, leads kind octets offset place)

@@ -1,7 +1,7 @@
 -- The operations of a user, run directly on a map from paths to files and directories: the answer and the change of each, and a
 -- list of them in order. This is what a session of client and server is measured against; no command, reply or connection
 -- stands in it (RFC 959, section 4.1; RFC 3659). Each row is said of the part of the map that the user's account sees.
-use Rattle.std.specs.Prelude.{ℕ, ◌+◌, ◌==◌, ◌&&◌, ◌||◌, Bool, true, false, not, List, [], ◌∷◌, ◌++◌, length, take, drop, Option, Some, None, if◌then◌else◌}
+use Rattle.std.specs.Prelude.{ℕ, ◌+◌, ◌==◌, ◌&&◌, ◌||◌, Bool, true, false, not, List, [], ◌∷◌, ◌++◌, length, take, drop, nat_le, Option, Some, None, if◌then◌else◌}
 use Rattle.std.specs.Option.{is_some, option_map, option_or, unwrap_or}
 use Rattle.std.specs.List.{find, range_with_len}
 use Rattle.ftp_path.specs.Path.{parent, fits, resolved, text_of, Names, is_within}
@@ -167,15 +167,28 @@ size_in Image octets = length octets
 unfoldable pub place_in : Kind → List ℕ → ℕ → Option ℕ
 place_in kind octets offset = find (λ place. size_in kind (take place octets) == offset) (range_with_len 0 (length octets + 1))
 
+-- the longest file that is counted in type A, where its octets are read to count them (own choice)
+abbrev pub count_limit : ℕ
+count_limit = 67108864
+
+-- a file of so many octets is counted: in type I its length tells all
+abbrev pub is_counted : Kind → ℕ → Bool
+is_counted Ascii count = nat_le count count_limit
+is_counted Image count = true
+
+-- the place that an offset leads to, where the file is counted; offset 0 is the start of each file (RFC 3659, section 5)
+abbrev pub counted_place : Kind → List ℕ → ℕ → Option ℕ
+counted_place kind octets offset = if is_counted kind (length octets) || (offset == 0) then place_in kind octets offset else None
+
 -- the place of the file at a path, where no file stands that of no octets
 abbrev pub place_at : State → Names → How → ℕ → Option ℕ
-place_at state path how offset = place_in how.representation.kind (octets_or_none (part state) path) offset
+place_at state path how offset = counted_place how.representation.kind (octets_or_none (part state) path) offset
 
 -- how many of its first octets an offset skips; where it leads to no place nothing is done
 abbrev pub skipped : State → Names → How → ℕ → ℕ
 skipped state path how offset = unwrap_or (place_at state path how offset) 0
 
--- an offset leads to no place: into an octet that goes as two, or past the end
+-- an offset leads to no place: into an octet that goes as two, past the end, or into a file that is not counted
 abbrev pub no_place_refusal : State → Names → How → ℕ → Option TreeFault
 no_place_refusal state path how offset = whenever (not (is_some (place_at state path how offset))) Faults.BadOffset
 
@@ -197,6 +210,10 @@ refused_from state text how offset = or_refused (refused_file state text) (refus
 -- a number that is too long to be said (own choice)
 abbrev pub refused_number : ℕ → Option Refusal
 refused_number number = if is_number number then None else Some Unavailable
+
+-- the size of a file that is not counted, or too long to be said (RFC 3659, section 4; own choice)
+abbrev pub refused_size : Kind → List ℕ → Option Refusal
+refused_size kind octets = if is_counted kind (length octets) then refused_number (size_in kind octets) else Some Unavailable
 
 -- the first reason by the account and the map why an operation is refused, one row an operation
 abbrev pub refusal : State → Op (List ℕ) → Option Refusal
@@ -222,7 +239,7 @@ refusal state (Ops.PutFrom text offset octets how) =
 refusal state (Ops.Get text how) = refused_file state text
 refusal state (Ops.GetFrom text offset how) = or_refused (offset_refusal offset how) (refused_from state text how offset)
 refusal state (Ops.Peek text count how) = refused_file state text
-refusal state (Ops.Size text how) = or_refused (refused_file state text) (refused_number (size_in how.representation.kind (file_of state text)))
+refusal state (Ops.Size text how) = or_refused (refused_file state text) (refused_size how.representation.kind (file_of state text))
 refusal state (Ops.Modified text) = refused_file state text
 refusal state (Ops.Facts text) = refused_there (limited (named_or_here state text) (absent_refusal (node_at (part state) (named_or_here state text))))
 refusal state (Ops.List text how) = refused_text Verbs.Mlsd state text

@@ -34,7 +34,7 @@ pub use node_line::{last_name, put_node};
 pub use nodes::{
     absent_fault, directory_fault, file_fault, is_dir, is_file, len_at, unlisted_fault,
 };
-pub use offsets::{place_at, takes_offset};
+pub use offsets::{COUNT_LIMIT, is_counted, place_at, takes_offset};
 pub use places::{is_busy, is_held, move_to};
 pub use refusal::Refusal;
 pub use rights::may_put_at;

@@ -8,7 +8,7 @@ ghost use Rattle.ftp_operation.specs.Operation.{is_number, is_path_text};
 ghost use Rattle.ftp_direct.specs.Run.{IsAnswer, IsAsBefore};
 
 use crate::nodes::len_at;
-use crate::offsets::PIECE;
+use crate::offsets::{PIECE, is_counted};
 use crate::opening::open_there;
 use crate::reading::find_file;
 use crate::refusal::{Refusal, refused, tell};
@@ -36,7 +36,11 @@ pub(crate) fn size<A: Allocator + Copy, T: Tree<A>>(
         Ok(path) => path,
         Err(why) => return Ok(tell(why)),
     };
-    match wire_len(tree, root, &path, how.representation.kind) {
+    let kind = how.representation.kind;
+    if !is_counted(kind, len_at(tree, root, &path)) {
+        return Ok(tell(Refusal::Unavailable));
+    }
+    match wire_len(tree, root, &path, kind) {
         Ok(size) => Ok(tell_number(size)),
         Err(fault) => refused(fault, Refusal::Unavailable),
     }

@@ -1,7 +1,7 @@
 use Rattle.std.proofs.Common.{◌≡◌, ◌∙◌, ◌+◌, ap, length, sym, subst, take, IfOk, None, Some, if◌then◌else◌}
 use Rattle.ftp_tree.specs.Tree.{Table, octets_or_none, under}
 use Rattle.ftp_operation.specs.Answer.{said_of}
-use Rattle.ftp_direct.specs.Direct.{chosen, here, place_in, put, put_refusal}
+use Rattle.ftp_direct.specs.Direct.{chosen, counted_place, here, put, put_refusal}
 use Rattle.ftp_direct.specs.Run.{IsAnswer}
 use Rattle.ftp_direct.proofs.DueLemmas.{put_from_due}
 use Rattle.ftp_direct.proofs.LookLemmas.{if_counted, if_looked_once}

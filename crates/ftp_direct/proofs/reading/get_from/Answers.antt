@@ -1,7 +1,7 @@
 use Rattle.std.proofs.Common.{◌≡◌, ◌∙◌, ap, drop, length, sym, subst, take, IfOk, None, Some, if◌then◌else◌}
 use Rattle.ftp_tree.specs.Tree.{Table, octets_or_none, under}
 use Rattle.ftp_operation.specs.Answer.{Octets, said_of}
-use Rattle.ftp_direct.specs.Direct.{here, place_in, refused_file}
+use Rattle.ftp_direct.specs.Direct.{counted_place, here, refused_file}
 use Rattle.ftp_direct.specs.Run.{IsAnswer}
 use Rattle.ftp_direct.proofs.DueLemmas.{from_due}
 use Rattle.ftp_direct.proofs.LookLemmas.{if_counted, if_looked_twice}
@@ -30,6 +30,6 @@ returns-in-Ok-Some-clause-answer g c =
     (if_counted c.say_octets.result counts after _ _ _ said)
     (λ second still again.
     let free = subst (λ table. refused_file (here table root cwd) c.args.text.now ≡ None) still found.1 in
-    let led = subst (λ table. Some place ≡ place_in c.args.how.representation.kind (octets_or_none (under table root) path) c.args.offset) still (sym c.in-Ok-Some.field-0-is ∙ at.place second) in
+    let led = subst (λ table. Some place ≡ counted_place c.args.how.representation.kind (octets_or_none (under table root) path) c.args.offset) still (sym c.in-Ok-Some.field-0-is ∙ at.place second) in
     let all = subst (λ table. end ≡ length (octets_or_none (under table root) path)) again c.len_at-end.ensures in
     if_due c.say_octets.result _ _ _ _ _ _ (from_due old root cwd c.args.text.now path found.0 c.args.offset c.args.how place end takes free led all) (subst Says again said))

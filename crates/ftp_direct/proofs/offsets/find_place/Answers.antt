@@ -2,7 +2,7 @@ use Rattle.std.proofs.Common.{◌∙◌, Some, None, ap, nat_le, sym, if◌then�
 use Rattle.ftp_settings.specs.declared.representation.Kind.TheVariants.{Ascii}
 use Rattle.ftp_direct.specs.Direct.{place_in}
 use Rattle.ftp_direct.proofs.PlaceLemmas.{in_image, in_none}
-use Rattle.ftp_direct.proofs.offsets.place_at.Goals as goal
+use Rattle.ftp_direct.proofs.offsets.find_place.Goals as goal
 
 pub returns-in-Image-clause-place : goal.returns-in-Image-clause-place
 returns-in-Image-clause-place g c = λ stray.
