@@ -22,7 +22,8 @@ use Rattle.ftp_operation.specs.Account.{Account, login_account}
 use Rattle.ftp_operation.specs.declared.op.Op.{Op}
 use Rattle.ftp_operation.specs.declared.op.Op.TheVariants as Ops
 use Rattle.ftp_operation.specs.Operation.{is_number}
-use Rattle.ftp_direct.specs.Direct.{State, refusal, done, barred, limited, refused_there, refused_room, refused_number, or_refused, place, named_or_here, is_directory}
+use Rattle.ftp_direct.specs.Direct.{State, refusal, done, barred, limited, refused_there, refused_room, refused_size, or_refused, place, named_or_here, is_directory, file_of}
+use Rattle.ftp_direct.proofs.PlaceLemmas.{told_size}
 use Rattle.ftp_direct.specs.declared.refusal.Refusal.{Refusal}
 use Rattle.ftp_direct.specs.declared.refusal.Refusal.TheVariants as Refusals
 use Rattle.ftp_tree.specs.Tree.{moved, node_at}
@@ -259,7 +260,7 @@ size_keeps : (text : List ℕ) (s : Session) → Keeps s → is_connection_busy 
 size_keeps text s k idle =
     cond_both (has_size s.settings) _ _ TurnKeeps
     (λ is. unless_keeps (refusal (direct_of s) (Ops.Size text (how_in_force s.settings))) s _ k
-    (λ none. says_keeps s (Replies.Size (size_of s text)) k idle (number_by _ (size_of s text) refl (second_none _ (refused_number (size_of s text)) none))))
+    (λ none. says_keeps s (Replies.Size (size_of s text)) k idle (number_by _ (size_of s text) refl (told_size s.settings.kind (file_of (direct_of s) text) (second_none _ (refused_size s.settings.kind (file_of (direct_of s) text)) none)))))
     (λ is. tells_keeps Texts.Refused s k)
 
 -- an argument that may be left out
