@@ -1,6 +1,6 @@
 -- Every change of the map leaves each file within the limit of a file.
 use Rattle.std.proofs.Common.{◌≡◌, ℕ, ◌+◌, ◌≤◌, List, [], ◌∷◌, ◌++◌, Bool, true, false, not, cond, Option, Some, None, refl, sym, ap, subst, ◌∙◌, arith, length, append-nil, take, map, zero, suc}
-use Rattle.std.specs.Prelude.{nat_le, ◌==◌, ◌&&◌}
+use Rattle.std.specs.Prelude.{nat_le, ◌==◌, ◌&&◌, ◌||◌}
 use Rattle.std.specs.FinMap as fin
 use Rattle.std.specs.FinMap.{is_sorted}
 use Rattle.std.specs.FinMap.Entries.{below_all, find}
@@ -12,7 +12,7 @@ use Rattle.ftp_path.specs.Path.{Names, moved_path, path_cmp}
 use Rattle.ftp_tree.specs.Rows.{Rows}
 use Rattle.ftp_tree.specs.Map.{Node, Dir, File, octets_of, of_node}
 use Rattle.ftp_tree.specs.Tree.{Table, file_limit, most_octets, node_at, octets_at, octets_or_none, octets_refusal, or_else, room_at, room_refusal, whenever, made, removed, installed, freed, moved, takes_place, under, with_part}
-use Rattle.ftp_direct.specs.Direct.{State, limited, or_refused, part, place_in, put_refusal, refused_octets, refused_room, size_in}
+use Rattle.ftp_direct.specs.Direct.{State, counted_place, is_counted, limited, or_refused, part, place_in, put_refusal, refused_octets, refused_room, size_in}
 use Rattle.ftp_direct.specs.declared.refusal.Refusal.{Refusal}
 use Rattle.ftp_settings.specs.declared.representation.Kind.{Kind}
 use Rattle.ftp_tree.specs.declared.fault.TreeFault.{TreeFault}
@@ -177,7 +177,13 @@ place_before test (suc count) from most within =
     cond_both (test from) (Some from) (find_first test (range_with_len (from + 1) count)) (λ o. unwrap_or o 0 ≤ most) (λ is. omega (arith, within))
     (λ is. place_before test count (from + 1) most (omega (arith, within)))
 
--- an offset skips no more octets than the file has
-pub skips_few : (kind : Kind) (octets : List ℕ) (offset : ℕ) → unwrap_or (place_in kind octets offset) 0 ≤ length octets
+-- the place that an offset leads to is within the file
+place_few : (kind : Kind) (octets : List ℕ) (offset : ℕ) → unwrap_or (place_in kind octets offset) 0 ≤ length octets
 unfolding place_in
-skips_few kind octets offset = place_before (λ place. size_in kind (take place octets) == offset) (length octets + 1) 0 (length octets) (omega arith)
+place_few kind octets offset = place_before (λ place. size_in kind (take place octets) == offset) (length octets + 1) 0 (length octets) (omega arith)
+
+-- an offset skips no more octets than the file has
+pub skips_few : (kind : Kind) (octets : List ℕ) (offset : ℕ) → unwrap_or (counted_place kind octets offset) 0 ≤ length octets
+skips_few kind octets offset =
+    cond_both (is_counted kind (length octets) || (offset == 0)) (place_in kind octets offset) None (λ o. unwrap_or o 0 ≤ length octets)
+    (λ is. place_few kind octets offset) (λ is. omega arith)

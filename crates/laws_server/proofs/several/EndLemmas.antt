@@ -6,7 +6,7 @@ use Rattle.std.proofs.Math.Dec.{leb-zero}
 use Rattle.std.proofs.lemmas.Bool.{leb-true}
 use Rattle.std.proofs.lemmas.List.{length-append, length-take-le}
 use Rattle.ftp_direct.proofs.PlaceLemmas.{in_image}
-use Rattle.ftp_direct.specs.Direct.{State, barred_put, chosen, done, due, offset_refusal, is_in_files, or_refused, place_at, place_in, put, put_refusal, refusal, refused_name}
+use Rattle.ftp_direct.specs.Direct.{State, barred_put, chosen, done, due, offset_refusal, is_in_files, or_refused, counted_place, place_at, put, put_refusal, refusal, refused_name}
 use Rattle.ftp_direct.specs.declared.refusal.Refusal.{Refusal}
 use Rattle.ftp_direct.specs.declared.refusal.Refusal.TheVariants as Refusals
 use Rattle.ftp_operation.specs.Answer.{Said}
@@ -113,7 +113,7 @@ module _ (moment : ℕ) (text : List ℕ) (octets : List ℕ) (reply : FixedRepl
           ∙ elim (place == 0) as (λ b. (if b || true then None else Some Refusals.BadParameter) ≡ None) [ true ↦ refl | false ↦ refl ]
 
       leads : place_at (direct_of s) path how place ≡ (if nat_le place (length stands) then Some place else None)
-      leads = ap (λ (kind : Kind). place_in kind stands place) image ∙ in_image stands place
+      leads = ap (λ (kind : Kind). counted_place kind stands place) image ∙ in_image stands place
 
       by : (b : Bool) → nat_le place (length stands) ≡ b
           → EndAnswers reply s (chosen (rest (if b then Some place else None)) (direct_of s) (after (if b then Some place else None))) (installs_by (First place))
