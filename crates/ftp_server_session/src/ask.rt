@@ -9,7 +9,7 @@ ghost use Rattle.ftp_server_model.specs.View.{how_in_force};
 use crate::session::Session;
 use crate::walk::lost;
 use ftp_command::Argument;
-use ftp_direct::{absent_fault, takes_offset, wire_len};
+use ftp_direct::{absent_fault, is_counted, len_at, takes_offset, wire_len};
 use ftp_facts::moment_text;
 use ftp_operation::{How, is_number};
 use ftp_path::Path;
@@ -49,6 +49,9 @@ impl<A: Allocator + Copy, T: Tree<A>, J: ServerTransfer<A, T>> Session<A, T, J> 
             return Ok(ReplyKind::Fixed(FixedReply::Refused));
         };
         let kind = self.settings.kind;
+        if !is_counted(kind, len_at(&self.tree, &self.root, &path)) {
+            return Ok(ReplyKind::Fixed(FixedReply::Refused));
+        }
         let size = match wire_len(&mut self.tree, &self.root, &path, kind) {
             Ok(size) => size,
             Err(fault) => return Err(lost(fault)),
