@@ -35,9 +35,9 @@ use Rattle.ftp_tree.proofs.LeafLemmas.{itself}
 use Rattle.ftp_tree.proofs.PartLemmas.{as-part, part-comes, part-limits, part-stays, part-taken, same-nodes}
 use Rattle.ftp_direct.specs.declared.refusal.Refusal.{Refusal}
 use Rattle.ftp_direct.specs.declared.refusal.Refusal.TheVariants as Refusals
-use Rattle.ftp_direct.specs.Direct.{State, answer, barred_put, changed, chosen, done as does, file_of, first_refusal, limited, named, offset_refusal, or_refused, part, place_at, place_in, no_place_refusal, put_refusal, refusal, refused_name, refused_octets, refused_room, size_in, skipped}
+use Rattle.ftp_direct.specs.Direct.{State, answer, barred_put, changed, chosen, counted_place, done as does, file_of, first_refusal, limited, named, offset_refusal, or_refused, part, place_at, place_in, no_place_refusal, put_refusal, refusal, refused_name, refused_octets, refused_room, size_in, skipped}
 use Rattle.ftp_direct.specs.Refusal.{code_of}
-use Rattle.ftp_direct.proofs.PlaceLemmas.{leads, led}
+use Rattle.ftp_direct.proofs.PlaceLemmas.{found_place, leads, led}
 use Rattle.ftp_direct.proofs.SizeLemmas.{size_piece}
 use Rattle.ftp_client_model.specs.Octets.{upload_text, written}
 use Rattle.ftp_client_model.specs.Plan.{settings_of}
@@ -189,16 +189,17 @@ short_put now path count none =
 -- ---- places in type I
 
 -- an offset leads to itself
-place_known : (kind : Kind) (file : List ℕ) (count : ℕ) → kind ≡ Kinds.Image → length file ≡ count → place_in kind file count ≡ Some count
+place_known : (kind : Kind) (file : List ℕ) (count : ℕ) → kind ≡ Kinds.Image → length file ≡ count → counted_place kind file count ≡ Some count
 place_known kind file count image long =
     let short : length (take count file) ≡ min count (length file) = length-take count file in
     let sized : size_in kind (take count file) ≡ length (take count file) = ap (λ k. size_in k (take count file)) image in
-    leads kind file count count (record { within = omega (arith, long); goes = size_piece kind (take count file) ∙ (let all : size_in kind (take count file) ≡ count = omega (arith, short, sized, long) in all) })
+    ap (λ k. counted_place k file count) image ∙ ap (λ k. place_in k file count) (sym image)
+    ∙ leads kind file count count (record { within = omega (arith, long); goes = size_piece kind (take count file) ∙ (let all : size_in kind (take count file) ≡ count = omega (arith, short, sized, long) in all) })
 
 -- and to nothing else
-place_found : (kind : Kind) (file : List ℕ) (count place : ℕ) → kind ≡ Kinds.Image → place_in kind file count ≡ Some place → place ≡ count
+place_found : (kind : Kind) (file : List ℕ) (count place : ℕ) → kind ≡ Kinds.Image → counted_place kind file count ≡ Some place → place ≡ count
 place_found kind file count place image is =
-    let lies : IsPlaceOfOffset kind file count place = led kind file count place is in
+    let lies : IsPlaceOfOffset kind file count place = led kind file count place (found_place kind file count place is) in
     let short : length (take place file) ≡ min place (length file) = length-take place file in
     let sized : size_in kind (take place file) ≡ length (take place file) = ap (λ k. size_in k (take place file)) image in
     let counted : size_in kind (take place file) ≡ count = sym (size_piece kind (take place file)) ∙ lies.goes in
