@@ -22,7 +22,8 @@ use Rattle.ftp_operation.specs.declared.op.How.{How}
 use Rattle.ftp_operation.specs.declared.op.Op.{Op}
 use Rattle.ftp_operation.specs.declared.op.Op.TheVariants as Ops
 use Rattle.ftp_path.specs.Path.{Names, IsPathText}
-use Rattle.ftp_direct.specs.Direct.{State, answer, chosen, done, named, part, refusal, refused_file, refused_number, file_of, size_in}
+use Rattle.ftp_direct.specs.Direct.{State, answer, chosen, done, named, part, refusal, refused_file, refused_number, refused_size, file_of, size_in}
+use Rattle.ftp_direct.proofs.PlaceLemmas.{told_size}
 use Rattle.ftp_direct.specs.declared.refusal.Refusal.{Refusal}
 use Rattle.ftp_direct.specs.declared.refusal.Refusal.TheVariants as Refusals
 use Rattle.ftp_settings.specs.Representation.{same_kind, same_structure, same_mode}
@@ -157,8 +158,9 @@ module _ (read : Reading) (text : List ℕ) (how : How) (reads : IsReading read)
       → result ≡ chosen why state (done state (Ops.Size text how) 0)
       → LeadsFrom read (Passes state.table result.1.table) (Ends result) (Ops.Size text how) Steps.Last n f
   size_last result n f stands set None none result_is =
-      let count : ℕ = size_in how.representation.kind (file_of state text) in
-      let small : count < 10 ^ 18 = number_short count (second_none (refused_file state text) (refused_number count) none) in
+      let octets : List ℕ = file_of state text in
+      let count : ℕ = size_in how.representation.kind octets in
+      let small : count < 10 ^ 18 = number_short count (told_size how.representation.kind octets (second_none (refused_file state text) (refused_size how.representation.kind octets) none)) in
       let T : Said × State → Type 0 = λ r. LeadsFrom read (Passes state.table r.1.table) (Ends r) (Ops.Size text how) Steps.Last n f in
       subst T (sym result_is) (record {
         near = doing (Ops.Size text how) Steps.Last n;

@@ -21,7 +21,7 @@ use Rattle.ftp_tree.proofs.KeepLaws.{at-insert, changes-keep}
 use Rattle.ftp_tree.proofs.MapLemmas.{same}
 use Rattle.ftp_direct.specs.declared.refusal.Refusal.{Refusal}
 use Rattle.ftp_direct.specs.Direct.{State, barred_put, done, file_of, limited, named, offset_refusal, or_refused, part, place_at, put_refusal, refusal, refused_name, refused_octets, refused_room}
-use Rattle.ftp_direct.proofs.PlaceLemmas.{led}
+use Rattle.ftp_direct.proofs.PlaceLemmas.{found_place, led}
 use Rattle.ftp_client_model.specs.Octets.{upload_text}
 use Rattle.ftp_client_model.specs.Plan.{count_of}
 use Rattle.ftp_server_model.specs.Keep.{kept_count, kept_of as kept_octets, lacks, is_overtaken}
@@ -229,7 +229,7 @@ module _ (place : StorePlace) (text octets : List ℕ) (how : How) (moment : ℕ
       by_place Anew = omega arith
       by_place Behind = refl
       by_place (From offset) =
-          within_by (place_at state (named state text) how offset) (λ at is. (led how.representation.kind (file_of state text) offset at is).within)
+          within_by (place_at state (named state text) how offset) (λ at is. (led how.representation.kind (file_of state text) offset at (found_place how.representation.kind (file_of state text) offset at is)).within)
 
   -- it is an upload that the world knows
   known_is : (state : State) → IsKnownUpload (upload_ask place text octets how moment) (store_rise place text octets how moment) state
