@@ -4,7 +4,8 @@ ghost use Rattle.ftp_disk_host.specs.Copied.{Copies};
 
 use crate::front::{PIECE, copy_front};
 use crate::host::Look;
-use crate::reading::{is_same, open_same};
+use crate::part::SystemPart;
+use crate::reading::{check_same, is_same, open_same};
 use std::alloc::Global;
 use std::cell::{Cell, RefCell};
 use std::fs::{Files, OpenFile, OpenOptions};
@@ -56,7 +57,8 @@ impl<F: Read + Write + OpenFile + Drop> Front<F> {
     {
         let mut room = vec![in alloc; 0u8; PIECE]?;
         copy_front(&mut self.from, count, &mut self.to, room.as_mut_slice())?;
-        self.to.sync_data()
+        self.to.sync_data()?;
+        Ok(())
     }
 }
 
@@ -67,6 +69,15 @@ fn left_after(left: u64, count: u64) -> Copying {
     } else {
         Copying::Whole
     }
+}
+
+/// Opens a part once more, to be written from its first octet on: that file, and no other that came to its name.
+fn opened_again<R: Files>(files: &R, part: &SystemPart<R::File>) -> io::Result<R::File> {
+    let mut how = OpenOptions::new();
+    how.write(true);
+    let file = how.open(files, part.beside()?)?;
+    check_same(&file.metadata()?, part.look()?)?;
+    Ok(file)
 }
 
 /// The fronts that are copied, each by the number of its part.
@@ -88,20 +99,18 @@ impl<F: Read + Write + OpenFile + Drop> Fronts<F> {
         }
     }
 
-    /// One is to be, from the file at a place that looked so to the part beside it. The part is written by another handle behind so many octets.
+    /// One is to be, from the file at a place that looked so to a part to which nothing came, and which is written after so many octets.
     pub(crate) fn begin<R: Files<File = F>>(
         &self,
         files: &R,
-        number: u64,
+        part: &SystemPart<F>,
         place: &str,
-        beside: &str,
         look: Look,
         count: u64,
     ) -> io::Result<()> {
+        let number = part.number;
         let from = open_same(files, place, look)?;
-        let mut how = OpenOptions::new();
-        how.write(true);
-        let to = how.open(files, beside)?;
+        let to = opened_again(files, part)?;
         let Ok(mut fronts) = self.fronts.try_borrow_mut() else {
             return Err(Error::from(ErrorKind::ResourceBusy));
         };

@@ -121,7 +121,7 @@ pub(crate) fn is_same(look: Look, other: Look) -> bool {
 }
 
 /// Fails where a file is another one than what looked so, or was changed since. That its inode was touched is no change: a new name does that.
-fn check_same(found: &Metadata, look: Look) -> io::Result<()> {
+pub(crate) fn check_same(found: &Metadata, look: Look) -> io::Result<()> {
     let is_it = found.is_file() && found.dev() == look.device && found.ino() == look.inode;
     let is_as_it_was = found.len() == look.len
         && found.mtime() == look.modified.seconds

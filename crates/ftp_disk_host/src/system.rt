@@ -236,16 +236,9 @@ impl<'a, R: Files + Clock + AllocGlobal> Host for SystemHost<'a, R> {
         let place = self.way(below)?;
         let kept = mode_at(self.files, place.as_str())?;
         let part = self.part_at(place.as_str(), kept, count)?;
-        if let Some(beside) = &part.beside {
-            let _begun = self.fronts.begin(
-                self.files,
-                part.number,
-                place.as_str(),
-                beside.as_str(),
-                look,
-                count,
-            );
-        }
+        let _begun = self
+            .fronts
+            .begin(self.files, &part, place.as_str(), look, count);
         Ok(part)
     }
 
@@ -271,6 +264,7 @@ impl<'a, R: Files + Clock + AllocGlobal> Host for SystemHost<'a, R> {
         let place = self.way(below)?;
         let mut old = open_same(self.files, place.as_str(), look)?;
         if self.fronts.is_whole(part.number, look, count) {
+            self.fronts.remove(part.number);
             part.owed = 0;
             return Ok(());
         }
