@@ -27,7 +27,7 @@ use Rattle.ftp_tree.specs.Tree.{node_at, octets_at, octets_or_none, most_octets}
 use Rattle.ftp_direct.specs.declared.refusal.Refusal.{Refusal}
 use Rattle.ftp_direct.specs.declared.refusal.Refusal.TheVariants as Refusals
 use Rattle.ftp_direct.specs.Direct.{State, done, file_of, named, offset_refusal, or_refused, part, place_at, refusal, refused_file, refused_from, refused_there, size_in}
-use Rattle.ftp_direct.proofs.PlaceLemmas.{led}
+use Rattle.ftp_direct.proofs.PlaceLemmas.{found_place, led}
 use Rattle.ftp_direct.proofs.SizeLemmas.{size_piece}
 use Rattle.ftp_client_model.specs.Dialogue.{judged}
 use Rattle.ftp_client_model.specs.Octets.{content_answer, cut_answer, written}
@@ -132,7 +132,7 @@ module _ (state : State) (offset : Option ℕ) (text : List ℕ) (how : How) whe
       by_offset : (offset : Option ℕ) → unwrap_or (place_in_file state offset text how) 0 ≤ length (file_of state text)
       by_offset None = omega arith
       by_offset (Some at) =
-          within_by (place_at state (named state text) how at) (λ place is. (led how.representation.kind (file_of state text) at place is).within)
+          within_by (place_at state (named state text) how at) (λ place is. (led how.representation.kind (file_of state text) at place (found_place how.representation.kind (file_of state text) at place is)).within)
 
   -- in a sound state the place and the number of octets asked for are together less than 2 ^ 64
   pub few_octets : IsSound state → place + length content < 2 ^ 64
@@ -173,7 +173,8 @@ module _ (state : State) (offset : Option ℕ) (text : List ℕ) (how : How) whe
   marked_place : (at found : ℕ) → has_markers how.representation ≡ true → place_at state (named state text) how at ≡ Some found → found ≡ at
   marked_place at found marked is =
       let kind : how.representation.kind ≡ Kinds.Image = ap (λ r. r.kind) (marked_is how.representation marked) in
-      let lies : IsPlaceOfOffset how.representation.kind (file_of state text) at found = led how.representation.kind (file_of state text) at found is in
+      let lies : IsPlaceOfOffset how.representation.kind (file_of state text) at found =
+      led how.representation.kind (file_of state text) at found (found_place how.representation.kind (file_of state text) at found is) in
       let counted : size_in how.representation.kind (take found (file_of state text)) ≡ at = sym (size_piece how.representation.kind (take found (file_of state text))) ∙ lies.goes in
       let long : length (take found (file_of state text)) ≡ at = ap (λ k. size_in k (take found (file_of state text))) (sym kind) ∙ counted in
       let short : length (take found (file_of state text)) ≡ min found (length (file_of state text)) = length-take found (file_of state text) in

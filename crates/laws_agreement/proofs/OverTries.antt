@@ -9,7 +9,8 @@ use Rattle.ftp_operation.specs.declared.op.Op.TheVariants as Ops
 use Rattle.ftp_direct.specs.declared.refusal.Refusal.{Refusal}
 use Rattle.ftp_direct.specs.declared.refusal.Refusal.TheVariants as Refusals
 use Rattle.ftp_direct.specs.Refusal.{code_of}
-use Rattle.ftp_direct.specs.Direct.{State, answer, chosen, done, file_of, first_refusal, refusal, refused_file, refused_number, size_in}
+use Rattle.ftp_direct.specs.Direct.{State, answer, chosen, done, file_of, first_refusal, refusal, refused_file, refused_number, refused_size, size_in}
+use Rattle.ftp_direct.proofs.PlaceLemmas.{told_size}
 use Rattle.ftp_client_model.specs.Tries.{OverBreaks, Run, after_size, after_try, is_size, next_in, next_of, rest_put, run_at, try_behind, whole_put}
 use Rattle.laws_dialogues.specs.Fetches.{IsStore}
 use Rattle.laws_agreement.specs.Tried.{IsTryOf}
@@ -103,7 +104,9 @@ module _ (u : OverBreaks) where
 
         number_of : first_refusal now (Ops.Size u.path u.how) ≡ None → is_number length_now ≡ true
         number_of none =
-            number_fine length_now (second_none (refused_file now u.path) (refused_number length_now) (known_none now.known (refusal now (Ops.Size u.path u.how)) none))
+            number_fine length_now
+            (told_size u.how.representation.kind (file_of now u.path)
+            (second_none (refused_file now u.path) (refused_size u.how.representation.kind (file_of now u.path)) (known_none now.known (refusal now (Ops.Size u.path u.how)) none)))
 
         anew : whole_put u ≡ next → IsTryOf u next × (is_size next ≡ false)
         anew is = (inl (sym is), ap is_size (sym is))
