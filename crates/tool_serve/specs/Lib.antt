@@ -1,3 +1,4 @@
 pub mod Listening
 pub mod Manner
+pub mod Served
 pub mod Sharing

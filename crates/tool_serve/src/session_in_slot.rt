@@ -1,6 +1,7 @@
 // One session in its slot: a server beside its connections, and the session log of both.
 ghost use Rattle.std.specs.Global.{Global};
 ghost use Rattle.ftp_server_driver.specs.shared.Lending.{holding};
+ghost use Rattle.tool_serve.specs.Served.{Starts};
 ghost use Rattle.tool_serve.specs.Sharing.{TakesSlotTurn, ended_by, stand_of};
 
 use crate::connections::{CountedLink, CountedPorts, SaidWriter};
@@ -122,7 +123,9 @@ where
         connected: Connected<'a, R>,
         watching: Watching<'a, R, T>,
         session_log: Rc<SessionLog<'a, R>, Global>,
-    ) -> ServerSession<'a, R, T, F> {
+    ) -> ServerSession<'a, R, T, F>
+        ensures { Starts result.stood (stand_of F.Far.server result.clocked result.control result.data) }
+    {
         session_log.note("begins");
         let Connected { control, ports } = connected;
         ServerSession {
@@ -161,9 +164,9 @@ where
             tree,
             &mut self.stood,
         );
-        let has_copied = self.session_log.copy_on(tree);
+        self.session_log.copy_on(tree);
         match turned {
-            Ok(Turned::Later) => later(has_copied),
+            Ok(Turned::Later) => TurnResult::Later,
             Ok(Turned::More) => TurnResult::More,
             Ok(Turned::Over(())) => {
                 self.went = SessionOutcome::Whole;
@@ -176,8 +179,13 @@ where
         }
     }
 
+    /// Where the front of an upload was copied in its last turn, nothing is waited for: it has the next one at once.
     fn awaits(&self) -> Awaits {
-        self.ports.inner.awaits()
+        let mut awaits = self.ports.inner.awaits();
+        if self.session_log.is_held() {
+            awaits.until = 0;
+        }
+        awaits
     }
 
     fn timeouts(&self) -> &Timeouts {
@@ -208,15 +216,6 @@ where
             None
         };
         (Leaving::new(line, link), went_well)
-    }
-}
-
-/// How a turn ends that waits for its connections; where the front of an upload is copied, that goes on at once.
-fn later(has_copied: bool) -> TurnResult {
-    if has_copied {
-        TurnResult::More
-    } else {
-        TurnResult::Later
     }
 }
 

@@ -74,6 +74,8 @@ pub(crate) struct SessionLog<'a, R: Tells> {
     why: Cell<Option<io::Error>>,
     /// The draft whose front is copied: until that is done nothing is heard and no octet of the upload is taken.
     copied: Cell<Option<u64>>,
+    /// Whether one was in the last turn, which so waits for nothing.
+    is_held: Cell<bool>,
     /// Whether the server owes octets that were not given to be written.
     owes: Cell<bool>,
     /// Whether what was written is whole replies.
@@ -108,6 +110,7 @@ impl<'a, R: Tells> SessionLog<'a, R> {
             fate: Cell::new(DataClose::Ended),
             why: Cell::new(None),
             copied: Cell::new(None),
+            is_held: Cell::new(false),
             owes: Cell::new(false),
             is_whole: Cell::new(true),
         }
@@ -194,16 +197,21 @@ impl<'a, R: Tells> SessionLog<'a, R> {
         self.copied.get().is_some() && !self.line.timeouts.is_spent()
     }
 
-    /// Copies some more of the front of an upload, which counts as octets that went. Whether some was to be copied.
-    pub(crate) fn copy_on<T: Prepares>(&self, tree: &T) -> bool {
+    /// Whether the last turn was held back by a copy: it waits for nothing, and the next one follows at once.
+    pub(crate) fn is_held(&self) -> bool {
+        self.is_held.get()
+    }
+
+    /// Copies some more of the front of an upload, if one is copied, which counts as octets that went.
+    pub(crate) fn copy_on<T: Prepares>(&self, tree: &T) {
+        self.is_held.set(self.is_copying());
         let Some(draft) = self.copied.get() else {
-            return false;
+            return;
         };
         self.line.timeouts.carry();
         if !tree.copy_on(draft) {
             self.copied.set(None);
         }
-        true
     }
 
     /// The line that waited for its last reply, and the code of that, where it was said in the call: the transfer ended, or the port that was

@@ -1,7 +1,9 @@
 // Who slots clients: a session is made of each, between its two ends.
 ghost use Rattle.std.specs.Global.{Global};
-ghost use Rattle.std.specs.Prelude.{◌≡◌};
+ghost use Rattle.std.specs.Prelude.{◌≡◌, IfSome};
 ghost use Rattle.tool_serve.specs.Listening.{told_host};
+ghost use Rattle.tool_serve.specs.Served.{Starts};
+ghost use Rattle.tool_serve.specs.Sharing.{stand_of};
 
 use crate::accounts::accounts_told;
 use crate::begins::Begins;
@@ -71,7 +73,9 @@ where
     type Slot = ServerSession<'a, R, T, M::Server>;
 
     /// The tree stays.
-    ghost begins = { λ old new. new ≡ old };
+    ghost begins = { λ hosts old new. new ≡ old };
+
+    ghost starts = { λ session. Starts session.stood (stand_of M.Server.Far.server session.clocked session.control session.data) };
 
     fn host(&self, peer: SocketAddr) -> u128 {
         guessed_from(peer.ip())
@@ -146,6 +150,7 @@ where
     R: Sockets + Tells + Clock + AllocGlobal,
     T: Parks<Global> + Prepares,
     M: Begins<T>,
+    ensures { IfSome result (λ session. Starts session.stood (stand_of M.Server.Far.server session.clocked session.control session.data)) }
 {
     let Guest {
         accounts,
