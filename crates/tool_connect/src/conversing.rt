@@ -1,7 +1,8 @@
 // Who can ask servers, as whoever asks sees it: what stands on traits without types of their own is proved for less than on those of the system's
 // sockets, files and environment.
-ghost use Rattle.std.specs.Prelude.{◌≡◌, ◌&&◌, ℕ, Bool, false, List, ⊤};
+ghost use Rattle.std.specs.Prelude.{ℕ, List};
 ghost use Rattle.tool_session.specs.Talking.{Conversed, SessionExchange};
+ghost use Rattle.tool_connect.specs.Answering.{CanHear};
 
 use crate::health::Health;
 use crate::talking;
@@ -18,11 +19,8 @@ use tool_session::{LastReply, Phase, ServerAddress, SessionFault, SessionTask, a
 
 /// Who can open control connections.
 pub trait Converses {
-    /// Whether it is known what is heard: else no clause says how a task is played. Of the system's control connections it is not yet.
-    ghost is_known: { Bool } = { false };
-
     /// What can be heard over so many control connections at once.
-    ghost hears: { Self → (at_once : ℕ) → List SessionExchange → Type 0 } = { λ rt at_once heard. ⊤ };
+    ghost hears: { Self → (at_once : ℕ) → List SessionExchange → Type 0 };
 
     /// Opens a control connection, plays over it by a client, says goodbye and closes it. Notices whether it failed; of several that is not known.
     fn converse_noticing<T, P>(
@@ -37,7 +35,7 @@ pub trait Converses {
         T: Drop,
         P: SessionTask<Result<T, SessionFault>>,
         // Witness: `run_orders` of `tool_get_put` needs it, and its edits, as `nothing_is_asked`.
-        ensures { Conversed (is_known && P.tells) (hears self.now server.entry.at_once) P.plays play.old play.new result };
+        ensures { Conversed P.tells (hears self.now server.entry.at_once) P.plays play.old play.new result };
 
     /// The same, where nobody asks whether it failed.
     fn converse<T, P>(
@@ -51,7 +49,7 @@ pub trait Converses {
         T: Drop,
         P: SessionTask<Result<T, SessionFault>>,
         // Witness: as `converse_noticing`.
-        ensures { Conversed (is_known && P.tells) (hears self.now server.entry.at_once) P.plays play.old play.new result }
+        ensures { Conversed P.tells (hears self.now server.entry.at_once) P.plays play.old play.new result }
     {
         self.converse_noticing(server, login, last_reply, &Health::new(), play)
     }
@@ -67,6 +65,8 @@ impl<R> Converses for R
 where
     R: Net<Listener = TcpListener, Stream = TcpStream> + Eprint + Clock + AllocGlobal,
 {
+    ghost hears = { λ rt at_once heard. CanHear at_once heard };
+
     fn converse_noticing<T, P>(
         &self,
         server: ServerAddress<'_>,
@@ -101,6 +101,8 @@ where
     R: Converses + Logins,
     T: Drop,
     P: SessionTask<Result<T, SessionFault>>,
+    // Witness: as `converse_noticing`.
+    ensures { Conversed P.tells (R.hears rt.now server.entry.at_once) P.plays play.old play.new result }
 {
     match at(Phase::Login, rt.login(server.host, user)) {
         Ok(login) => rt.converse(server, login, last_reply, play),

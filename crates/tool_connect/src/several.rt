@@ -1,5 +1,6 @@
 // Several control connections from their beginning to their end, with a client at each.
-ghost use Rattle.std.specs.Prelude.{◌≡◌};
+ghost use Rattle.std.specs.Prelude.{◌≡◌, ⊤};
+ghost use Rattle.tool_session.specs.Talking.{Conversed};
 ghost use Rattle.tool_connect.specs.Several.{channels_of, part_of};
 
 use crate::server::{connected, connected_to, left_until, seconds_left};
@@ -38,6 +39,7 @@ where
     R: Net<Listener = TcpListener, Stream = TcpStream> + Eprint + AllocGlobal,
     T: Drop,
     P: SessionTask<Result<T, SessionFault>>,
+    ensures { Conversed P.tells (λ heard. ⊤) P.plays play.old play.new result }
 {
     let streams = at(Phase::Connection, streams_of(rt, rt.alloc(), server))?;
     let courses = at(Phase::Talking, courses_of(rt.alloc()))?;
@@ -131,6 +133,7 @@ where
     R: Sockets + Eprint,
     T: Drop,
     P: SessionTask<Result<T, SessionFault>>,
+    ensures { Conversed P.tells (λ heard. ⊤) P.plays play.old play.new result }
 {
     let clients = at(
         Phase::Talking,
@@ -194,6 +197,7 @@ where
     R: Sockets + Eprint,
     T: Drop,
     P: SessionTask<Result<T, SessionFault>>,
+    ensures { Conversed P.tells (λ heard. ⊤) P.plays play.old play.new result }
 {
     let mut channels = Vec::new(channel_settings.alloc);
     let ends = streams.into_iter().zip(clients.into_iter());
@@ -221,6 +225,7 @@ where
     R: Sockets + Eprint,
     T: Drop,
     P: SessionTask<Result<T, SessionFault>>,
+    ensures { Conversed P.tells (λ heard. ⊤) P.plays play.old play.new result }
 {
     let mut slots = Vec::new(channel_settings.alloc);
     let mut stand = Reliability::Tried;

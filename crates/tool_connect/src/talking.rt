@@ -1,4 +1,9 @@
 // A control connection from its beginning to its end, and the one client at it.
+ghost use Rattle.std.specs.Prelude.{◌≡◌};
+ghost use Rattle.ftp_driver.specs.Standing.{HasNone};
+ghost use Rattle.tool_session.specs.Talking.{Conversed};
+ghost use Rattle.tool_connect.specs.Answering.{CanHear, ComesOfClient};
+
 use crate::health::{Health, Noticed};
 use crate::listening_client::ListeningClient;
 use crate::live::{LiveSession, Opens};
@@ -25,23 +30,42 @@ pub(crate) fn converse<R, T, P>(
     rt: &R,
     server: ServerAddress<'_>,
     login: Login<Global>,
-    (last_reply, health): (&mut LastReply, &Health),
+    noticed: (&mut LastReply, &Health),
     play: &mut P,
 ) -> Result<T, SessionFault>
 where
     R: Net<Listener = TcpListener, Stream = TcpStream> + Eprint + Clock + AllocGlobal,
     T: Drop,
     P: SessionTask<Result<T, SessionFault>>,
+    ensures { Conversed P.tells (CanHear server.entry.at_once) P.plays play.old play.new result }
 {
+    let (last_reply, health) = noticed;
     let begun = Instant::now(rt).ok();
-    let done = if server.at_once > 1 {
-        converse_by_several(rt, server, &login, last_reply, play)
-    } else {
-        let mut login = Some(login);
-        converse_anew(rt, server, &mut login, (last_reply, health), play)
-    };
+    let done = converse_untimed(rt, server, login, (last_reply, health), play);
     last_reply.add_spent(seconds_since(rt, begun));
     done
+}
+
+/// The same, without a look at the time.
+#[tactic(auto, using(crate::proofs::ConversingLemmas::heard_of_one, crate::proofs::ConversingLemmas::heard_of_several))]
+fn converse_untimed<R, T, P>(
+    rt: &R,
+    server: ServerAddress<'_>,
+    login: Login<Global>,
+    noticed: (&mut LastReply, &Health),
+    play: &mut P,
+) -> Result<T, SessionFault>
+where
+    R: Net<Listener = TcpListener, Stream = TcpStream> + Eprint + Clock + AllocGlobal,
+    T: Drop,
+    P: SessionTask<Result<T, SessionFault>>,
+    ensures { Conversed P.tells (CanHear server.entry.at_once) P.plays play.old play.new result }
+{
+    if server.at_once > 1 {
+        return converse_by_several(rt, server, &login, noticed.0, play);
+    }
+    let mut login = Some(login);
+    converse_anew(rt, server, &mut login, noticed, play)
 }
 
 /// How many whole seconds went by, where the system tells the time.
@@ -59,16 +83,17 @@ fn converse_anew<R, T, P>(
     rt: &R,
     server: ServerAddress<'_>,
     login: &mut Option<Login<Global>>,
-    (last_reply, health): (&mut LastReply, &Health),
+    noticed: (&mut LastReply, &Health),
     play: &mut P,
 ) -> Result<T, SessionFault>
 where
     R: Net<Listener = TcpListener, Stream = TcpStream> + Eprint + Clock + AllocGlobal,
     T: Drop,
     P: SessionTask<Result<T, SessionFault>>,
+    ensures { Conversed P.tells ComesOfClient P.plays play.old play.new result }
 {
     let stream = at(Phase::Connection, connected(rt, server))?;
-    let done = talk(rt, server, login, &stream, (last_reply, health), play);
+    let done = talk(rt, server, login, &stream, noticed, play);
     let _gone = leave(&stream);
     done
 }
@@ -79,14 +104,16 @@ fn talk<R, T, P>(
     server: ServerAddress<'_>,
     login: &mut Option<Login<Global>>,
     stream: &TcpStream,
-    (last_reply, health): (&mut LastReply, &Health),
+    noticed: (&mut LastReply, &Health),
     play: &mut P,
 ) -> Result<T, SessionFault>
 where
     R: Net<Listener = TcpListener, Stream = TcpStream> + Eprint + Clock + AllocGlobal,
     T: Drop,
     P: SessionTask<Result<T, SessionFault>>,
+    ensures { Conversed P.tells ComesOfClient P.plays play.old play.new result }
 {
+    let (last_reply, health) = noticed;
     let timeouts = ClientTimeouts::new(server.timeout, server.until);
     let course = RequestState::new();
     let ports = MeteredPorts::hearing(rt, stream, &timeouts, &course, server);
@@ -139,6 +166,7 @@ where
     O: Opens,
     T: Drop,
     P: SessionTask<Result<T, SessionFault>>,
+    ensures { Conversed P.tells ComesOfClient P.plays play.old play.new result }
 {
     let hosts = at(Phase::Talking, hosts_of(link.stream))?;
     let mut control = Control::new(
@@ -170,8 +198,8 @@ fn hosts_of(stream: &TcpStream) -> io::Result<(Host, Host)> {
 
 /// Plays by a client between two hosts, which takes the login; what it transfers by is a parameter, since a named one costs the proof more.
 fn play_by_one<F, C, W, O, T, P>(
-    (alloc, login, hosts): (Global, Login<Global>, (Host, Host)),
-    (control, last_reply): (&mut Control<C, W>, &mut LastReply),
+    ends: (Global, Login<Global>, (Host, Host)),
+    heard: (&mut Control<C, W>, &mut LastReply),
     ports: &mut O,
     course: &RequestState,
     play: &mut P,
@@ -183,9 +211,11 @@ where
     O: Opens,
     T: Drop,
     P: SessionTask<Result<T, SessionFault>>,
+    ensures { Conversed P.tells ComesOfClient P.plays play.old play.new result }
 {
+    let (alloc, login, hosts) = ends;
     match client_of::<F>(alloc, login, hosts) {
-        Some(client) => play_heard(client, (control, last_reply), ports, course, play),
+        Some(client) => play_heard(client, heard, ports, course, play),
         None => Err(SessionFault::of_memory()),
     }
 }
@@ -193,7 +223,7 @@ where
 /// Plays by a client whose replies are noticed.
 fn play_heard<N, C, W, O, T, P>(
     client: N,
-    (control, last_reply): (&mut Control<C, W>, &mut LastReply),
+    heard: (&mut Control<C, W>, &mut LastReply),
     ports: &mut O,
     course: &RequestState,
     play: &mut P,
@@ -205,7 +235,9 @@ where
     O: Opens,
     T: Drop,
     P: SessionTask<Result<T, SessionFault>>,
+    ensures { Conversed P.tells ComesOfClient P.plays play.old play.new result }
 {
+    let (control, last_reply) = heard;
     play_by(
         ListeningClient::new(client, last_reply),
         control,
@@ -239,9 +271,10 @@ where
     O: Opens,
     T: Drop,
     P: SessionTask<Result<T, SessionFault>>,
+    ensures { Conversed P.tells ComesOfClient P.plays play.old play.new result }
 {
     let mut data = Data::new();
-    let done = play_in_slot(client, control, (ports, &mut data), course, play);
+    let done = play_in_slot(client, control, ports, &mut data, course, play);
     data.finish(ports);
     done
 }
@@ -250,7 +283,8 @@ where
 fn play_in_slot<N, C, W, O, T, P>(
     client: N,
     control: &mut Control<C, W>,
-    (ports, data): (&mut O, &mut Data<O::Stream>),
+    ports: &mut O,
+    data: &mut Data<O::Stream>,
     course: &RequestState,
     play: &mut P,
 ) -> Result<T, SessionFault>
@@ -261,6 +295,8 @@ where
     O: Opens,
     T: Drop,
     P: SessionTask<Result<T, SessionFault>>,
+    requires { HasNone O.Stream.remaining O.Stream.contents data.old }
+    ensures { Conversed P.tells ComesOfClient P.plays play.old play.new result }
 {
     let mut slot = LiveSession {
         client,
