@@ -1,5 +1,5 @@
 -- What a script's orders asked and were answered, one more after those before.
-use Rattle.std.proofs.Common.{◌≡◌, ℕ, List, [], ◌∷◌, ◌++◌, length, map, flat_map, Bool, true, false, ◌&&◌, Option, Some, None, refl, sym, ap, ◌∙◌, subst, append_assoc, append-nil, arith, true≢false, inl, inr, ◌⊎◌, IfOk, IsErr, Result, Ok, Err, Vec}
+use Rattle.std.proofs.Common.{◌≡◌, ℕ, List, [], ◌∷◌, ◌++◌, length, map, flat_map, Bool, true, false, Option, Some, None, refl, sym, ap, ◌∙◌, subst, append_assoc, append-nil, arith, true≢false, inl, inr, IsErr, Result, Ok, Err, Vec}
 use Rattle.std.proofs.lemmas.List.{map-append}
 use Rattle.std.specs.Iterator.{Yields}
 use Rattle.std.specs.Vec.Iter.{into_iter_items, into_iter_steps}
@@ -103,11 +103,10 @@ error_by (Err fault) has_failed fails = fails
 
 -- Orders that were played over a control connection, or over none, are done so.
 pub orders_done : {P E : Type 0} (contents : P → Option (List ℕ)) (kept : P → Option (Vec (Order (List ℕ)) Global)) (hears : List SessionExchange → Type 0)
-    (orders : Vec (Order (List ℕ)) Global) (done : Result Status E) (has_failed : Bool) (old new : P) (known : Bool) → kept old ≡ Some orders
-    → Conversed (known && true) hears (λ heard result before after. (all : Vec (Order (List ℕ)) Global) → kept before ≡ Some all
+    (orders : Vec (Order (List ℕ)) Global) (done : Result Status E) (has_failed : Bool) (old new : P) → kept old ≡ Some orders
+    → Conversed true hears (λ heard result before after. (all : Vec (Order (List ℕ)) Global) → kept before ≡ Some all
     → Reported IsWorst all.items (contents before) (contents after) heard result) old new done
-    → DoesOrders known hears orders.items (contents old) (contents new) (result_by done has_failed)
-orders_done contents kept hears orders done has_failed old new false has said = tt
-orders_done contents kept hears orders done has_failed old new true has (inl played) =
+    → DoesOrders hears orders.items (contents old) (contents new) (result_by done has_failed)
+orders_done contents kept hears orders done has_failed old new has (inl played) =
     inl (played.0, played.1, reported_by orders.items (contents old) (contents new) played.0 done has_failed (played.2 orders has))
-orders_done contents kept hears orders done has_failed old new true has (inr unplayed) = inr (ap contents unplayed.0, error_by done has_failed unplayed.1)
+orders_done contents kept hears orders done has_failed old new has (inr unplayed) = inr (ap contents unplayed.0, error_by done has_failed unplayed.1)

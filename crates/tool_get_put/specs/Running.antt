@@ -11,7 +11,6 @@ use Rattle.tool_script.specs.declared.order.Order.TheVariants.{Once, Tries}
 use Rattle.tool_script.specs.declared.reading.NoScript.{NoScript}
 use Rattle.tool_script.specs.declared.script.Script.{Script}
 use Rattle.tool_session.specs.Talking.{SessionExchange}
-use Rattle.tool_session.specs.declared.fault.SessionFault.{SessionFault}
 use Rattle.tool_session.specs.declared.request.Request.{Request}
 use Rattle.tool_session.specs.declared.request.Request.TheVariants.{One, Upload}
 use Rattle.tool_terminal.specs.declared.status.Status.{Status}
@@ -56,20 +55,16 @@ Reported IsStatus orders old new heard result =
     × IfOk result (λ status. (requests_in heard ≡ map request_of orders) × Appends old new (flat_map report (replies_in heard))
     × IsStatus (replies_in heard) status)
 
--- so over a control connection; or there was none, and then there is no status and nothing is written; where it is not known what is heard, nothing is said
-abbrev pub DoesOrders : {E : Type 0} → (known : Bool) → (List SessionExchange → Type 0) → List (Order (List ℕ)) → (old new : Option (List ℕ)) → Result Status E
-    → Type 0
-DoesOrders false hears orders old new result = Unit {0}
-DoesOrders true hears orders old new result =
+-- so over a control connection; or there was none, and then there is no status and nothing is written
+abbrev pub DoesOrders : {E : Type 0} → (List SessionExchange → Type 0) → List (Order (List ℕ)) → (old new : Option (List ℕ)) → Result Status E → Type 0
+DoesOrders hears orders old new result =
     ((heard : List SessionExchange) × hears heard × Reported IsWorstOrFailed orders old new heard result) ⊎ ((new ≡ old) × IsErr result)
 
 -- the orders of what was read are done so; where that is no script, nothing is asked or written, and the status can only be that of bad words
-abbrev pub DoesRead : {E : Type 0} → (known : Bool) → (List SessionExchange → Type 0) → Result (Script Global) NoScript → (old new : Option (List ℕ))
-    → Result Status E → Type 0
-DoesRead known hears (Ok script) old new result = DoesOrders known hears script.orders.items old new result
-DoesRead known hears (Err fault) old new result = (new ≡ old) × IfOk result (λ status. status ≡ BadWords)
+abbrev pub DoesRead : {E : Type 0} → (List SessionExchange → Type 0) → Result (Script Global) NoScript → (old new : Option (List ℕ)) → Result Status E → Type 0
+DoesRead hears (Ok script) old new result = DoesOrders hears script.orders.items old new result
+DoesRead hears (Err fault) old new result = (new ≡ old) × IfOk result (λ status. status ≡ BadWords)
 
 -- a reader gave a script, or none, and it was done so
-abbrev pub RunsScript : {E : Type 0} → (known : Bool) → (List SessionExchange → Type 0) → (before after old new : Option (List ℕ)) → Result Status E → Type 0
-RunsScript known hears before after old new result =
-    (read : Result (Script Global) NoScript) × ReadsScript before after read × DoesRead known hears read old new result
+abbrev pub RunsScript : {E : Type 0} → (List SessionExchange → Type 0) → (before after old new : Option (List ℕ)) → Result Status E → Type 0
+RunsScript hears before after old new result = (read : Result (Script Global) NoScript) × ReadsScript before after read × DoesRead hears read old new result

@@ -1,6 +1,6 @@
 // A script of operations over one control connection: each is done and reported before the next begins.
 ghost use Rattle.std.specs.Global.{Global};
-ghost use Rattle.std.specs.Prelude.{◌≡◌, List, IfOk, OnOk, None, Some, true};
+ghost use Rattle.std.specs.Prelude.{◌≡◌, List, IfOk, OnOk, Some, true};
 ghost use Rattle.std.specs.Io.KnownBytes.{Appends};
 ghost use Rattle.ftp_operation.specs.declared.answer.Answer.{Answer};
 ghost use Rattle.tool_get_put.specs.Running.{DoesOrders, IsWorst, Reported, RunsScript, request_of, result_by, status_by};
@@ -101,8 +101,7 @@ where
     I: Read,
     W: Write + Drop,
     // Witness: `edits/a_script_is_read_and_not_done`, and those of `run_orders`.
-    ensures { RunsScript R.is_known (R.hears rt.now server.entry.at_once) (I.remaining reader.old) (I.remaining reader.new)
-        (W.contents out) (W.contents result.1) result.0 }
+    ensures { RunsScript (R.hears rt.now 1) (I.remaining reader.old) (I.remaining reader.new) (W.contents out) (W.contents result.1) result.0 }
 {
     match read_script(alloc, reader) {
         Ok(Script { login, orders }) => run_orders(rt, alloc, server, login, orders, out),
@@ -124,8 +123,7 @@ where
     I: Read,
     W: Write + Drop,
     // Witness: those of `run_orders`.
-    ensures { RunsScript R.is_known (R.hears rt.now server.entry.at_once) (I.remaining reader.old) (I.remaining reader.new)
-        (W.contents out) (W.contents result.1) result.0 }
+    ensures { RunsScript (R.hears rt.now 1) (I.remaining reader.old) (I.remaining reader.new) (W.contents out) (W.contents result.1) result.0 }
 {
     match read_script(alloc, reader) {
         Ok(Script { login: _, orders }) => {
@@ -157,7 +155,7 @@ where
     W: Write + Drop,
     // Witness: `edits/an_order_more_is_asked`, `each_report_is_of_done`, `it_stops_at_a_refusal`, `nothing_is_asked`, `the_last_status_counts`,
     // `two_reports_are_swapped`.
-    ensures { DoesOrders R.is_known (R.hears rt.now server.entry.at_once) orders.items (W.contents out) (W.contents result.1) result.0 }
+    ensures { DoesOrders (R.hears rt.now 1) orders.items (W.contents out) (W.contents result.1) result.0 }
 {
     let mut all = All {
         out,
@@ -165,6 +163,10 @@ where
         orders: Some(orders),
     };
     let health = Health::new();
+    let server = ServerAddress {
+        at_once: 1,
+        ..server
+    };
     let done = rt.converse_noticing(server, login, &mut LastReply::new(), &health, &mut all);
     (result_by(done, health.has_failed()), all.into_out())
 }

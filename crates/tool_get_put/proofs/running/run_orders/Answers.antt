@@ -6,10 +6,9 @@ use Rattle.tool_get_put.proofs.running.run_orders.Goals as goal
 pub returns : goal.returns
 returns g c =
     let contents = g.W.Write.contents in
-    let known = g.R.Converses.is_known in
-    let hears = g.R.Converses.hears c.args.rt.now c.args.server.at_once in
+    let hears = g.R.Converses.hears c.args.rt.now 1 in
     let orders = c.args.orders in
     let done = c.converse_noticing-done in
-    subst (λ said. DoesOrders known hears orders.items (contents c.args.out) (contents c.into_out.result) said) (sym c.result_by.ensures)
-    (subst (λ out. DoesOrders known hears orders.items (contents c.args.out) (contents out) (result_by done.result c.has_failed.result)) (sym c.into_out.ensures)
-    (orders_done (λ all. contents all.out) (λ all. all.orders) hears orders done.result c.has_failed.result _ done.new.play known refl done.ensures))
+    subst (λ said. DoesOrders hears orders.items (contents c.args.out) (contents c.into_out.result) said) (sym c.result_by.ensures)
+    (subst (λ out. DoesOrders hears orders.items (contents c.args.out) (contents out) (result_by done.result c.has_failed.result)) (sym c.into_out.ensures)
+    (orders_done (λ all. contents all.out) (λ all. all.orders) hears orders done.result c.has_failed.result _ done.new.play refl done.ensures))
