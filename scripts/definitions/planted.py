@@ -126,7 +126,7 @@ def noticed_by(crates, of_sessions):
     d.bounds = world.Bounds(d.names)
     if bounds.run(d, 20, 5, quiet=True)[1]:
         return 'the ends alone'
-    if exhaust.run(d, 1, 3000, r"(Put 'f'|Get 'f'|Peek 'f' 1|Upload 'f' 'xyz') .*(IFS|AFS)|IFB.* marks", quiet=True)[1]:
+    if exhaust.run(d, 1, 3000, r"(Put 'f'|Get 'f'|Peek 'f' 1|Upload 'f' 'xyz') .*(IFS|AFS)|IFB.* marks|Rename 'd'", quiet=True)[1]:
         return 'exhaust'
     return None
 

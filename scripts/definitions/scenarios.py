@@ -135,6 +135,7 @@ def scenarios():
                             yield one(op('Text', con('List'), b'd', h))
                             yield one(op('Text', con('Nlst'), b'f', h))
     for operation in (op('Where'), op('ChangeDir', b'd'), op('MakeDir', b'k'), op('Rename', b'f', b'k'), op('Rename', b'f', b'd'),
+                      op('Rename', b'd', b'k'),
                       op('Size', b'f', how('A', 'F', 'S')),
                       op('Delete', b'f'), op('RemoveDir', b'd'), op('Facts', b''), op('Modified', b'f'), op('Up')):
         yield one(operation)
