@@ -5,7 +5,8 @@ ghost use Rattle.ftp_disk_host.specs.Copied.{Copies};
 use crate::front::{PIECE, copy_front};
 use crate::host::Look;
 use crate::part::SystemPart;
-use crate::reading::{check_same, is_same, open_same};
+use crate::place::look_of;
+use crate::reading::{check_same, open_same};
 use std::alloc::Global;
 use std::cell::{Cell, RefCell};
 use std::fs::{Files, OpenFile, OpenOptions};
@@ -31,6 +32,7 @@ enum Copying {
 struct Front<F: Drop> {
     /// What the part is called by.
     number: u64,
+    /// How the file looked when it was opened.
     look: Look,
     count: u64,
     from: F,
@@ -110,6 +112,7 @@ impl<F: Read + Write + OpenFile + Drop> Fronts<F> {
     ) -> io::Result<()> {
         let number = part.number;
         let from = open_same(files, place, look)?;
+        let look = look_of(&from.metadata()?);
         let to = opened_again(files, part)?;
         let Ok(mut fronts) = self.fronts.try_borrow_mut() else {
             return Err(Error::from(ErrorKind::ResourceBusy));
@@ -144,14 +147,14 @@ impl<F: Read + Write + OpenFile + Drop> Fronts<F> {
         false
     }
 
-    /// Whether all of one is copied, and has these first octets of the file that looked so.
+    /// Whether all of one is copied, and has these first octets of the file that looks so, which nobody touched since it was opened.
     pub(crate) fn is_whole(&self, number: u64, look: Look, count: u64) -> bool {
         match self.fronts.try_borrow() {
             Ok(fronts) => fronts.iter().any(|front| {
                 front.number == number
                     && front.copying == Copying::Whole
                     && front.count == count
-                    && is_same(front.look, look)
+                    && front.look == look
             }),
             Err(_) => false,
         }

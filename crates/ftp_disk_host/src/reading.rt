@@ -114,12 +114,6 @@ pub(crate) fn open_same<R: Files>(files: &R, place: &str, look: Look) -> io::Res
     Ok(file)
 }
 
-/// Whether one look is that of the file of another, which was not changed in between.
-pub(crate) fn is_same(look: Look, other: Look) -> bool {
-    let is_it = look.device == other.device && look.inode == other.inode;
-    is_it && look.len == other.len && look.modified == other.modified
-}
-
 /// Fails where a file is another one than what looked so, or was changed since. That its inode was touched is no change: a new name does that.
 pub(crate) fn check_same(found: &Metadata, look: Look) -> io::Result<()> {
     let is_it = found.is_file() && found.dev() == look.device && found.ino() == look.inode;

@@ -11,13 +11,13 @@ use crate::listing::names_in;
 use crate::moment::now;
 use crate::moving::{make_at, move_at, move_onto};
 use crate::part::{SystemPart, begun_at, discard, mode_at, name_new, name_over};
-use crate::place::{above, check_way, dir_text, found_of, place_of, sync_above};
+use crate::place::{above, check_way, dir_text, found_of, look_of, place_of, sync_above};
 use crate::reading::{SystemFile, open_same};
 use crate::writing::Writing;
 use ftp_facts::Moment;
 use std::alloc::{AllocError, Global};
 use std::cell::Cell;
-use std::fs::Files;
+use std::fs::{Files, OpenFile};
 use std::io::{Error, ErrorKind};
 use std::time::Clock;
 use std::{fs, io, mem};
@@ -263,7 +263,8 @@ impl<'a, R: Files + Clock + AllocGlobal> Host for SystemHost<'a, R> {
     ) -> io::Result<()> {
         let place = self.way(below)?;
         let mut old = open_same(self.files, place.as_str(), look)?;
-        if self.fronts.is_whole(part.number, look, count) {
+        let found = look_of(&old.metadata()?);
+        if self.fronts.is_whole(part.number, found, count) {
             self.fronts.remove(part.number);
             part.owed = 0;
             return Ok(());

@@ -1,5 +1,5 @@
 -- When a further control connection may bring an answer (own choice: RFC 959, section 3.5, leaves recovery to the user).
-use Rattle.std.specs.Prelude.{ℕ, ◌-◌, ◌*◌, ◌+◌, ◌/◌, ◌==◌, ◌&&◌, ◌||◌, max, min, nat_le, nat_lt, Bool, true, false, not, Option, Some, None, Result, Ok, Err, if◌then◌else◌}
+use Rattle.std.specs.Prelude.{ℕ, ◌-◌, ◌*◌, ◌+◌, ◌/◌, ◌==◌, ◌&&◌, ◌||◌, max, min, nat_lt, Bool, true, false, not, Option, Some, None, Result, Ok, Err, if◌then◌else◌}
 use Rattle.ftp_operation.specs.declared.answer.Answer.{Answer}
 use Rattle.ftp_operation.specs.declared.answer.Answer.TheVariants as Answers
 use Rattle.tool_connect.specs.declared.again.Loss.{Loss}

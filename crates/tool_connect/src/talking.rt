@@ -1,5 +1,4 @@
 // A control connection from its beginning to its end, and the one client at it.
-ghost use Rattle.std.specs.Prelude.{◌≡◌};
 ghost use Rattle.ftp_driver.specs.Standing.{HasNone};
 ghost use Rattle.tool_session.specs.Talking.{Conversed};
 ghost use Rattle.tool_connect.specs.Answering.{CanHear, ComesOfClient};
