@@ -31,7 +31,7 @@ pub(crate) fn see<A: Allocator + Copy, T: Tree<A>>(
         return Ok(Err(long));
     };
     match tree.look(root, &path, sight) {
-        Ok(()) => Ok(Ok(path)),
+        Ok(_) => Ok(Ok(path)),
         Err(_) => Ok(Err(Refusal::LocalFault)),
     }
 }

@@ -1,5 +1,5 @@
 // The tree of a disk.
-ghost use Rattle.std.specs.Prelude.{◌≡◌, ◌≤◌, ◌<◌, ◌+◌, ◌++◌, IfErr, IfOk, OnErr, OnOk, drop, length, take};
+ghost use Rattle.std.specs.Prelude.{◌≡◌, ◌≤◌, ◌<◌, ◌+◌, ◌++◌, IfErr, IfOk, OnErr, OnOk, drop, false, length, take};
 ghost use Rattle.ftp_tree.specs.Change.{IsDone, IsRefused, IsSteady, NoStray, Tells, TellsOne, never_strayed, next_count};
 ghost use Rattle.ftp_tree.specs.Tree.{install_refusal, installed, octets_or_none, under, with_part};
 ghost use Rattle.ftp_disk_tree.specs.Note.{taken};
@@ -18,7 +18,7 @@ use ftp_disk_scan::{Dirs, Held, LeftOut, Version, look_at, take_up};
 use ftp_facts::Moment;
 use ftp_path::{Name, Path};
 use ftp_tree::{Broken, DirEntries, Draft, Limits, NodeKind, Sight, Tree, TreeFault};
-use ftp_tree_nodes::Nodes;
+use ftp_tree_nodes::{Nodes, Standing};
 use std::alloc::{AllocError, Allocator, Global};
 use std::cell::Cell;
 use std::io;
@@ -30,6 +30,14 @@ pub enum Others {
     Change,
     /// Nobody else changes it: a look does nothing.
     Keep,
+}
+
+/// What stands at a path; of a file, the number of its version.
+#[derive(Clone, Copy, PartialEq, Eq)]
+enum Thing {
+    Nothing,
+    Dir,
+    Version(u64),
 }
 
 /// A tree of which names, sizes and moments are in memory, and octets on a disk. All that a change needs of memory is had first, then the disk is
@@ -141,22 +149,38 @@ impl<'a, H: Host, K: Held> DiskTree<'a, H, K> {
         self.nodes.limits()
     }
 
-    /// Looks, and takes up what it finds. What is found is a stray before it is.
+    /// What stands at a path.
+    fn thing_at<B: Allocator + Copy, C: Allocator + Copy>(
+        &self,
+        root: &Path<B>,
+        path: &Path<C>,
+    ) -> Thing {
+        match self.nodes.standing(root, path) {
+            None => Thing::Nothing,
+            Some(Standing::Dir) => Thing::Dir,
+            Some(Standing::File(version, _)) => Thing::Version(version.number),
+        }
+    }
+
+    /// Looks, and takes up what it finds. What is found is a stray before it is. Whether another thing stands at the path then: a file is told from
+    /// another by device, inode, length and moment.
     fn look_again<B: Allocator + Copy, C: Allocator + Copy>(
         &mut self,
         root: &Path<B>,
         path: &Path<C>,
         sight: Sight,
-    ) -> io::Result<()>
+    ) -> io::Result<bool>
         ensures same { NoStray self.old.device self.new.device → self.new.nodes ≡ self.old.nodes }
+        ensures changed { NoStray self.old.device self.new.device → IfOk result (λ is_changed. is_changed ≡ false) }
         ensures steady { IsSteady self.old.device self.new.device }
         ensures once { self.new.device.strays ≤ self.old.device.strays + 1 }
     {
         let host = self.device.host();
         let findings = look_at(host, &self.nodes, &mut self.dirs, root, path, sight)?;
         if findings.is_empty() {
-            return Ok(());
+            return Ok(false);
         }
+        let stood = self.thing_at(root, path);
         self.device.changed();
         let (taken, left) = take_up(
             host,
@@ -166,7 +190,8 @@ impl<'a, H: Host, K: Held> DiskTree<'a, H, K> {
             findings,
         );
         self.left.see(left);
-        taken
+        taken?;
+        Ok(self.thing_at(root, path) != stood)
     }
 }
 
@@ -186,8 +211,9 @@ impl<'a, H: Host, K: Held> Tree<Global> for DiskTree<'a, H, K> {
         root: &Path<B>,
         path: &Path<C>,
         sight: Sight,
-    ) -> Result<(), Broken>
+    ) -> Result<bool, Broken>
         ensures same { NoStray self.old.device self.new.device → self.new.nodes ≡ self.old.nodes }
+        ensures changed { NoStray self.old.device self.new.device → IfOk result (λ is_changed. is_changed ≡ false) }
         ensures steady { OnOk result (IsSteady self.old.device self.new.device) }
         ensures failed { OnErr result (TellsOne self.old.device self.new.device) }
         // Witness of once, alone: `a_look_strays_twice`, `a_look_looks_where_nobody_else_changes`.
@@ -195,10 +221,10 @@ impl<'a, H: Host, K: Held> Tree<Global> for DiskTree<'a, H, K> {
         ensures alone { self.old.others ≡ Others.Keep → (self.new.nodes ≡ self.old.nodes) × (self.new.device ≡ self.old.device) }
     {
         if let Others::Keep = self.others {
-            return Ok(());
+            return Ok(false);
         }
         match self.look_again(root, path, sight) {
-            Ok(()) => Ok(()),
+            Ok(is_changed) => Ok(is_changed),
             Err(error) => {
                 self.device.fail(error);
                 Err(Broken)

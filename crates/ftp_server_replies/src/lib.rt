@@ -27,5 +27,5 @@ pub use line::line_len;
 pub use output::Output;
 pub use part::{access_len, path_len, pending_len, waiting_len};
 pub use room::room_text;
-pub use standing::{same_standing, still_stands};
+pub use standing::still_stands;
 pub use transfer::{Given, Marker, Received, ServerTransfer, Told};

@@ -5,7 +5,7 @@ ghost use Rattle.ftp_server_model.specs.Standing.{same_standing, still_stands};
 use ftp_server_model::Standing;
 
 /// Whether both are the same.
-pub fn same_standing(before: Standing, now: Standing) -> bool
+fn same_standing(before: Standing, now: Standing) -> bool
     // Witness: equations; `edits/another_moment_is_the_same`.
     ensures { result ≡ same_standing before now }
 {

@@ -29,7 +29,7 @@ pub(crate) fn look<A: Allocator + Copy, T: Tree<A>>(
     ensures failed { IfErr result (λ fault. Counted fault (T.failures tree.old) (T.failures tree.new)) }
 {
     match tree.look(root, path, sight) {
-        Ok(()) => Ok(()),
+        Ok(_) => Ok(()),
         Err(_) => Err(Fault::Device),
     }
 }

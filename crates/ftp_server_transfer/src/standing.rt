@@ -1,16 +1,14 @@
-// What stands at the path of an upload, and whether a look finds that others changed it.
-ghost use Rattle.std.specs.Prelude.{◌≡◌, ℕ, IfOk, OnErr, OnOk, false};
+// What stands at the path of an upload.
+ghost use Rattle.std.specs.Prelude.{◌≡◌};
 ghost use Rattle.std.specs.Option.{option_map};
 ghost use Rattle.ftp_path.specs.Path.{Names};
 ghost use Rattle.ftp_server_model.specs.Standing.{standing_at};
-ghost use Rattle.ftp_tree.specs.Change.{IsSteady, NoStray, TellsOne};
 ghost use Rattle.ftp_tree.specs.Tree.{Table, kind_at, size_at, stamp_at, under};
 
 use ftp_facts::Moment;
 use ftp_path::Path;
 use ftp_server_model::Standing;
-use ftp_server_replies::same_standing;
-use ftp_tree::{Broken, NodeKind, Sight, Tree};
+use ftp_tree::{NodeKind, Tree};
 use std::alloc::Allocator;
 
 /// What stands at a path.
@@ -48,20 +46,4 @@ fn standing_by(kind: Option<NodeKind>, size: Option<u64>, stamp: Option<Moment>)
             },
         },
     }
-}
-
-/// Looks at a path, and says whether others changed what stands there.
-pub(crate) fn look_anew<A: Allocator + Copy, T: Tree<A>>(
-    tree: &mut T,
-    root: &Path<A>,
-    path: &Path<A>,
-) -> Result<bool, Broken>
-    ensures same { NoStray (T.failures tree.old) (T.failures tree.new) → T.table tree.new ≡ T.table tree.old }
-    ensures changed { NoStray (T.failures tree.old) (T.failures tree.new) → IfOk result (λ is_changed. is_changed ≡ false) }
-    ensures steady { OnOk result (IsSteady (T.failures tree.old) (T.failures tree.new)) }
-    ensures failed { OnErr result (TellsOne (T.failures tree.old) (T.failures tree.new)) }
-{
-    let stood = standing_at(tree, root, path);
-    tree.look(root, path, Sight::Path)?;
-    Ok(!same_standing(stood, standing_at(tree, root, path)))
 }

@@ -15,7 +15,7 @@ use crate::ending::{
     end_refusal, fault_by, is_overtaken, kept_at, kept_count, overtaken_keep, room_behind,
 };
 use crate::settled::Came;
-use crate::standing::{look_anew, standing_at};
+use crate::standing::standing_at;
 use arrayvec::ArrayVec;
 use ftp_facts::Moment;
 use ftp_operation::Rights;
@@ -23,7 +23,7 @@ use ftp_path::Path;
 use ftp_server_model::{FixedReply, Keep, Standing};
 use ftp_server_replies::{Fault, Marker, Received, Told};
 use ftp_settings::{MARKER_LIMIT, Representation};
-use ftp_tree::Tree;
+use ftp_tree::{Sight, Tree};
 use ftp_wire::{Decoded, Decoder, Taken};
 use std::alloc::Allocator;
 
@@ -202,7 +202,7 @@ impl<A: Allocator + Copy, T: Tree<A>> Upload<A, T> {
             keep,
             decoder,
         } = self;
-        let Ok(is_changed) = look_anew(tree, root, &path) else {
+        let Ok(is_changed) = tree.look(root, &path, Sight::Path) else {
             return Err(Fault::Device);
         };
         if is_changed && is_broken(text) {

@@ -1,5 +1,5 @@
 // What a tree answers, as what its clauses say of one map, however the tree is kept.
-ghost use Rattle.std.specs.Prelude.{◌≡◌, ◌≤◌, ◌<◌, ◌++◌, ℕ, List, [], None, IfOk, IfErr, OnOk, OnErr, length, nat_le, take, drop, option_map, true};
+ghost use Rattle.std.specs.Prelude.{◌≡◌, ◌≤◌, ◌<◌, ◌++◌, ℕ, List, [], None, IfOk, IfErr, OnOk, OnErr, length, nat_le, take, drop, option_map, false, true};
 ghost use Rattle.std.specs.List.{slice_get};
 ghost use Rattle.ftp_tree.specs.Tree.{Table, children, delete_refusal, entries_at, file_refusal, install_refusal, installed, kind_at, made, make_refusal, freed, moved, node_at, octets_in, octets_or_none, onto_refusal, remove_refusal, removed, rename_refusal, room_at, room_refusal, size_at, stamp_at, total_limit, under, with_part};
 ghost use Rattle.ftp_tree.specs.Change.{Failures, IsDone, IsRefused, IsSteady, NoStray, Refuses, Tells, TellsOne};
@@ -62,15 +62,17 @@ pub trait Tree<A: Allocator + Copy>: Drop {
     ghost opened: { Self.Open → List ℕ };
 
     /// Looks whether what stands at a path, above it, or in the directory there was changed by others, and takes up what it finds. A command
-    /// looks before it reads a path, as far as it tells of it. Where nobody else can change anything there is nothing to do.
+    /// looks before it reads a path, as far as it tells of it. Where nobody else can change anything there is nothing to do. Says whether what
+    /// stands at the path itself was changed: another file is, even if it has as many octets and the same moment.
     fn look<B: Allocator + Copy, C: Allocator + Copy>(
         &mut self,
         root: &Path<B>,
         path: &Path<C>,
         sight: Sight,
-    ) -> Result<(), Broken>
+    ) -> Result<bool, Broken>
         // Witness: equations; that a look is made no clause says.
         ensures same { NoStray (failures self.old) (failures self.new) → table self.new ≡ table self.old }
+        ensures changed { NoStray (failures self.old) (failures self.new) → IfOk result (λ is_changed. is_changed ≡ false) }
         ensures steady { OnOk result (IsSteady (failures self.old) (failures self.new)) }
         ensures failed { OnErr result (TellsOne (failures self.old) (failures self.new)) };
 

@@ -78,11 +78,11 @@ impl<A: Allocator + Copy> Tree<A> for FailingTree<A> {
         _root: &Path<B>,
         _path: &Path<C>,
         _sight: Sight,
-    ) -> Result<(), Broken> {
+    ) -> Result<bool, Broken> {
         if self.fails() {
             return Err(Broken);
         }
-        Ok(())
+        Ok(false)
     }
 
     fn kind<B: Allocator + Copy, C: Allocator + Copy>(

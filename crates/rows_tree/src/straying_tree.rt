@@ -86,11 +86,15 @@ impl<A: Allocator + Copy> Tree<A> for StrayingTree<A> {
         root: &Path<B>,
         path: &Path<C>,
         sight: Sight,
-    ) -> Result<(), Broken> {
-        if let Some(change) = self.found.counted() {
-            let _ = change.apply(root, &mut self.tree.tree);
-        }
-        self.tree.look(root, path, sight)
+    ) -> Result<bool, Broken> {
+        let Some(change) = self.found.counted() else {
+            return self.tree.look(root, path, sight);
+        };
+        let size = self.size(root, path);
+        let stamp = self.stamp(root, path);
+        let _ = change.apply(root, &mut self.tree.tree);
+        let _ = self.tree.look(root, path, sight)?;
+        Ok(self.size(root, path) != size || self.stamp(root, path) != stamp)
     }
 
     fn kind<B: Allocator + Copy, C: Allocator + Copy>(

@@ -52,8 +52,8 @@ impl<A: Allocator + Copy> Tree<A> for MemTree<A> {
         _root: &Path<B>,
         _path: &Path<C>,
         _sight: Sight,
-    ) -> Result<(), Broken> {
-        Ok(())
+    ) -> Result<bool, Broken> {
+        Ok(false)
     }
 
     fn kind<B: Allocator + Copy, C: Allocator + Copy>(

@@ -71,8 +71,8 @@ impl<A: Allocator + Copy, D: Folder> Tree<A> for Mirror<A, D> {
         _root: &Path<B>,
         _path: &Path<C>,
         _sight: Sight,
-    ) -> Result<(), Broken> {
-        Ok(())
+    ) -> Result<bool, Broken> {
+        Ok(false)
     }
 
     fn kind<B: Allocator + Copy, C: Allocator + Copy>(
