@@ -14,7 +14,7 @@ use crate::device::Device;
 use crate::draft::DiskDraft;
 use crate::opened::DiskOpen;
 use ftp_disk_host::Host;
-use ftp_disk_scan::{Dirs, Held, LeftOut, Version, look_at, take_up};
+use ftp_disk_scan::{Dirs, Findings, Held, LeftOut, Version, look_at, take_up};
 use ftp_facts::Moment;
 use ftp_path::{Name, Path};
 use ftp_tree::{Broken, DirEntries, Draft, Limits, NodeKind, Sight, Tree, TreeFault};
@@ -33,11 +33,22 @@ pub enum Others {
 }
 
 /// What stands at a path; of a file, the number of its version.
-#[derive(Clone, Copy, PartialEq, Eq)]
+#[derive(Clone, Copy)]
 enum Thing {
     Nothing,
     Dir,
     Version(u64),
+}
+
+impl Thing {
+    /// Whether both are the same.
+    fn is_same(self, other: Thing) -> bool {
+        match (self, other) {
+            (Thing::Nothing, Thing::Nothing) | (Thing::Dir, Thing::Dir) => true,
+            (Thing::Version(number), Thing::Version(other)) => number == other,
+            _ => false,
+        }
+    }
 }
 
 /// A tree of which names, sizes and moments are in memory, and octets on a disk. All that a change needs of memory is had first, then the disk is
@@ -181,17 +192,25 @@ impl<'a, H: Host, K: Held> DiskTree<'a, H, K> {
             return Ok(false);
         }
         let stood = self.thing_at(root, path);
+        self.take(findings)?;
+        Ok(!stood.is_same(self.thing_at(root, path)))
+    }
+
+    /// Takes up what a look found, which is a stray.
+    fn take(&mut self, findings: Findings) -> io::Result<()>
+        ensures strays { self.new.device.strays ≡ self.old.device.strays + 1 }
+        ensures told { self.new.device.told ≡ self.old.device.told }
+    {
         self.device.changed();
         let (taken, left) = take_up(
-            host,
+            self.device.host(),
             &mut self.nodes,
             &mut self.dirs,
             &mut self.version,
             findings,
         );
         self.left.see(left);
-        taken?;
-        Ok(self.thing_at(root, path) != stood)
+        taken
     }
 }
 
