@@ -1,15 +1,13 @@
-// The client: what its owner begins, and how much it holds (RFC 959, sections 2.3 and 5.4).
-ghost use Rattle.std.specs.Prelude.{◌≡◌, ◌<◌, ◌≤◌, IfErr, IfOk, length};
+// The client, and what its owner begins (RFC 959, sections 2.3 and 5.4).
+ghost use Rattle.std.specs.Prelude.{◌≡◌, ◌<◌, IfErr, IfOk, length};
 ghost use Rattle.std.specs.List.{AllByRecursion};
 ghost use Rattle.ftp_endpoint.specs.Written.{IsTypedHost};
-ghost use Rattle.ftp_ends.specs.Limits.{held_limit};
-ghost use Rattle.ftp_client_model.specs.Held.{held, block_stored_limit};
 ghost use Rattle.ftp_client_model.specs.Telling.{untold};
 ghost use Rattle.ftp_client_model.specs.View as view;
 ghost use Rattle.ftp_client.specs.Counted.{StaysFit};
 
 use crate::counted::Counted;
-use ftp_client_steps::{ClientTransfer, CountedTransfer, KEPT_LIMIT, LastLine};
+use ftp_client_steps::{ClientTransfer, LastLine};
 use ftp_endpoint::Host;
 use ftp_facts::Text;
 use ftp_operation::Login;
@@ -55,25 +53,6 @@ impl<A: Allocator + Copy, F: ClientTransfer<A>> Client<A, F> {
             }),
             Err(login) => Err(login),
         }
-    }
-}
-
-impl<A: Allocator + Copy, F: CountedTransfer<A>> Client<A, F> {
-    ghost use Rattle.ftp_client.specs.Calls.{client_of};
-    ghost use Rattle.ftp_client_session.specs.Stored.{stored_in};
-
-    /// How many octets it holds, beside the texts of an operation and what its report brings: the login, the line that is being read, the
-    /// reply that it is of, what is owed, what its transfer stores, and the room of the line that was said last; at most 24,576 (own choice of the
-    /// limits). There is room in them for all that a transfer may ever store.
-    pub fn held(&self) -> usize
-        // Witness of exact: an equation; `edits/the_room_of_the_line_is_not_counted`.
-        ensures exact { result ≡ held (stored_in F.stored self.now.counted.dialogue.place) (client_of F.flow self.now).view }
-        // Witness of little: a bound of the result, by `clients_stay_fit` of `ftp_client_model` and the ghost field `fit`.
-        ensures little { result ≤ held_limit }
-        // Witness of room: a bound of what it would be with all that a transfer may store, by the same.
-        ensures room { held block_stored_limit (client_of F.flow self.now).view ≤ held_limit }
-    {
-        self.counted.stored_len() + (self.counted.talk_len() + KEPT_LIMIT)
     }
 }
 

@@ -3,6 +3,7 @@
 
 mod client;
 mod counted;
+mod held;
 mod near;
 
 pub use client::Client;

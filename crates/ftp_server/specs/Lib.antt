@@ -6,3 +6,4 @@ pub mod HearsTo
 pub mod Reading
 pub mod Server
 pub mod Settled
+pub mod Whole

@@ -2,6 +2,7 @@
 ghost use Rattle.std.specs.Prelude.{◌≡◌, ◌≤◌, ◌+◌, false};
 ghost use Rattle.ftp_ends.specs.Limits.{held_limit};
 ghost use Rattle.ftp_server.specs.Busy.{is_busy};
+ghost use Rattle.ftp_server.specs.Whole.{IsWholeServer};
 ghost use Rattle.ftp_server_model.specs.Heard.{heard_len};
 ghost use Rattle.ftp_server_model.specs.Held.{connection_len, held, session_len, stored_limit};
 
@@ -24,6 +25,8 @@ impl<A: Allocator + Copy, T: Tree<A>, J: Counted<A, T>> Server<A, T, J> {
             result ≡ heard_len self.now.heard + held stored (view_of T.table J.view self.now) }
         // Witness of little: a bound of the same number.
         ensures little { result ≤ held_limit }
+        // Witness of whole: `edits/a_server_keeps_all_lines`.
+        ensures whole { IsWholeServer self.now }
     {
         let waiting = waiting_len(&self.waiting);
         let held = self.output.len() + (self.reader.unfinished() + (waiting + self.session_len()));
