@@ -1,9 +1,8 @@
 #!/usr/bin/env python3
-"""`get` never puts a file in the place of a link, a device or a pipe: it writes where a link leads, and into what is no file."""
+"""`get` never puts a file in the place of a link, a device or a pipe: it writes where a link leads, and into what is no file, but into no named pipe."""
 import os
 import socket
 import subprocess
-import threading
 
 from hostile import TOOL, FakeServer, Rows
 
@@ -45,33 +44,77 @@ def links(rows):
     rows.row("onto a directory, where one has its name: refused", status == 3 and (there / "f").is_dir(), (status, told))
 
 
-def unread(rows, pipe):
-    """A pipe that nobody reads is waited for, as by curl, wget and cp: who reads it later has the whole file."""
+def pipes(rows):
+    """A named pipe is refused before anything is asked of the file, whether it is read or not: whoever reads it would be waited for."""
+    (rows.folder / "further").mkdir()
+    pipe = rows.folder / "further" / "pipe"
+    os.mkfifo(pipe)
+    (rows.folder / "to").symlink_to("further/pipe")
+    (rows.folder / "third").symlink_to(rows.folder / "to")
+    for name in ("further/pipe", "to", "third", str(pipe), "/proc/self/cwd/further/pipe"):
+        for more in ((), ("--keep",), ("--continue",)):
+            server = FakeServer({"SIZE": f"213 {len(WHOLE)}", "RETR": lambda session, _: session.send(WHOLE)})
+            words = [TOOL, "get", f"127.0.0.1:{server.port}/f", name, *more]
+            done = subprocess.run(words, cwd=rows.folder, stdin=subprocess.DEVNULL, capture_output=True, timeout=20)
+            server.close()
+            holds = done.returncode == 3 and b"named pipe" in done.stderr and not server.commands and pipe.is_fifo()
+            rows.row(f"onto a named pipe, as {name} {more}: refused, and nothing is asked", holds, (done, server.commands))
+    reader = os.open(pipe, os.O_RDONLY | os.O_NONBLOCK)
+    status, _, told = get(rows, pipe)
+    rows.row("onto a named pipe that is read: refused too", (status, os.read(reader, 1)) == (3, b"") and b"get URL - > FILE" in told, (status, told))
+    os.close(reader)
+    (rows.folder / "into").mkdir()
+    os.mkfifo(rows.folder / "into" / "f")
     server = FakeServer({"SIZE": f"213 {len(WHOLE)}", "RETR": lambda session, _: session.send(WHOLE)})
-    words = [TOOL, "get", f"127.0.0.1:{server.port}/f", str(pipe)]
-    with subprocess.Popen(words, stdin=subprocess.DEVNULL, stderr=subprocess.PIPE) as process:
-        try:
-            process.wait(2)
-            waits = False
-        except subprocess.TimeoutExpired:
-            waits = True
-        came = pipe.read_bytes() if waits else b""
-        _, told = process.communicate(timeout=60)
+    place = f"127.0.0.1:{server.port}/"
+    status, _, told = rows.tool("get", place + "f", place + "g", "into/", "--parallel", "3", seconds=20)
+    came = (rows.folder / "into" / "g").read_bytes()
+    rows.row("one of two is a named pipe: the other is fetched", (status, came) == (3, WHOLE) and "RETR f" not in server.commands, (status, told, server.commands))
     server.close()
-    holds = waits and (process.returncode, came) == (0, WHOLE) and pipe.is_fifo()
-    rows.row("onto a pipe that nobody reads: who reads it later has the file", holds, (waits, process.returncode, len(came), told))
+
+
+def open_pipes(rows):
+    """A pipe that a process has open is written, by its number or as the shell names it."""
+    server = FakeServer({"SIZE": f"213 {len(WHOLE)}", "RETR": lambda session, _: session.send(WHOLE)})
+    place = f"127.0.0.1:{server.port}/f"
+    for at in ("/dev/fd/", "/proc/self/fd/"):
+        end, other = os.pipe()
+        with subprocess.Popen([TOOL, "get", place, f"{at}{other}"], cwd=rows.folder, pass_fds=[other], stderr=subprocess.PIPE) as process:
+            os.close(other)
+            with open(end, "rb") as reading:
+                came = reading.read()
+            _, told = process.communicate(timeout=20)
+        rows.row(f"onto {at}N, an open pipe", (process.returncode, came) == (0, WHOLE), (process.returncode, len(came), told))
+    for what, words, file in (
+        (">(cat)", f"{TOOL} get {place} >(cat > by_shell); wait $!", "by_shell"),
+        ("- in a named pipe, as the refusal says", f"cat further/pipe > by_pipe & {TOOL} get {place} - > further/pipe && wait $!", "by_pipe"),
+    ):
+        done = subprocess.run(["bash", "-c", words], cwd=rows.folder, capture_output=True, timeout=20)
+        rows.row(f"onto {what}", done.returncode == 0 and (rows.folder / file).read_bytes() == WHOLE, done)
+    server.close()
+
+
+def appearing(rows):
+    """A named pipe that takes the name while the file is fetched is not waited for."""
+    for name, before in (("late", None), ("null", "/dev/null")):
+        place = rows.folder / name
+        if before:
+            place.symlink_to(before)
+
+        def meddled(session, _):
+            if place.is_symlink():
+                place.unlink()
+            os.mkfifo(place)
+            session.send(WHOLE)
+
+        server = FakeServer({"SIZE": f"213 {len(WHOLE)}", "RETR": meddled})
+        done = subprocess.run([TOOL, "get", f"127.0.0.1:{server.port}/f", name], cwd=rows.folder, stdin=subprocess.DEVNULL, capture_output=True, timeout=20)
+        server.close()
+        holds = done.returncode == 3 and b"named pipe" in done.stderr and place.is_fifo()
+        rows.row(f"a named pipe comes in the place of {before or 'nothing'}: refused", holds, done)
 
 
 def others(rows):
-    pipe = rows.folder / "pipe"
-    os.mkfifo(pipe)
-    came = []
-    reader = threading.Thread(target=lambda: came.append(pipe.read_bytes()))
-    reader.start()
-    status, _, told = get(rows, "pipe")
-    reader.join(10)
-    rows.row("onto a pipe: its reader has the file, and it stays", status == 0 and came == [WHOLE] and pipe.is_fifo(), (status, told))
-    unread(rows, pipe)
     with socket.socket(socket.AF_UNIX) as listening:
         listening.bind(str(rows.folder / "socket"))
         status, _, told = get(rows, "socket")
@@ -93,6 +136,9 @@ def others(rows):
 def main():
     rows = Rows()
     links(rows)
+    pipes(rows)
+    open_pipes(rows)
+    appearing(rows)
     others(rows)
     rows.finish()
 

@@ -126,8 +126,9 @@ server, and those of a pattern, are fetched over N control connections at once, 
 told and left is the same, in the same order, but for progress, of which nothing is; where the server gives fewer, it goes on over those. The
 file is written beside its name,
 as FILE.ftp-part, and moved over it once it is whole; it keeps the permissions of the file that it replaces. A file of that name stays, and
-FILE.ftp-part-1 is written in its place, and so on to 99. Where FILE is a link, that is done where it leads; what is no file, as a pipe, is
-written as it stands and never replaced; - is standard output.
+FILE.ftp-part-1 is written in its place, and so on to 99. Where FILE is a link, that is done where it leads; what is no file, as a terminal, is
+written as it stands and never replaced, and so is a pipe that a process has open, as /dev/stdout; a pipe that has a name is refused, since
+whoever reads it would be waited for; - is standard output, also for such a pipe: get URL - > FILE.
 In type I and file structure the server is asked for size and moment first, and again after each try. Where it tells the size, the file is
 whole once what came has it; where a data connection was cut, or broke, the download goes on there if both are told and are as before, and the
 moment was two seconds old or older when it was told first; else it begins anew, as where the file changed meanwhile; by at most 16 tries in

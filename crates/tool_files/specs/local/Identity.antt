@@ -14,6 +14,7 @@ is_same_file opened None = false
 abbrev pub is_file : FileKind → Bool
 is_file (Stands.File mode) = true
 is_file Stands.Directory = false
+is_file Stands.Pipe = false
 is_file Stands.Other = false
 is_file Stands.Nothing = false
 

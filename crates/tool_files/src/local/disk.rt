@@ -59,8 +59,8 @@ pub(crate) trait Disk {
     /// Opens a part that stands, to be written behind what it has; none where another process has it open. Nothing is written.
     fn open_again(&self, name: &str) -> io::Result<Option<Reopened>>;
 
-    /// Writes octets behind what stands at a name that is no file's.
-    fn write_into(&self, name: &str, pieces: &[Text<Global>]) -> io::Result<()>;
+    /// Writes octets behind what stands at a name that is no file's; `is_pipe`: a pipe, which a process has open.
+    fn write_into(&self, name: &str, is_pipe: bool, pieces: &[Text<Global>]) -> io::Result<()>;
 
     /// Makes a file of these octets, and flushes it. Where something has its name, a link too, that stays, and it fails.
     fn write_new(&self, name: &str, octets: &[u8]) -> io::Result<()>;
@@ -134,8 +134,8 @@ impl<R: Files<File = File> + AllocGlobal> Disk for R {
         }
     }
 
-    fn write_into(&self, name: &str, pieces: &[Text<Global>]) -> io::Result<()> {
-        write_into(self, name, pieces)
+    fn write_into(&self, name: &str, is_pipe: bool, pieces: &[Text<Global>]) -> io::Result<()> {
+        write_into(self, name, is_pipe, pieces)
     }
 
     fn write_new(&self, name: &str, octets: &[u8]) -> io::Result<()> {

@@ -68,6 +68,6 @@ fn is_file(standing: FileKind) -> bool
 {
     match standing {
         FileKind::File(_) => true,
-        FileKind::Directory | FileKind::Other | FileKind::Nothing => false,
+        FileKind::Directory | FileKind::Pipe | FileKind::Other | FileKind::Nothing => false,
     }
 }

@@ -60,7 +60,7 @@ pub(crate) fn kept_beside<D: Disk>(
 ) -> io::Result<PartBeside> {
     match &place_of(disk, alloc, file)? {
         Destination::File { name, mode } => kept_at(disk, alloc, name.as_str(), place, *mode),
-        Destination::Device => Ok(PartBeside::Nothing),
+        Destination::Device { is_pipe: _ } => Ok(PartBeside::Nothing),
     }
 }
 

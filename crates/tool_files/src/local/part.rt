@@ -37,7 +37,7 @@ pub(crate) fn write_over<D: Disk>(
             };
             replace(disk, alloc, name.as_str(), writing)
         }
-        Destination::Device => disk.write_into(file, pieces),
+        Destination::Device { is_pipe } => disk.write_into(file, *is_pipe, pieces),
     }
 }
 
@@ -115,7 +115,7 @@ pub(crate) fn begin_part<D: Disk>(
         Destination::File { name, mode } => {
             Ok(Some(disk.create_beside(name.as_str(), *mode, is_noted, passed)?))
         }
-        Destination::Device => Ok(None),
+        Destination::Device { is_pipe: _ } => Ok(None),
     }
 }
 
@@ -247,7 +247,7 @@ fn name_of<D: Disk>(
 fn file_of<D: Disk>(disk: &D, alloc: Global, file: &str) -> io::Result<PathBuf<Global>> {
     match place_of(disk, alloc, file)? {
         Destination::File { name, mode: _ } => Ok(name),
-        Destination::Device => Err(Error::new(
+        Destination::Device { is_pipe: _ } => Err(Error::new(
             ErrorKind::InvalidInput,
             "no file stands beside a device",
         )),

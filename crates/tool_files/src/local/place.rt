@@ -7,7 +7,7 @@ use std::alloc::Global;
 use std::fs::Metadata;
 use std::io;
 use std::io::{Error, ErrorKind};
-use std::os::unix::fs::PermissionsExt;
+use std::os::unix::fs::{FileTypeExt, PermissionsExt};
 use std::path::PathBuf;
 
 /// The most links that are followed from a name, as Linux does.
@@ -23,7 +23,9 @@ pub enum FileKind {
     /// A file with these permissions.
     File(u32),
     Directory,
-    /// What is no file, as a terminal or a pipe.
+    /// A pipe, whether it has a name or a process has it open.
+    Pipe,
+    /// What is none of these, as a terminal.
     Other,
 }
 
@@ -34,6 +36,8 @@ impl FileKind {
             FileKind::File(found.permissions().mode() & 0o777)
         } else if found.is_dir() {
             FileKind::Directory
+        } else if found.file_type().is_fifo() {
+            FileKind::Pipe
         } else {
             FileKind::Other
         }
@@ -48,6 +52,8 @@ pub enum WriteMode {
     /// Behind what stands there, which is never replaced.
     Into,
     Nowhere,
+    /// A named pipe has the name: who opens it waits for somebody who reads it.
+    Unread,
 }
 
 /// Where the octets of a file go.
@@ -58,17 +64,35 @@ pub(crate) enum Destination {
         name: PathBuf<Global>,
         mode: Option<u32>,
     },
-    Device,
+    Device {
+        /// Whether it is a pipe, which a process has open.
+        is_pipe: bool,
+    },
 }
 
-/// Where the octets of a file go: past links, so that none is replaced by a file. No octets go to a directory.
+/// Where the octets of a file go: past links, so that none is replaced by a file. No octets go to a directory, nor into a pipe by its name.
 pub(crate) fn place_of<D: Disk>(disk: &D, alloc: Global, file: &str) -> io::Result<Destination> {
     let standing = disk.standing_at(file)?;
     let name = led(disk, alloc, file)?;
-    match way_of(standing, name.as_str().starts_with(PROCESSES)) {
+    let is_pipe = matches!(standing, FileKind::Pipe);
+    let is_open = if is_pipe {
+        !has_pipe(disk, name.as_str())?
+    } else {
+        name.as_str().starts_with(PROCESSES)
+    };
+    match way_of(standing, is_open) {
         WriteMode::Over(mode) => Ok(Destination::File { name, mode }),
-        WriteMode::Into => Ok(Destination::Device),
+        WriteMode::Into => Ok(Destination::Device { is_pipe }),
         WriteMode::Nowhere => Err(bad("a directory has that name")),
+        WriteMode::Unread => Err(unread()),
+    }
+}
+
+/// Whether a pipe has this very name. None has it where a link leads to one that a process has open.
+fn has_pipe<D: Disk>(disk: &D, name: &str) -> io::Result<bool> {
+    match disk.look_at(name)? {
+        Some(look) => Ok(matches!(look.standing, FileKind::Pipe)),
+        None => Ok(false),
     }
 }
 
@@ -79,10 +103,16 @@ fn way_of(standing: FileKind, is_open: bool) -> WriteMode
     match standing {
         FileKind::Directory => WriteMode::Nowhere,
         FileKind::Other => WriteMode::Into,
-        FileKind::File(_) | FileKind::Nothing if is_open => WriteMode::Into,
+        FileKind::File(_) | FileKind::Nothing | FileKind::Pipe if is_open => WriteMode::Into,
+        FileKind::Pipe => WriteMode::Unread,
         FileKind::File(mode) => WriteMode::Over(Some(mode)),
         FileKind::Nothing => WriteMode::Over(None),
     }
+}
+
+/// By what a named pipe is refused: whoever reads it would be waited for.
+pub(crate) fn unread() -> Error {
+    bad("a named pipe has that name; `get URL - > FILE` writes into it")
 }
 
 fn bad(why: &'static str) -> Error {

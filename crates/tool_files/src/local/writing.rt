@@ -2,11 +2,12 @@
 use crate::local::kept::name_of_note;
 use crate::local::open_part::OpenPart;
 use crate::local::part::beside;
+use crate::local::place::unread;
 use ftp_facts::{Moment, Text};
 use std::alloc::Global;
 use std::fs::{File, FileTimes, Files, OpenOptions, Permissions, TryLockError};
 use std::io::{Error, ErrorKind, Write};
-use std::os::unix::fs::{OpenOptionsExt, PermissionsExt};
+use std::os::unix::fs::{FileTypeExt, OpenOptionsExt, PermissionsExt};
 use std::time::{Duration, SystemTime, UNIX_EPOCH};
 use std::{fs, io};
 
@@ -130,19 +131,42 @@ pub(crate) fn settle(part: &OpenPart, moment: Option<Moment>, flush: Flush) -> i
     }
 }
 
-/// Writes octets into what is no file, behind what stands there.
-pub(crate) fn write_into<R: Files>(
+/// Writes octets into what is no file, behind what stands there; `is_pipe`: a pipe, which a process has open.
+pub(crate) fn write_into<R: Files<File = File>>(
     files: &R,
     file: &str,
+    is_pipe: bool,
     pieces: &[Text<Global>],
 ) -> io::Result<()> {
-    let mut how = OpenOptions::new();
-    how.append(true);
-    let mut opened = how.open(files, file)?;
+    let mut opened = if is_pipe {
+        open_behind(files, file, false)?
+    } else {
+        open_at_once(files, file)?
+    };
     for piece in pieces {
         opened.write_all(piece.as_slice())?;
     }
     Ok(())
+}
+
+/// Opens what is no pipe, to be written after what it has. It is opened for reading too: so the system opens a named pipe that came in its place at once, and
+/// that is refused. What can't be opened so, as where it may not be read, is opened to be written alone: there such a pipe is waited for.
+fn open_at_once<R: Files<File = File>>(files: &R, file: &str) -> io::Result<File> {
+    let opened = match open_behind(files, file, true) {
+        Ok(opened) => opened,
+        Err(_) => open_behind(files, file, false)?,
+    };
+    if opened.metadata()?.file_type().is_fifo() {
+        return Err(unread());
+    }
+    Ok(opened)
+}
+
+/// Opens what stands at a name, to be written after what it has.
+fn open_behind<R: Files<File = File>>(files: &R, file: &str, is_read: bool) -> io::Result<File> {
+    let mut how = OpenOptions::new();
+    how.read(is_read).append(true);
+    how.open(files, file)
 }
 
 /// Makes a file of these octets, and flushes it. Where something has its name, a link too, that stays, and it fails.
