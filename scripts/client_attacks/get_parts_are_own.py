@@ -76,7 +76,7 @@ def continued(rows):
     """A part that is gone on with takes its own place; neither a pipe nor a directory by its name is waited for."""
     clear(rows)
     _, _, server = kept(rows)
-    server.says["RETR"] = broken(50)
+    server.says["RETR"] = broken(200)
     status, told, _ = kept(rows, "--continue", server=server)
     names = sorted(file.name for file in rows.folder.iterdir())
     octets = (rows.folder / PART).read_bytes()

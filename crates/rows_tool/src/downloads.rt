@@ -30,8 +30,8 @@ pub(crate) enum KnownBefore {
     Nothing,
     /// Nothing, and its moment is asked for.
     Untold,
-    /// Its octets 0123, of ten, and the fifth second of 1970.
-    Kept,
+    /// A part of these octets, which may be its first ones, of ten, and the fifth second of 1970.
+    Kept(&'static [u8]),
     /// It was listed with ten octets and the fifth second of 1970.
     Listed,
 }
@@ -39,7 +39,7 @@ pub(crate) enum KnownBefore {
 fn stamp_of(known: KnownBefore) -> KnownMoment {
     match known {
         KnownBefore::Nothing | KnownBefore::Listed => KnownMoment::Unasked,
-        KnownBefore::Untold | KnownBefore::Kept => KnownMoment::Untold,
+        KnownBefore::Untold | KnownBefore::Kept(_) => KnownMoment::Untold,
     }
 }
 
@@ -50,10 +50,10 @@ fn tell(
     part: OpenPart,
 ) -> io::Result<()> {
     match (known, Moment::new(5)) {
-        (KnownBefore::Kept, Some(moment)) => {
+        (KnownBefore::Kept(octets), Some(moment)) => {
             let mut writer = part.writer();
-            writer.write_all(b"0123")?;
-            downloading.go_on_in(part, 4, TOTAL, Some(moment));
+            writer.write_all(octets)?;
+            downloading.go_on_in(part, octets.len() as u64, TOTAL, Some(moment))?;
         }
         (KnownBefore::Listed, Some(moment)) => {
             downloading.pour_into(part);

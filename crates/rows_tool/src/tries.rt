@@ -45,11 +45,12 @@ pub(crate) fn rows(rt: &HostRuntime, paper: &mut Paper, lines: &[u8]) -> io::Res
 
 const WORDS: &[(&'static [u8], KnownBefore)] = &[
     (b"dated", KnownBefore::Untold),
-    (b"kept", KnownBefore::Kept),
+    (b"kept", KnownBefore::Kept(b"0123")),
+    (b"planted", KnownBefore::Kept(b"01x3")),
     (b"listed", KnownBefore::Listed),
 ];
 
-/// A line: `put`, `get`, `dated`, `kept` or `listed`, the type, a name, and what the server answers.
+/// A line: `put`, `get`, `dated`, `kept`, `planted` or `listed`, the type, a name, and what the server answers.
 fn put(rt: &HostRuntime, paper: &mut Paper, line: &[u8]) -> io::Result<()> {
     let (verb, rest) = split(line);
     let (kind, rest) = split(rest);

@@ -135,8 +135,9 @@ moment was two seconds old or older when it was told first; else it begins anew,
 all, and it ends with 1 where it is not whole then. In type A, and where
 the server tells no size, a cut that looks like the end of the file is not noticed; with --progress a note says so.
 With --keep what came of a file that is not whole stays beside it; standard error has its name, and FILE.ftp-part.note says of which file
-it is. With --continue a download goes on behind such a part, where the server tells the size and the moment that stand there; else it
-begins anew, and a note says so. With --moment FILE has the moment at which PATH was changed last; where the server does not know it,
+it is. With --continue a download goes on behind such a part, where the server tells the size and the moment that stand there, and where
+the last 65,536 octets of the part, which are asked for once more, are the server's; else it begins anew, and a note says so. What stands
+before those is not compared. With --moment FILE has the moment at which PATH was changed last; where the server does not know it,
 standard error has a note. A file of more octets than --limit is refused, with status 1. With --progress, and where standard error is a
 terminal, it tells how far a transfer is that takes more than a second, each second at most, as 5.2 of 20.0 MiB: a KiB is 1,024 octets, a
 MiB 1,024 KiB. With --quiet standard error has errors alone, the lines that begin with error: - no progress and no notes, whatever

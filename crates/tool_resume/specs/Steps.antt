@@ -64,6 +64,19 @@ behind_front count Fronts.Own = Steps.From count
 behind_front count Fronts.Other = Steps.From 0
 behind_front count Fronts.Lost = Steps.Lost
 
+-- the last octets of a part that an earlier run left of a download, so many of which are awaited once more, where so many came: they are the file's own
+-- where all came and none is another, and another's where one is, or the server says that it sent all before
+abbrev pub part_owner : (awaited came : ℕ) → (is_other is_done : Bool) → FrontOwner
+part_owner awaited came is_other is_done =
+    if is_other then Fronts.Other
+    else (if nat_le awaited came then Fronts.Own else (if is_done then Fronts.Other else Fronts.Lost))
+
+-- how many of those that came are joined to the part: those after the awaited ones, and to the file's own alone
+abbrev pub joins : FrontOwner → (awaited came : ℕ) → ℕ
+joins Fronts.Own awaited came = came - awaited
+joins Fronts.Other awaited came = 0
+joins Fronts.Lost awaited came = 0
+
 -- behind each, where this is there
 abbrev pub follows : TransferState → Ended → There → NextStep
 follows t Ends.Done there = behind_done t there

@@ -25,6 +25,9 @@ use tool_session::{
     Terms, Ticket, say,
 };
 
+/// What is told where a part of an earlier run is not gone on with.
+const OTHER_PART: &str = "the end of its part is not the server's; the download begins anew";
+
 /// What is known of the moment of the file's last change.
 #[derive(Clone, Copy)]
 pub enum KnownMoment {
@@ -154,13 +157,20 @@ impl<'a, R: LocalFiles + Eprint> Downloading<'a, R> {
 
     /// What comes goes to this part of a file, as it comes, and none of it is held in memory.
     pub fn pour_into(&mut self, part: OpenPart) {
-        self.came = ReceivedOctets::into_part(self.alloc, part, 0);
+        self.came = ReceivedOctets::into_part(self.alloc, part);
     }
 
     /// The same, where the part has octets of a file of this size that was changed last at this moment, as its note says, which is none of a recent
-    /// moment: the download goes on behind them where the server has that file still, and else begins anew. Without a moment, and in settings in which octets are not counted, it begins anew.
-    pub fn go_on_in(&mut self, part: OpenPart, count: u64, total: u64, moment: Option<Moment>) {
-        self.came = ReceivedOctets::into_part(self.alloc, part, count);
+    /// moment: the download goes on behind them where the server has that file still, and the last of them come once more; else it begins anew. Without a
+    /// moment, and in settings in which octets are not counted, it begins anew.
+    pub fn go_on_in(
+        &mut self,
+        part: OpenPart,
+        count: u64,
+        total: u64,
+        moment: Option<Moment>,
+    ) -> io::Result<()> {
+        self.came = ReceivedOctets::into_kept(self.alloc, part, count)?;
         match moment {
             Some(moment) if is_counted(self.how) => {
                 self.size = Size::Told(total);
@@ -172,6 +182,7 @@ impl<'a, R: LocalFiles + Eprint> Downloading<'a, R> {
             }
             _ => self.came.cut(0),
         }
+        Ok(())
     }
 
     /// A note beside the part says of which file it is, as soon as the server tells that: the file of this end, and the place of the file at its server.
@@ -222,7 +233,7 @@ impl<'a, R: LocalFiles + Eprint> Downloading<'a, R> {
 
     /// How it stands, once the server said that it is done.
     pub fn arrived(&self) -> Arrival {
-        arrived(self.limit, self.begun, self.version(), self.came.count())
+        arrived(self.limit, self.begun, self.version(), self.came.seen())
     }
 
     /// Which file the server has, as far as it told.
@@ -301,6 +312,9 @@ impl<'a, R: LocalFiles + Eprint> Downloading<'a, R> {
             drop(answer);
             return DownloadTurn::Over(Answer::Memory);
         }
+        if self.came.is_other() {
+            return self.leave_part(answer);
+        }
         if slot.ending() == DataEnding::PastLimit {
             drop(answer);
             self.size = Size::Past;
@@ -352,7 +366,8 @@ impl<'a, R: LocalFiles + Eprint> Downloading<'a, R> {
         if let Some(answer) = self.answer_ahead(slot, &request) {
             return Ok(answer);
         }
-        let Some(sink_transfer) = self.came.sink_transfer(self.how.representation)? else {
+        let settings = self.how.representation;
+        let Some(sink_transfer) = self.came.sink_transfer(self.alloc, settings)? else {
             return Ok(slot.answer(request));
         };
         let home = Cell::new(Some(sink_transfer));
@@ -364,14 +379,16 @@ impl<'a, R: LocalFiles + Eprint> Downloading<'a, R> {
     /// What went to the part before this was answered.
     fn take_poured(&mut self, home: Cell<Option<FileDownloadStream>>, answer: &Answer<Global>) {
         let (count, fault) = poured(home.into_inner(), answer);
-        self.came.took(count, fault);
+        self.came
+            .took(count, fault, matches!(answer, Answer::Octets(_)));
     }
 
     /// What is asked for a try.
     fn request(&self) -> Result<Request, AllocError> {
         let path = Text::copy_of(self.alloc, self.path.as_bytes())?;
         let how = self.openings.how(self.how);
-        let op = match self.came.count() {
+        let from = self.came.start();
+        let op = match from {
             0 => Op::Get(path, how),
             from => Op::GetFrom(path, from, how),
         };
@@ -380,7 +397,7 @@ impl<'a, R: LocalFiles + Eprint> Downloading<'a, R> {
             _ => None,
         };
         let terms = Terms {
-            most: self.limit.saturating_sub(self.came.count()),
+            most: self.limit.saturating_sub(from),
             total,
         };
         Ok(Request::Download(Some(op), terms))
@@ -459,7 +476,11 @@ impl<'a, R: LocalFiles + Eprint> Downloading<'a, R> {
         if now.is_none() && matches!(ended, Ended::Done) {
             self.sight = VersionCheck::Said;
         }
-        follows_download(self.left, ended, self.came.count(), self.begun, now)
+        let came = match ended {
+            Ended::Done | Ended::Unended => self.came.seen(),
+            Ended::Broken | Ended::Failed | Ended::Unopened => self.came.count(),
+        };
+        follows_download(self.left, ended, came, self.begun, now)
     }
 
     /// Takes a step. An answer that is none of the end is let go by a call: where it is let go at an arm's end, it is proved part by part.
@@ -492,6 +513,19 @@ impl<'a, R: LocalFiles + Eprint> Downloading<'a, R> {
         if let Some(noting) = &mut self.noting {
             noting.forget();
         }
+    }
+
+    /// The part of an earlier run is of another file: the download begins anew, unless this was the last try.
+    fn leave_part(&mut self, answer: Answer<Global>) -> DownloadTurn {
+        self.begun = self.version();
+        self.begin_anew();
+        let head = self.head.as_str();
+        let _told = say(self.rt, head, &OTHER_PART, "");
+        if self.left == 0 || matches!(&answer, Answer::Lost) {
+            return DownloadTurn::Over(answer);
+        }
+        drop(answer);
+        DownloadTurn::GoesOn
     }
 
     /// Tells from where the download goes on; where that is not after what came, it begins anew, with the file that the server has now.

@@ -24,7 +24,8 @@ pub use received::ReceivedOctets;
 pub use sending::Sending;
 pub use source::UploadSource;
 pub use step::{
-    Ended, FrontOwner, NextStep, There, TransferState, behind_front, follows, front_from,
+    Ended, FrontOwner, NextStep, There, TransferState, behind_front, follows, front_from, joins,
+    part_owner,
 };
 pub use telling::{ToldPart, tell, tell_too_large};
 pub use trying::is_counted;

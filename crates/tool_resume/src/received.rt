@@ -1,19 +1,27 @@
 // What came of a download.
+use crate::step::{FrontOwner, front_from, joins, part_owner};
 use ftp_client_stream::{SinkTransfer, WriterSink};
 use ftp_facts::Text;
 use ftp_operation::Answer;
 use ftp_settings::Representation;
 use ftp_wire::Sink;
 use std::alloc::{AllocError, Global};
+use std::io;
 use std::io::{Error, ErrorKind};
 use tool_files::OpenPart;
-use tool_session::{FileDownloadStream, SharedFile};
+use tool_session::{FileDownloadStream, SharedFile, is_other};
 
 /// The octets that came: in a part of a file, to which they go as they come, or in memory, in pieces, none of which is copied.
 pub struct ReceivedOctets {
     pieces: Vec<Text<Global>, Global>,
     part: Option<OpenPart>,
     count: u64,
+    /// The last of those that the part has of an earlier run, until all of them came once more.
+    awaited: Vec<u8, Global>,
+    /// How many of these came so far.
+    agreed: usize,
+    /// What these are.
+    front: FrontOwner,
     /// Why the part could not be written, where it could not.
     fault: Option<Error>,
 }
@@ -25,6 +33,9 @@ impl Drop for ReceivedOctets {
             pieces: _,
             part: _,
             count: _,
+            awaited: _,
+            agreed: _,
+            front: _,
             fault: _,
         } = self;
     }
@@ -37,18 +48,42 @@ impl ReceivedOctets {
             pieces: Vec::new(alloc),
             part: None,
             count: 0,
+            awaited: Vec::new(alloc),
+            agreed: 0,
+            front: FrontOwner::Own,
             fault: None,
         }
     }
 
-    /// So many octets, which a part has; what comes goes behind them.
-    pub(crate) fn into_part(alloc: Global, part: OpenPart, count: u64) -> ReceivedOctets {
+    /// Nothing yet; what comes goes to a part that has nothing.
+    pub(crate) fn into_part(alloc: Global, part: OpenPart) -> ReceivedOctets {
         ReceivedOctets {
             pieces: Vec::new(alloc),
             part: Some(part),
-            count,
+            count: 0,
+            awaited: Vec::new(alloc),
+            agreed: 0,
+            front: FrontOwner::Own,
             fault: None,
         }
+    }
+
+    /// So many octets, which a part has of an earlier run; what comes goes after them once the last of them came again.
+    pub(crate) fn into_kept(
+        alloc: Global,
+        part: OpenPart,
+        count: u64,
+    ) -> io::Result<ReceivedOctets> {
+        let awaited = part.piece(alloc, front_from(count), count)?;
+        Ok(ReceivedOctets {
+            pieces: Vec::new(alloc),
+            part: Some(part),
+            count,
+            awaited,
+            agreed: 0,
+            front: FrontOwner::Lost,
+            fault: None,
+        })
     }
 
     /// These came behind those of before.
@@ -62,20 +97,39 @@ impl ReceivedOctets {
         Ok(())
     }
 
-    /// Writes octets to the part.
+    /// Writes octets to the part; none of them where those of an earlier run are not seen to be the file's own.
     fn write(&mut self, octets: &[u8]) {
         let Some(part) = &self.part else {
             return;
         };
+        if !self.rest().is_empty() {
+            return;
+        }
         let mut writer_sink = WriterSink::new(part.writer());
         let _written = writer_sink.push(octets);
         let (count, fault) = (writer_sink.count(), writer_sink.fault());
         drop(writer_sink);
-        self.took(count, fault);
+        self.wrote(count, fault);
+    }
+
+    /// A data connection brought so many octets to the part, of which the first are those that are awaited once more, and it failed or not; `is_done`: the
+    /// server says that it sent all.
+    pub(crate) fn took(&mut self, came: u64, fault: Option<Error>, is_done: bool) {
+        let awaited = self.rest().len() as u64;
+        let is_other = awaited > 0 && is_other(fault);
+        self.front = part_owner(awaited, came, is_other, is_done);
+        self.agreed = self.agreed.saturating_add(came.min(awaited) as usize);
+        let fault = if is_other { None } else { fault };
+        self.wrote(joins(self.front, awaited, came), fault);
+    }
+
+    /// Those that are awaited still.
+    fn rest(&self) -> &[u8] {
+        self.awaited.get(self.agreed..).unwrap_or(&[])
     }
 
     /// So many octets went to the part, and it failed or not: of those that it took in part it has none then.
-    pub(crate) fn took(&mut self, count: u64, fault: Option<Error>) {
+    fn wrote(&mut self, count: u64, fault: Option<Error>) {
         self.count = self.count.saturating_add(count);
         if let (Some(error), Some(part)) = (fault, &self.part) {
             let _cut = part.cut(self.count);
@@ -86,11 +140,13 @@ impl ReceivedOctets {
     /// What carries octets of a data connection in these settings to the part, where there is one.
     pub(crate) fn sink_transfer(
         &self,
+        alloc: Global,
         settings: Representation,
     ) -> Result<Option<FileDownloadStream>, AllocError> {
         match &self.part {
             Some(part) => {
-                let writer = SharedFile::new(part.shared()?);
+                let awaited = Vec::from_slice(alloc, self.rest())?;
+                let writer = SharedFile::new(part.shared()?, awaited);
                 Ok(Some(SinkTransfer::new(settings, WriterSink::new(writer))))
             }
             None => Ok(None),
@@ -101,6 +157,9 @@ impl ReceivedOctets {
     pub(crate) fn cut(&mut self, count: u64) {
         self.count = count;
         self.pieces.clear();
+        self.awaited.clear();
+        self.agreed = 0;
+        self.front = FrontOwner::Own;
         if let Some(part) = &self.part {
             if let Err(error) = part.cut(count) {
                 self.fault = Some(error);
@@ -111,6 +170,25 @@ impl ReceivedOctets {
     /// How many octets came.
     pub fn count(&self) -> u64 {
         self.count
+    }
+
+    /// From which octet of the file on the next ones are asked for: from those that are awaited once more.
+    pub(crate) fn start(&self) -> u64 {
+        self.count.saturating_sub(self.rest().len() as u64)
+    }
+
+    /// How many octets are seen to be the file's: none of a part of an earlier run, until its last ones came once more.
+    pub(crate) fn seen(&self) -> u64 {
+        if self.rest().is_empty() {
+            self.count
+        } else {
+            0
+        }
+    }
+
+    /// Whether the part is seen to be of another file.
+    pub(crate) fn is_other(&self) -> bool {
+        matches!(self.front, FrontOwner::Other)
     }
 
     /// The part that they are in, where they are in one.

@@ -1,6 +1,6 @@
 // What follows a try of an upload, by values alone.
 ghost use Rattle.std.specs.Prelude.{◌≡◌};
-ghost use Rattle.tool_resume.specs.Steps.{behind_broken, behind_done, behind_failed, behind_front, behind_unended, follows, front_from, is_own};
+ghost use Rattle.tool_resume.specs.Steps.{behind_broken, behind_done, behind_failed, behind_front, behind_unended, follows, front_from, is_own, joins, part_owner};
 
 /// What is there of a file: what a server tells by SIZE (RFC 3659, section 4), or what came to this end.
 #[derive(Clone, Copy)]
@@ -63,14 +63,15 @@ pub enum NextStep {
 /// How many octets of a front are read back, and those before them not (own choice).
 const READ_BACK: u64 = 65_536;
 
-/// What the last octets are of the front that a server has of an upload, which are read back before the upload goes on behind it.
+/// What the last octets are of the front that a server has of an upload, or an earlier run left of a download: they are read back from the server before the
+/// transfer goes on behind them.
 #[derive(Clone, Copy)]
 pub enum FrontOwner {
-    /// The source's own at that place.
+    /// The file's own at that place.
     Own,
     /// Others, or the server does not give them.
     Other,
-    /// The control connection ended before they came.
+    /// The connection ended before they came.
     Lost,
 }
 
@@ -90,6 +91,35 @@ pub fn behind_front(count: u64, front: FrontOwner) -> NextStep
         FrontOwner::Own => NextStep::From(count),
         FrontOwner::Other => NextStep::From(0),
         FrontOwner::Lost => NextStep::Lost,
+    }
+}
+
+/// What the last octets are of a part that an earlier run left of a download, so many of which are awaited once more: so many came that are the same, or were
+/// written after them; `is_other`: one came that is another; `is_done`: the server says that it sent all.
+pub fn part_owner(awaited: u64, came: u64, is_other: bool, is_done: bool) -> FrontOwner
+    // Witness: an equation; `edits/a_part_of_another_file_is_gone_on_with`.
+    ensures { result ≡ part_owner awaited came is_other is_done }
+{
+    if is_other {
+        FrontOwner::Other
+    } else if awaited <= came {
+        FrontOwner::Own
+    } else if is_done {
+        FrontOwner::Other
+    } else {
+        FrontOwner::Lost
+    }
+}
+
+/// How many of the octets that came are joined to those of the part, where these are its last ones: those after all that are awaited, and none where the part
+/// is not seen to be the file's own.
+pub fn joins(front: FrontOwner, awaited: u64, came: u64) -> u64
+    // Witness: an equation; `edits/octets_are_joined_to_another_file`.
+    ensures { result ≡ joins front awaited came }
+{
+    match front {
+        FrontOwner::Own => came.saturating_sub(awaited),
+        FrontOwner::Other | FrontOwner::Lost => 0,
     }
 }
 

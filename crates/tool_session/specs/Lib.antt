@@ -10,3 +10,5 @@ pub mod Opening
 pub mod Talking
 -- Why a program stops before it has an answer of the server.
 pub mod Fault
+-- Octets that a file has and that come once more.
+pub mod Again

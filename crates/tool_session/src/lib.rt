@@ -10,6 +10,7 @@ mod request_state;
 mod saying;
 mod server;
 mod session;
+mod shared_file;
 mod stream_body;
 mod subject;
 
@@ -22,7 +23,6 @@ pub use request_state::{DataEnding, DataLimits, RequestState};
 pub use saying::{say, told};
 pub use server::ServerAddress;
 pub use session::{ClientSession, SessionTask, Ticket};
-pub use stream_body::{
-    FileDownloadStream, FileUploadStream, FromStreamBody, SharedFile, StreamBody,
-};
+pub use shared_file::{SharedFile, is_other};
+pub use stream_body::{FileDownloadStream, FileUploadStream, FromStreamBody, StreamBody};
 pub use subject::Subject;

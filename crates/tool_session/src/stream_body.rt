@@ -1,40 +1,10 @@
 // What goes over a data connection in the place of what a client gives and hears, in the kinds that any control connection can carry.
+use crate::shared_file::SharedFile;
 use ftp_client_stream::{Carries, ReaderSource, SinkTransfer, SourceTransfer, WriterSink};
 use std::alloc::Global;
 use std::fs::File;
 use std::io;
 use std::io::{Read, Write};
-use std::rc::Rc;
-
-/// A file to which octets go as they come, behind what it has, and which somebody else holds too.
-pub struct SharedFile {
-    file: Rc<File, Global>,
-}
-
-/// By hand: a derived drop is proved again wherever one is let go.
-impl Drop for SharedFile {
-    fn drop(self) {
-        let Self { file: _ } = self;
-    }
-}
-
-impl SharedFile {
-    /// A file that was opened so that what is written goes behind what it has.
-    pub fn new(file: Rc<File, Global>) -> SharedFile {
-        SharedFile { file }
-    }
-}
-
-impl Write for SharedFile {
-    fn write(&mut self, octets: &[u8]) -> io::Result<usize> {
-        let mut file: &File = &self.file;
-        file.write(octets)
-    }
-
-    fn flush(&mut self) -> io::Result<()> {
-        Ok(())
-    }
-}
 
 /// A download whose octets go to a file.
 pub type FileDownloadStream = SinkTransfer<WriterSink<SharedFile>>;

@@ -3,6 +3,7 @@ use crate::local::identity::FileStatus;
 use std::alloc::{AllocError, Global};
 use std::fs::File;
 use std::io;
+use std::os::unix::fs::FileExt;
 use std::rc::Rc;
 
 /// A part of a file, beside its name, that is open: what comes goes behind what it has. It stands until it is moved over the file, kept or discarded by
@@ -44,6 +45,14 @@ impl OpenPart {
     /// What the system says of it, whatever became of its name.
     pub(crate) fn look(&self) -> io::Result<FileStatus> {
         Ok(FileStatus::of(&self.opened.metadata()?))
+    }
+
+    /// Its octets from one place to another; fails where it has fewer.
+    pub fn piece(&self, alloc: Global, from: u64, to: u64) -> io::Result<Vec<u8, Global>> {
+        let mut octets = Vec::new(alloc);
+        octets.resize(to.saturating_sub(from) as usize, 0)?;
+        self.opened.read_exact_at(octets.as_mut_slice(), from)?;
+        Ok(octets)
     }
 
     /// Leaves its first octets, so many.

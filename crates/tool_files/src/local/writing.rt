@@ -65,14 +65,15 @@ pub(crate) fn create_beside<R: Files<File = File>>(
     ))
 }
 
-/// Makes a file, which no other process takes for its own as long as it is open; none where something has its name.
+/// Makes a file to read and write, which no other process takes for its own as long as it is open; none where something has its name.
 fn open_new<R: Files<File = File>>(
     files: &R,
     name: &str,
     kept: Option<u32>,
 ) -> io::Result<Option<File>> {
     let mut how = OpenOptions::new();
-    how.append(true)
+    how.read(true)
+        .append(true)
         .create_new(true)
         .mode(kept.unwrap_or(NEW_MODE));
     match how.open(files, name) {

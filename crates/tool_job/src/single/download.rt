@@ -160,7 +160,7 @@ fn resume<R: LocalFiles + Eprint>(
     match rt.kept_beside(job.download.file, job.place.as_bytes())? {
         PartBeside::Kept(kept) => {
             let KeptPart { part, count, note } = kept;
-            downloading.go_on_in(part, count, note.size, Moment::new(note.moment));
+            downloading.go_on_in(part, count, note.size, Moment::new(note.moment))?;
             Ok(true)
         }
         PartBeside::Refused(name) => {

@@ -36,7 +36,10 @@ impl<'a, R: LocalFiles + Eprint> Downloading<'a, R> {
         if !is_taken {
             return;
         }
-        if let Ok(Some(sink_transfer)) = self.came.sink_transfer(self.how.representation) {
+        if let Ok(Some(sink_transfer)) = self
+            .came
+            .sink_transfer(self.alloc, self.how.representation)
+        {
             self.asked_at = self.rt.present();
             self.ahead = slot.foresee_carried(row, sink_transfer);
         }
