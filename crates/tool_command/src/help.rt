@@ -46,10 +46,10 @@ another number, as 20G, or any; --any says any for each, and --skip. A client is
 seconds of --idle, or of --idle-while-waited where another client waits; that is not logged in after those of --login; and, whatever it
 says or sends, once another client waits for those of --session-while-waited, before a login of --login-while-waited. Where --sessions is a
 number there is none of these limits but those that are given, and those of --session-while-waited begin anew with each octet of a transfer.
-Of more than one at once nobody waits: where all seats are taken, the session
+Of more than one at once nobody waits: where all places are taken, the session
 that said and sent nothing for the longest is ended for who comes, where that is longer than --idle-while-waited, or one that is not logged
-in after --login-while-waited, or one without a transfer that moves of the address with the most seats where who comes has none; else who
-comes is told 421, and so is whose address has as many seats as --at-once-per-host says. A second server on the folder is refused. With
+in after --login-while-waited, or one without a transfer that moves of the address with the most sessions where who comes has none; else who
+comes is told 421, and so is whose address has as many sessions as --at-once-per-host says. A second server on the folder is refused. With
 --until-input-ends the end of standard input stops the server: nobody more is taken, a session that does nothing is told 421, and transfers
 may go on for the seconds of --finish. From the third
 refused login on answers wait a second, and the tenth ends the connection; so do answers to an address from its tenth one on, over all

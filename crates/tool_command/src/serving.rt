@@ -46,7 +46,7 @@ pub const SERVE: Subcommand<'static> = Subcommand {
         Word {
             name: "sessions",
             form: Form::Else(ValueForm::Text("K|forever"), "1"),
-            help: "how many control connections are served; who is told that all seats are taken is none",
+            help: "how many control connections are served; who is told that all places are taken is none",
         },
         Word {
             name: "host",

@@ -147,7 +147,7 @@ impl<'a, R: Tells> SessionLog<'a, R> {
             Some(TimeoutReason::Session) => "is ended: its time is over, since others wait",
             Some(TimeoutReason::LoginWaited) => "is ended: nobody logged in, and others wait",
             Some(TimeoutReason::Crowded) =>
-                "is ended: its address has the most seats, and another has none",
+                "is ended: its address has the most sessions, and another has none",
             Some(TimeoutReason::Refused) => "is ended: ten logins were refused",
             Some(TimeoutReason::Stopped) => "is ended: the server stops",
         };

@@ -112,8 +112,8 @@ where
     ) -> Option<Rc<ControlLine, Global>> {
         if let Log::Told = self.service.log {
             let what = match why {
-                Full::House => "is turned away: all seats are taken",
-                Full::Host => "is turned away: its address has as many seats as it may",
+                Full::House => "is turned away: all places are taken",
+                Full::Host => "is turned away: its address has as many sessions as it may",
             };
             self.rt
                 .tell(self.service.lines, &SessionNote { peer, what });
