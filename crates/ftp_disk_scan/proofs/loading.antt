@@ -1,2 +1,3 @@
+pub mod ComparedLemmas
 pub mod HeldLemmas
 pub mod PlaceLemmas

@@ -5,7 +5,7 @@ pub mod loading;
 pub mod rescan;
 
 pub use loading::{
-    Changes, Dirs, Findings, Held, Here, LeftOut, LoadFault, Odd, Reason, Roots, Seen, Thing,
-    Unknown, Version, above, below_of, load, served, sorted, take_up,
+    Changes, Compared, Dirs, Findings, Had, Held, Here, LeftOut, LoadFault, Odd, Reason, Roots,
+    Seen, Thing, Unknown, Version, above, below_of, load, served, sorted, take_up,
 };
 pub use rescan::look_at;

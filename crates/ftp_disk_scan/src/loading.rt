@@ -2,10 +2,12 @@
 // served is left out.
 
 mod changes;
+mod compared;
 mod counting;
 mod dirs;
 mod fault;
 mod freed;
+mod had;
 mod here;
 mod loading;
 mod names;
@@ -16,8 +18,10 @@ mod version;
 mod walking;
 
 pub use changes::{Changes, Findings, Thing};
+pub use compared::Compared;
 pub use dirs::{Dirs, Seen};
 pub use fault::{LeftOut, LoadFault, Odd, Reason};
+pub use had::{Had, had_at};
 pub use here::Here;
 pub use loading::load;
 pub use names::{served, sorted};

@@ -6,4 +6,5 @@ mod finding;
 mod looking;
 mod within;
 
+pub(crate) use finding::Finding;
 pub use looking::look_at;

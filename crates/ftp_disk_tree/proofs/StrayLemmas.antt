@@ -6,7 +6,8 @@ use Rattle.ftp_disk_tree.specs.declared.answer.Answer.TheVariants.{Took, Read, P
 use Rattle.ftp_disk_tree.specs.declared.answer.Putting.{Putting}
 use Rattle.ftp_disk_tree.specs.declared.answer.Reading.{Reading}
 use Rattle.ftp_disk_tree.specs.Note.{NotedAnswer, noted_event, taken}
-use Rattle.ftp_disk_tree.specs.Stray.{strays_between, front_of, strays_in, strays_of}
+use Rattle.ftp_disk_tree.specs.Stray.{strays_between, strays_found, front_of, strays_in, strays_of}
+use Rattle.ftp_disk_scan.specs.loading.Compared.{Pair, all_agree}
 use Rattle.ftp_disk_scan.specs.loading.Held.{fit}
 
 -- no stray, so they are the same
@@ -52,3 +53,38 @@ took_more old new octets is = ap taken is
 pub took_none : (events : List NotedAnswer) → events ≡ [] → taken events ≡ []
 unfolding taken
 took_none events is = ap taken is
+
+-- ---- what a look found
+
+abbrev found-by : Bool → ℕ
+found-by agree = if agree then 0 else 1
+
+-- a look that compared nothing does not stray
+pub nothing_found : (pairs : List Pair) → pairs ≡ [] → strays_found pairs ≡ 0
+unfolding strays_found all_agree
+nothing_found pairs is = ap strays_found is
+
+-- nor one that found all as the tree has it
+pub same_found : (pairs : List Pair) → all_agree pairs ≡ true → strays_found pairs ≡ 0
+unfolding strays_found all_agree
+same_found pairs same = ap found-by same
+
+-- one that found another thing strays once
+pub other_found : (pairs : List Pair) → all_agree pairs ≡ false → strays_found pairs ≡ 1
+unfolding strays_found all_agree
+other_found pairs other = ap found-by other
+
+none_one : 0 ≤ 1
+none_one = omega arith
+
+one_one : 1 ≤ 1
+one_one = omega arith
+
+-- no look strays more than once
+pub found_once : (pairs : List Pair) → strays_found pairs ≤ 1
+unfolding strays_found all_agree
+found_once pairs = at (all_agree pairs)
+  where
+    at : (agree : Bool) → found-by agree ≤ 1
+    at true = none_one
+    at false = one_one

@@ -4,6 +4,7 @@ use Rattle.ftp_disk_tree.specs.declared.answer.Answer.{Answer}
 use Rattle.ftp_disk_tree.specs.declared.answer.Answer.TheVariants.{Took, Read, Put, Changed}
 use Rattle.ftp_disk_tree.specs.declared.answer.Front.{Front}
 use Rattle.ftp_disk_tree.specs.Note.{NotedAnswer}
+use Rattle.ftp_disk_scan.specs.loading.Compared.{Pair, all_agree}
 use Rattle.ftp_disk_scan.specs.loading.Held.{fit}
 
 -- the octets that are kept of a version
@@ -26,3 +27,7 @@ strays_in holds Changed octets = 1
 unfoldable pub strays_of : (ℕ → List ℕ) → List NotedAnswer → ℕ
 strays_of holds [] = 0
 strays_of holds (event ∷ events) = strays_of holds events + strays_in holds event.0 event.1
+
+-- A look strays once where something that it found on the disk is not what the tree has there, and else not.
+unfoldable pub strays_found : List Pair → ℕ
+strays_found pairs = if all_agree pairs then 0 else 1

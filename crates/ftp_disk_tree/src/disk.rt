@@ -4,7 +4,7 @@ ghost use Rattle.ftp_tree.specs.Change.{IsDone, IsRefused, IsSteady, NoStray, Te
 ghost use Rattle.ftp_tree.specs.Tree.{install_refusal, installed, octets_or_none, under, with_part};
 ghost use Rattle.ftp_disk_tree.specs.Note.{taken};
 ghost use Rattle.ftp_disk_tree.specs.Put.{IsPut};
-ghost use Rattle.ftp_disk_tree.specs.Stray.{strays_between};
+ghost use Rattle.ftp_disk_tree.specs.Stray.{strays_between, strays_found};
 ghost use Rattle.ftp_disk_scan.specs.loading.Held.{fit};
 
 use crate::changing::{
@@ -14,7 +14,7 @@ use crate::device::Device;
 use crate::draft::DiskDraft;
 use crate::opened::DiskOpen;
 use ftp_disk_host::Host;
-use ftp_disk_scan::{Dirs, Findings, Held, LeftOut, Version, look_at, take_up};
+use ftp_disk_scan::{Compared, Dirs, Findings, Held, LeftOut, Version, look_at, take_up};
 use ftp_facts::Moment;
 use ftp_path::{Name, Path};
 use ftp_tree::{Broken, DirEntries, Draft, Limits, NodeKind, Sight, Tree, TreeFault};
@@ -61,6 +61,8 @@ pub struct DiskTree<'a, H: Host, K: Held> {
     /// The number of the last version.
     pub(crate) version: u64,
     pub(crate) left: Left,
+    /// What the last look compared, if it came to an end.
+    pub(crate) compared: Compared,
 }
 
 /// What looks left out for a limit last, and whether that was not told yet.
@@ -104,6 +106,7 @@ impl<'a, H: Host, K: Held> Drop for DiskTree<'a, H, K> {
             others: _,
             version: _,
             left: _,
+            compared: _,
         } = self;
     }
 }
@@ -150,6 +153,7 @@ impl<'a, H: Host, K: Held> DiskTree<'a, H, K> {
             others,
             version,
             left: Left::nothing(),
+            compared: Compared::none(),
         }
     }
 
@@ -184,10 +188,12 @@ impl<'a, H: Host, K: Held> DiskTree<'a, H, K> {
         ensures same { NoStray self.old.device self.new.device → self.new.nodes ≡ self.old.nodes }
         ensures changed { NoStray self.old.device self.new.device → IfOk result (λ is_changed. is_changed ≡ false) }
         ensures steady { IsSteady self.old.device self.new.device }
-        ensures once { self.new.device.strays ≤ self.old.device.strays + 1 }
+        ensures strays { self.new.device.strays ≡ self.old.device.strays + strays_found self.new.compared.pairs }
     {
+        self.compared = Compared::none();
         let host = self.device.host();
         let findings = look_at(host, &self.nodes, &mut self.dirs, root, path, sight)?;
+        self.compared.adopt(findings.compared());
         if findings.is_empty() {
             return Ok(false);
         }
@@ -200,6 +206,7 @@ impl<'a, H: Host, K: Held> DiskTree<'a, H, K> {
     fn take(&mut self, findings: Findings) -> io::Result<()>
         ensures strays { self.new.device.strays ≡ self.old.device.strays + 1 }
         ensures told { self.new.device.told ≡ self.old.device.told }
+        ensures compared { self.new.compared ≡ self.old.compared }
     {
         self.device.changed();
         let (taken, left) = take_up(
@@ -225,6 +232,7 @@ impl<'a, H: Host, K: Held> Tree<Global> for DiskTree<'a, H, K> {
 
     ghost opened = { λ file. fit file.len (K.holds file.version) };
 
+    #[tactic(auto, using(crate::proofs::StrayLemmas::nothing_found, crate::proofs::StrayLemmas::found_once))]
     fn look<B: Allocator + Copy, C: Allocator + Copy>(
         &mut self,
         root: &Path<B>,
@@ -235,11 +243,13 @@ impl<'a, H: Host, K: Held> Tree<Global> for DiskTree<'a, H, K> {
         ensures changed { NoStray self.old.device self.new.device → IfOk result (λ is_changed. is_changed ≡ false) }
         ensures steady { OnOk result (IsSteady self.old.device self.new.device) }
         ensures failed { OnErr result (TellsOne self.old.device self.new.device) }
-        // Witness of once, alone: `a_look_strays_twice`, `a_look_looks_where_nobody_else_changes`.
+        // Witness of strays, alone: `a_look_strays_twice`, `a_look_that_finds_nothing_strays`, `a_look_looks_where_nobody_else_changes`.
+        ensures strays { self.new.device.strays ≡ self.old.device.strays + strays_found self.new.compared.pairs }
         ensures once { self.new.device.strays ≤ self.old.device.strays + 1 }
         ensures alone { self.old.others ≡ Others.Keep → (self.new.nodes ≡ self.old.nodes) × (self.new.device ≡ self.old.device) }
     {
         if let Others::Keep = self.others {
+            self.compared = Compared::none();
             return Ok(false);
         }
         match self.look_again(root, path, sight) {

@@ -1,7 +1,12 @@
 // What others changed on a disk, as a look found it and as it is taken up.
+ghost use Rattle.std.specs.Prelude.{◌≡◌, ◌∷◌, true, false, OnErr, OnOk, length};
+ghost use Rattle.ftp_disk_scan.specs.loading.Compared.{agrees, all_agree, are_none, pair_of};
+
+use crate::loading::compared::Compared;
 use crate::loading::dirs::Seen;
 use crate::loading::fault::Reason;
-use ftp_disk_host::Look;
+use crate::loading::had::Had;
+use ftp_disk_host::{Found, Look};
 use std::alloc::{AllocError, Global};
 
 /// A file or a directory on the disk, and how it looks.
@@ -24,13 +29,16 @@ impl Drop for Stands {
     }
 }
 
-/// What others changed, as it is taken up: first what is gone, then what takes no more room than before.
+/// What others changed, as it is taken up: first what is gone, then what takes no more room than before. There is none just where all that was compared
+/// agrees.
 pub struct Changes {
     /// What the tree has and the disk has not, or not of this kind.
     pub(crate) gone: Vec<String<Global>, Global>,
     pub(crate) shorter: Vec<Stands, Global>,
     /// Longer files, and what the tree has not.
     pub(crate) more: Vec<Stands, Global>,
+    pub(crate) compared: Compared,
+    ghost told: { all_agree compared.pairs ≡ are_none (length gone.items) (length shorter.items) (length more.items) },
 }
 
 /// By hand, as that of a tree.
@@ -40,6 +48,7 @@ impl Drop for Changes {
             gone: _,
             shorter: _,
             more: _,
+            compared: _,
         } = self;
     }
 }
@@ -51,37 +60,96 @@ impl Changes {
             gone: Vec::new(alloc),
             shorter: Vec::new(alloc),
             more: Vec::new(alloc),
+            compared: Compared::none(),
         }
     }
 
     /// Whether nothing is another.
-    pub fn is_empty(&self) -> bool {
+    pub fn is_empty(&self) -> bool
+        // Witness: `edits/a_longer_file_is_no_change`, `what_agrees_is_added_as_gone`, `what_is_gone_counts_as_the_same`.
+        ensures { result ≡ all_agree self.now.compared.pairs }
+    {
         self.gone.is_empty() && self.shorter.is_empty() && self.more.is_empty()
     }
 
+    /// What was found at a place is what the tree has there.
+    pub(crate) fn same(&mut self, found: Found, had: Had)
+        requires { agrees found had ≡ true }
+        ensures { self.new.compared.pairs ≡ pair_of found had ∷ self.old.compared.pairs }
+    {
+        self.compared.note(&found, &had);
+    }
+
     /// Adds a place at which nothing that the tree has stands any more.
-    pub fn add_gone(&mut self, alloc: Global, place: &str) -> Result<(), AllocError> {
+    pub(crate) fn add_gone(
+        &mut self,
+        alloc: Global,
+        place: &str,
+        found: Found,
+        had: Had,
+    ) -> Result<(), AllocError>
+        requires { agrees found had ≡ false }
+        ensures { OnOk result (self.new.compared.pairs ≡ pair_of found had ∷ self.old.compared.pairs) }
+    {
         let place = String::from_str(alloc, place)?;
         self.gone.push(place)?;
+        self.compared.note(&found, &had);
         Ok(())
     }
 
     /// Adds a file that has no more octets than before.
-    pub fn add_shorter(
+    pub(crate) fn add_shorter(
         &mut self,
         alloc: Global,
         place: &str,
         look: Look,
-    ) -> Result<(), AllocError> {
+        found: Found,
+        had: Had,
+    ) -> Result<(), AllocError>
+        requires { agrees found had ≡ false }
+        ensures { OnOk result (self.new.compared.pairs ≡ pair_of found had ∷ self.old.compared.pairs) }
+    {
         let place = String::from_str(alloc, place)?;
         let thing = Thing::File(look);
         self.shorter.push(Stands { place, thing })?;
+        self.compared.note(&found, &had);
         Ok(())
     }
 
     /// Adds a file that is longer, or what the tree has not.
-    pub fn add_more(&mut self, alloc: Global, place: &str, thing: Thing) -> Result<(), AllocError> {
+    pub(crate) fn add_more(
+        &mut self,
+        alloc: Global,
+        place: &str,
+        thing: Thing,
+        found: Found,
+        had: Had,
+    ) -> Result<(), AllocError>
+        requires { agrees found had ≡ false }
+        ensures { OnOk result (self.new.compared.pairs ≡ pair_of found had ∷ self.old.compared.pairs) }
+    {
         let place = String::from_str(alloc, place)?;
+        self.more.push(Stands { place, thing })?;
+        self.compared.note(&found, &had);
+        Ok(())
+    }
+
+    /// Adds what stands where the tree has one of another kind.
+    pub(crate) fn add_other(
+        &mut self,
+        alloc: Global,
+        place: &str,
+        thing: Thing,
+        found: Found,
+        had: Had,
+    ) -> Result<(), AllocError>
+        requires { agrees found had ≡ false }
+        ensures { OnOk result (self.new.compared.pairs ≡ pair_of found had ∷ self.old.compared.pairs) }
+    {
+        let gone = String::from_str(alloc, place)?;
+        let place = String::from_str(alloc, place)?;
+        self.gone.push(gone)?;
+        self.compared.note(&found, &had);
         self.more.push(Stands { place, thing })?;
         Ok(())
     }
@@ -127,8 +195,18 @@ impl Findings {
     }
 
     /// Whether all is as the tree has it.
-    pub fn is_empty(&self) -> bool {
+    pub fn is_empty(&self) -> bool
+        // Witness: `edits/findings_are_never_empty`.
+        ensures { result ≡ all_agree self.now.changes.compared.pairs }
+    {
         self.changes.is_empty()
+    }
+
+    /// What was compared.
+    pub fn compared(&self) -> &Compared
+        ensures { result.now ≡ self.now.changes.compared }
+    {
+        &self.changes.compared
     }
 
     /// The place that was asked for, the changes, how the directory there looked, and why it can't be served.

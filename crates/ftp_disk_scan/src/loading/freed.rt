@@ -1,13 +1,15 @@
 // What others took away below a root, anywhere there: it counts for limits until it is found.
 use crate::loading::changes::Changes;
 use crate::loading::fault::LoadFault;
+use crate::loading::had::had_at;
 use crate::loading::here::Here;
 use crate::loading::roots::Roots;
 use crate::loading::version::{Held, Version};
 use crate::loading::walking::DIR_TURNS;
-use ftp_disk_host::{Found, Host};
+use crate::rescan::Finding;
+use ftp_disk_host::Host;
 use ftp_path::{Path, PathFault};
-use ftp_tree_nodes::{Nodes, Standing};
+use ftp_tree_nodes::Nodes;
 use std::alloc::Global;
 
 /// What the nodes have below a root, and below no lower root, and the disk has not; and each file that has fewer octets there. What can't be looked at
@@ -101,6 +103,7 @@ impl<'a, H: Host, K: Held> Search<'a, H, K> {
     }
 
     /// Looks at what stands in a directory by a name.
+    #[tactic(auto, using(crate::proofs::loading::ComparedLemmas::changed_differs), unfolding(crate::specs::rescan::Finding::is_change))]
     fn look_at(&mut self, here: &Here, folder: &H::Folder, name: &str) -> Result<(), LoadFault> {
         let alloc = self.host.memory();
         let Ok(path) = here.child(alloc, name) else {
@@ -112,15 +115,17 @@ impl<'a, H: Host, K: Held> Search<'a, H, K> {
         let Ok(found) = self.host.found_in(folder, name) else {
             return Ok(());
         };
-        let added = match (self.nodes.standing(&here.root, &path), found) {
-            (Some(Standing::Dir), Found::Dir(_)) => return self.await_here(),
-            (Some(Standing::File(version, _)), Found::File(look)) => {
-                if look.len >= version.look.len {
-                    return Ok(());
-                }
-                self.freed.add_shorter(alloc, self.place.as_str(), look)
+        let had = had_at(self.nodes, &here.root, &path);
+        let place = self.place.as_str();
+        let added = match Finding::of(found, had) {
+            Finding::SameDir(_) => return self.await_here(),
+            Finding::Shorter(look) if look.len < had.len() => {
+                self.freed.add_shorter(alloc, place, look, found, had)
             }
-            _ => self.freed.add_gone(alloc, self.place.as_str()),
+            Finding::Gone => self.freed.add_gone(alloc, place, found, had),
+            Finding::TurnedOdd => self.freed.add_gone(alloc, place, found, had),
+            Finding::Replaced(_) => self.freed.add_gone(alloc, place, found, had),
+            _ => return Ok(()),
         };
         match added {
             Ok(()) => Ok(()),

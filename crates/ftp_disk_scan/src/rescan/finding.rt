@@ -1,7 +1,10 @@
 // What stands on a disk, held against what a tree has there.
-use crate::loading::{Changes, Held, Thing, Version};
+ghost use Rattle.std.specs.Prelude.{◌≡◌, ◌∷◌, not, OnOk};
+ghost use Rattle.ftp_disk_scan.specs.loading.Compared.{agrees, pair_of, same_file};
+ghost use Rattle.ftp_disk_scan.specs.rescan.Finding.{is_change};
+
+use crate::loading::{Changes, Had, Thing};
 use ftp_disk_host::{Found, Look};
-use ftp_tree_nodes::{Holder, Standing};
 use std::alloc::{AllocError, Global};
 
 /// How what stands at a place on the disk differs from what the tree has there.
@@ -30,17 +33,23 @@ pub(crate) enum Finding {
 }
 
 impl Finding {
-    /// What was found at a place at which this stands in the tree.
-    pub(crate) fn of<K: Held>(found: Found, standing: Option<Standing<'_, Version<K>>>) -> Finding {
-        match standing {
-            None => Finding::of_new(found),
-            Some(Standing::Dir) => Finding::of_dir(found),
-            Some(Standing::File(version, _)) => Finding::of_file(found, version.look),
+    /// What was found at a place at which the tree has this.
+    pub(crate) fn of(found: Found, had: Had) -> Finding
+        // Witness: `edits/a_file_that_is_as_it_was_is_a_change`, `a_file_of_another_inode_is_as_it_was`.
+        ensures { is_change result ≡ not (agrees found had) }
+    {
+        match had {
+            Had::Nothing => Finding::of_new(found),
+            Had::Dir => Finding::of_dir(found),
+            Had::File(before) => Finding::of_file(found, before),
         }
     }
 
     /// The same where the tree has nothing.
-    pub(crate) fn of_new(found: Found) -> Finding {
+    #[tactic(auto, unfolding(crate::specs::loading::Compared::agrees, crate::specs::rescan::Finding::is_change))]
+    fn of_new(found: Found) -> Finding
+        ensures { is_change result ≡ not (agrees found Had.Nothing) }
+    {
         match found {
             Found::Nothing => Finding::Nothing,
             Found::Dir(look) => Finding::New(Thing::Dir(look)),
@@ -50,7 +59,10 @@ impl Finding {
     }
 
     /// The same where it has a directory.
-    fn of_dir(found: Found) -> Finding {
+    #[tactic(auto, unfolding(crate::specs::loading::Compared::agrees, crate::specs::rescan::Finding::is_change))]
+    fn of_dir(found: Found) -> Finding
+        ensures { is_change result ≡ not (agrees found Had.Dir) }
+    {
         match found {
             Found::Nothing => Finding::Gone,
             Found::Dir(look) => Finding::SameDir(look),
@@ -60,7 +72,10 @@ impl Finding {
     }
 
     /// The same where it has a file that looked so.
-    fn of_file(found: Found, before: Look) -> Finding {
+    #[tactic(auto, unfolding(crate::specs::loading::Compared::agrees, crate::specs::rescan::Finding::is_change))]
+    fn of_file(found: Found, before: Look) -> Finding
+        ensures { is_change result ≡ not (agrees found (Had.File before)) }
+    {
         match found {
             Found::Nothing => Finding::Gone,
             Found::Dir(look) => Finding::Replaced(Thing::Dir(look)),
@@ -74,29 +89,35 @@ impl Finding {
 
 /// Whether a file is the one that looked so, with as many octets and the same moment. That it was moved or got other permissions moves its `touched`
 /// alone, and changes nothing that a tree tells.
-fn is_as_it_was(look: Look, before: Look) -> bool {
+fn is_as_it_was(look: Look, before: Look) -> bool
+    ensures { result ≡ same_file look before }
+{
     look.device == before.device
         && look.inode == before.inode
         && look.len == before.len
         && look.modified == before.modified
 }
 
-/// Adds what was seen at a place, where that is a change.
-pub(crate) fn add(
+/// Holds what was found at a place against what the tree has there, and adds it where that is a change.
+#[tactic(auto, using(crate::proofs::loading::ComparedLemmas::changed_differs, crate::proofs::loading::ComparedLemmas::unchanged_agrees), unfolding(crate::specs::rescan::Finding::is_change))]
+pub(crate) fn hold(
     changes: &mut Changes,
     alloc: Global,
     place: &str,
-    finding: Finding,
-) -> Result<(), AllocError> {
-    match finding {
-        Finding::Nothing | Finding::SameFile | Finding::SameDir(_) | Finding::Odd => Ok(()),
-        Finding::Gone | Finding::TurnedOdd => changes.add_gone(alloc, place),
-        Finding::Shorter(look) => changes.add_shorter(alloc, place, look),
-        Finding::Longer(look) => changes.add_more(alloc, place, Thing::File(look)),
-        Finding::New(thing) => changes.add_more(alloc, place, thing),
-        Finding::Replaced(thing) => {
-            changes.add_gone(alloc, place)?;
-            changes.add_more(alloc, place, thing)
+    found: Found,
+    had: Had,
+) -> Result<(), AllocError>
+    ensures { OnOk result (changes.new.compared.pairs ≡ pair_of found had ∷ changes.old.compared.pairs) }
+{
+    match Finding::of(found, had) {
+        Finding::Nothing | Finding::SameFile | Finding::SameDir(_) | Finding::Odd => {
+            changes.same(found, had);
+            Ok(())
         }
+        Finding::Gone | Finding::TurnedOdd => changes.add_gone(alloc, place, found, had),
+        Finding::Shorter(look) => changes.add_shorter(alloc, place, look, found, had),
+        Finding::Longer(look) => changes.add_more(alloc, place, Thing::File(look), found, had),
+        Finding::New(thing) => changes.add_more(alloc, place, thing, found, had),
+        Finding::Replaced(thing) => changes.add_other(alloc, place, thing, found, had),
     }
 }

@@ -1,7 +1,9 @@
 // What others changed at a path: found, and nothing of the tree is changed. No octet of a file is read.
-use crate::loading::{Changes, Dirs, Findings, Held, Here, Reason, Roots, Version, below_of};
+use crate::loading::{
+    Changes, Dirs, Findings, Had, Held, Here, Reason, Roots, Version, below_of, had_at,
+};
 use crate::rescan::beside::look_beside;
-use crate::rescan::finding::{Finding, add};
+use crate::rescan::finding::{Finding, hold};
 use crate::rescan::within::{Within, error_of, look_in};
 use ftp_disk_host::{Found, Host, Look};
 use ftp_path::Path;
@@ -72,9 +74,10 @@ fn go_down<H: Host, K: Held>(
         let Some(place) = front(asked, end) else {
             continue;
         };
-        match sight_at(host, nodes, roots, place)? {
+        let (found, had) = sight_at(host, nodes, roots, place)?;
+        match Finding::of(found, had) {
             Finding::SameDir(look) => dir = Some(look),
-            other => return way_end(host.memory(), place, other),
+            _ => return way_end(host.memory(), place, found, had),
         }
     }
     match dir {
@@ -100,16 +103,16 @@ fn front(place: &str, end: usize) -> Option<&str> {
     }
 }
 
-/// What is seen at a place.
+/// What is seen at a place, and what the tree has there.
 fn sight_at<H: Host, K: Held>(
     host: &H,
     nodes: &Nodes<Global, Version<K>>,
     roots: &Roots,
     place: &str,
-) -> io::Result<Finding> {
+) -> io::Result<(Found, Had)> {
     let here = here_at(host.memory(), roots, place)?;
     let found = host.found(place)?;
-    Ok(Finding::of(found, nodes.standing(&here.root, &here.path)))
+    Ok((found, had_at(nodes, &here.root, &here.path)))
 }
 
 /// A place, as a path below a root.
@@ -121,10 +124,10 @@ fn here_at(alloc: Global, roots: &Roots, place: &str) -> io::Result<Here> {
 }
 
 /// Where the way ends by what was seen at a place.
-fn way_end(alloc: Global, place: &str, finding: Finding) -> io::Result<Way> {
+fn way_end(alloc: Global, place: &str, found: Found, had: Had) -> io::Result<Way> {
     let mut changes = Changes::none(alloc);
-    add(&mut changes, alloc, place, finding)?;
-    match finding {
+    hold(&mut changes, alloc, place, found, had)?;
+    match Finding::of(found, had) {
         Finding::Odd => Err(Reason::Kind.error()),
         Finding::TurnedOdd => Ok(Way::Odd(changes)),
         Finding::Nothing | Finding::SameFile => Ok(Way::Ends),

@@ -1,8 +1,8 @@
 // What others changed in a directory: its names, held against those that the tree has.
-use crate::loading::{Changes, Dirs, Held, Here, Seen, Version, served, sorted};
-use crate::rescan::finding::{Finding, add};
-use ftp_disk_host::{Host, Look};
-use ftp_path::PathFault;
+use crate::loading::{Changes, Dirs, Had, Held, Here, Seen, Version, had_at, served, sorted};
+use crate::rescan::finding::{Finding, hold};
+use ftp_disk_host::{Found, Host, Look};
+use ftp_path::{Path, PathFault};
 use ftp_tree::Sight;
 use ftp_tree_nodes::Nodes;
 use std::alloc::Global;
@@ -133,8 +133,7 @@ impl<'a, H: Host, K: Held> Looking<'a, H, K> {
         if self.nodes.kind(&self.here.root, &path).is_some() {
             return Ok(());
         }
-        let found = self.host.found_in(&self.folder, name)?;
-        self.put(name, Finding::of_new(found), changes)
+        self.look_by_name(name, &path, changes)
     }
 
     /// What the tree has and is none of some names, which are in order.
@@ -144,7 +143,7 @@ impl<'a, H: Host, K: Held> Looking<'a, H, K> {
                 return Ok(());
             };
             if !is_among(name.octets(), names) {
-                self.put(text_of(name.octets())?, Finding::Gone, changes)?;
+                self.find_none(text_of(name.octets())?, changes)?;
             }
         }
         Ok(())
@@ -163,24 +162,48 @@ impl<'a, H: Host, K: Held> Looking<'a, H, K> {
 
     /// Looks at a name that the tree has.
     fn look_at_child(&self, name: &str, changes: &mut Changes) -> io::Result<()> {
-        let path = match self.here.child(self.host.memory(), name) {
-            Ok(path) => path,
-            Err(fault) => return Err(error_of(fault)),
-        };
-        let found = self.host.found_in(&self.folder, name)?;
-        let finding = Finding::of(found, self.nodes.standing(&self.here.root, &path));
-        self.put(name, finding, changes)
+        let path = self.path_of(name)?;
+        self.look_by_name(name, &path, changes)
     }
 
-    /// Puts what was seen by a name, where that is a change: its place is written for that alone.
-    fn put(&self, name: &str, finding: Finding, changes: &mut Changes) -> io::Result<()> {
-        if let Finding::SameFile | Finding::SameDir(_) = finding {
+    /// Looks at a name, whose path is this.
+    fn look_by_name(
+        &self,
+        name: &str,
+        path: &Path<Global>,
+        changes: &mut Changes,
+    ) -> io::Result<()> {
+        let found = self.host.found_in(&self.folder, name)?;
+        let had = had_at(self.nodes, &self.here.root, path);
+        self.hold(name, found, had, changes)
+    }
+
+    /// A name that the tree has is not among those that the host told: nothing stands there.
+    fn find_none(&self, name: &str, changes: &mut Changes) -> io::Result<()> {
+        let path = self.path_of(name)?;
+        let had = had_at(self.nodes, &self.here.root, &path);
+        self.hold(name, Found::Nothing, had, changes)
+    }
+
+    /// The path of a name that the tree has.
+    fn path_of(&self, name: &str) -> io::Result<Path<Global>> {
+        match self.here.child(self.host.memory(), name) {
+            Ok(path) => Ok(path),
+            Err(fault) => Err(error_of(fault)),
+        }
+    }
+
+    /// Holds what was found by a name against what the tree has: its place is written for a change alone.
+    #[tactic(auto, using(crate::proofs::loading::ComparedLemmas::unchanged_agrees), unfolding(crate::specs::rescan::Finding::is_change))]
+    fn hold(&self, name: &str, found: Found, had: Had, changes: &mut Changes) -> io::Result<()> {
+        if let Finding::SameFile | Finding::SameDir(_) = Finding::of(found, had) {
+            changes.same(found, had);
             return Ok(());
         }
         let alloc = self.host.memory();
         let mut place = String::new(alloc);
         self.here.put_place(name, &mut place)?;
-        Ok(add(changes, alloc, place.as_str(), finding)?)
+        Ok(hold(changes, alloc, place.as_str(), found, had)?)
     }
 }
 
