@@ -21,6 +21,19 @@ const OWN_MODE: u32 = 0o600;
 /// How many octets are gathered for one call of the system; a piece of so many goes on at once.
 const GATHERED: usize = 65_536;
 
+/// How far a part has come on its way to the disk. Each step is told in the one function that makes the call for it.
+#[derive(Clone, Copy)]
+pub(crate) enum Step {
+    /// Octets may not be on the disk yet.
+    Written,
+    /// All that it had then is.
+    Synced,
+    /// It was given its name after that.
+    Named,
+    /// The directory of the name was flushed after that.
+    Sealed,
+}
+
 /// A file that is written beside a name.
 #[derive(Drop)]
 pub struct SystemPart<F: Write + Drop> {
@@ -33,13 +46,16 @@ pub struct SystemPart<F: Write + Drop> {
     pub(crate) kept: Option<u32>,
     /// How many octets lie before the first one that was written, and are not its own yet.
     pub(crate) owed: u64,
+    pub(crate) step: Step,
 }
 
 impl<F: Write + OpenFile + Drop> SystemPart<F> {
     /// Writes octets after those that it has.
     pub(crate) fn write(&mut self, octets: &[u8]) -> io::Result<()>
-        ensures { OnOk result (Appends (writer_contents F.contents self.old.file) (writer_contents F.contents self.new.file) octets.now) }
+        ensures octets { OnOk result (Appends (writer_contents F.contents self.old.file) (writer_contents F.contents self.new.file) octets.now) }
+        ensures step { self.new.step ≡ Step.Written }
     {
+        self.step = Step::Written;
         self.file.write_all(octets)
     }
 
@@ -47,7 +63,9 @@ impl<F: Write + OpenFile + Drop> SystemPart<F> {
     pub(crate) fn hand_on(&mut self) -> io::Result<()>
         ensures handed { OnOk result (writer_buffer self.new.file ≡ []) }
         ensures kept { Keeps (writer_contents F.contents self.old.file) (writer_contents F.contents self.new.file) }
+        ensures step { self.new.step ≡ Step.Written }
     {
+        self.step = Step::Written;
         self.file.flush()
     }
 
@@ -55,6 +73,7 @@ impl<F: Write + OpenFile + Drop> SystemPart<F> {
     pub(crate) fn settle(&mut self, mode: Option<u32>, moment: Moment) -> io::Result<()>
         ensures handed { OnOk result (writer_buffer self.new.file ≡ []) }
         ensures kept { Keeps (writer_contents F.contents self.old.file) (writer_contents F.contents self.new.file) }
+        ensures synced { OnOk result (self.new.step ≡ Step.Synced) }
     {
         self.hand_on()?;
         let file = self.file.get_ref();
@@ -62,7 +81,17 @@ impl<F: Write + OpenFile + Drop> SystemPart<F> {
             file.set_permissions(Permissions::from_mode(mode))?;
         }
         file.set_times(FileTimes::new().set_modified(time_of(moment)?))?;
-        file.sync_all()
+        self.sync()
+    }
+
+    /// Flushes the file.
+    fn sync(&mut self) -> io::Result<()>
+        ensures file { self.new.file ≡ self.old.file }
+        ensures synced { OnOk result (self.new.step ≡ Step.Synced) }
+    {
+        self.file.get_ref().sync_all()?;
+        self.step = Step::Synced;
+        Ok(())
     }
 
     /// Where it is, as long as it has no name.
@@ -106,6 +135,7 @@ pub(crate) fn begun_at<R: Files>(
         beside: Some(beside),
         kept,
         owed: front,
+        step: Step::Written,
     }))
 }
 
@@ -144,11 +174,13 @@ pub(crate) fn name_new<R: Files>(
 ) -> io::Result<Look>
     ensures handed { OnOk result (writer_buffer part.new.file ≡ []) }
     ensures kept { Keeps (writer_contents R.File.Write.contents part.old.file) (writer_contents R.File.Write.contents part.new.file) }
+    // Witness of sealed: `edits/a_new_file_gets_its_name_before_it_is_flushed`.
+    ensures sealed { OnOk result (part.new.step ≡ Step.Sealed) }
 {
     part.settle(part.kept, moment)?;
-    move_new(files, part.beside()?, place)?;
-    part.beside = None;
-    kept_or_gone(files, place, sealed(files, part, place))
+    give_new(files, part, place)?;
+    let named = sealed(files, part, place);
+    kept_or_gone(files, place, named)
 }
 
 /// Gives a part the name of a place in one step, whatever file stands there, and the permissions of that.
@@ -160,18 +192,58 @@ pub(crate) fn name_over<R: Files>(
 ) -> io::Result<Look>
     ensures handed { OnOk result (writer_buffer part.new.file ≡ []) }
     ensures kept { Keeps (writer_contents R.File.Write.contents part.old.file) (writer_contents R.File.Write.contents part.new.file) }
+    // Witness of sealed: `edits/a_file_is_replaced_before_it_is_flushed`, `a_part_is_not_flushed`, `a_directory_is_not_flushed`.
+    ensures sealed { OnOk result (part.new.step ≡ Step.Sealed) }
 {
     let kept = mode_at(files, place)?.or(part.kept);
     part.settle(kept, moment)?;
-    fs::rename(files, part.beside()?, place)?;
-    part.beside = None;
+    give_over(files, part, place)?;
     sealed(files, part, place)
 }
 
+/// Gives a part that is on the disk the name of a place where nothing stands.
+fn give_new<R: Files>(files: &R, part: &mut SystemPart<R::File>, place: &str) -> io::Result<()>
+    requires synced { part.old.step ≡ Step.Synced }
+    ensures file { part.new.file ≡ part.old.file }
+    ensures named { OnOk result (part.new.step ≡ Step.Named) }
+{
+    move_new(files, part.beside()?, place)?;
+    part.beside = None;
+    part.step = Step::Named;
+    Ok(())
+}
+
+/// The same, whatever file stands there.
+fn give_over<R: Files>(files: &R, part: &mut SystemPart<R::File>, place: &str) -> io::Result<()>
+    requires synced { part.old.step ≡ Step.Synced }
+    ensures file { part.new.file ≡ part.old.file }
+    ensures named { OnOk result (part.new.step ≡ Step.Named) }
+{
+    fs::rename(files, part.beside()?, place)?;
+    part.beside = None;
+    part.step = Step::Named;
+    Ok(())
+}
+
 /// The name of a file that has one is on the disk; how it looks then.
-fn sealed<R: Files>(files: &R, part: &SystemPart<R::File>, place: &str) -> io::Result<Look> {
-    sync_above(files, place)?;
+fn sealed<R: Files>(files: &R, part: &mut SystemPart<R::File>, place: &str) -> io::Result<Look>
+    requires named { part.old.step ≡ Step.Named }
+    ensures file { part.new.file ≡ part.old.file }
+    ensures sealed { OnOk result (part.new.step ≡ Step.Sealed) }
+{
+    seal(files, part, place)?;
     part.look()
+}
+
+/// Flushes the directory in which a part has its name.
+fn seal<R: Files>(files: &R, part: &mut SystemPart<R::File>, place: &str) -> io::Result<()>
+    requires named { part.old.step ≡ Step.Named }
+    ensures file { part.new.file ≡ part.old.file }
+    ensures sealed { OnOk result (part.new.step ≡ Step.Sealed) }
+{
+    sync_above(files, place)?;
+    part.step = Step::Sealed;
+    Ok(())
 }
 
 /// Removes a part that got no name.
