@@ -1,3 +1,4 @@
+pub mod Asked
 pub mod Note
 pub mod Parked
 pub mod Put

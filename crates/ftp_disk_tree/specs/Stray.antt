@@ -16,12 +16,13 @@ unfoldable pub strays_between : (held octets : List ℕ) → ℕ
 strays_between held octets = if bytes_eq held octets then 0 else 1
 
 -- An answer strays where what was read is not what is held there, where what was put is not what is held of the new version, and where others changed
--- what the device keeps.
+-- what the device keeps. One of a name does not.
 unfoldable pub strays_in : (ℕ → List ℕ) → Answer → List ℕ → ℕ
 strays_in holds Took octets = 0
 strays_in holds (Read reading) octets = strays_between (take (length octets) (drop reading.at (fit reading.len (holds reading.version)))) octets
 strays_in holds (Put putting) octets = strays_between (fit putting.len (holds putting.version)) (front_of holds putting.front ++ octets)
 strays_in holds Changed octets = 1
+strays_in holds other octets = 0
 
 -- how many of these answers stray
 unfoldable pub strays_of : (ℕ → List ℕ) → List NotedAnswer → ℕ

@@ -33,6 +33,18 @@ pub enum Answer {
     Put(Putting),
     /// What it keeps was changed by others.
     Changed,
+    /// A directory was made at a place.
+    Made,
+    /// An empty directory was removed.
+    Emptied,
+    /// A file was removed.
+    Removed,
+    /// Something left a place, for the one of the next answer.
+    Left,
+    /// It came to a place where nothing stood.
+    Came,
+    /// It came into the place of a file.
+    CameOver,
 }
 
 impl Front {

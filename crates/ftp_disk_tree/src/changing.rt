@@ -1,5 +1,11 @@
 // What is asked of a host at a path, and which directories are listed anew after it.
+ghost use Rattle.std.specs.Prelude.{◌≡◌, OnErr, OnOk};
+ghost use Rattle.ftp_disk_tree.specs.Asked.{asked, asked_move, place_of};
+ghost use Rattle.ftp_disk_tree.specs.declared.answer.Answer.{Answer};
+
+use crate::naming::{delete_noted, make_noted, remove_noted, rename_noted, rename_onto_noted};
 use crate::putting::Old;
+use crate::record::Record;
 use ftp_disk_host::{Host, Look};
 use ftp_disk_scan::{Dirs, above, below_of};
 use ftp_path::Path;
@@ -35,11 +41,15 @@ pub(crate) fn begin_at<H: Host, B: Allocator + Copy, C: Allocator + Copy>(
 pub(crate) fn make_at<H: Host, B: Allocator + Copy, C: Allocator + Copy>(
     host: &H,
     dirs: &mut Dirs,
+    names: &mut Record,
     root: &Path<B>,
     path: &Path<C>,
-) -> io::Result<()> {
+) -> io::Result<()>
+    ensures asked { OnOk result (names.new.events ≡ asked Answer.Made (place_of root.now path.now) names.old.events) }
+    ensures unasked { OnErr result (names.new.events ≡ names.old.events) }
+{
     let below = below_of(host.memory(), root, path)?;
-    host.make_dir(below.as_str())?;
+    make_noted(host, names, below.as_str())?;
     dirs.changed(above(below.as_str()).as_bytes());
     Ok(())
 }
@@ -48,11 +58,15 @@ pub(crate) fn make_at<H: Host, B: Allocator + Copy, C: Allocator + Copy>(
 pub(crate) fn remove_at<H: Host, B: Allocator + Copy, C: Allocator + Copy>(
     host: &H,
     dirs: &mut Dirs,
+    names: &mut Record,
     root: &Path<B>,
     path: &Path<C>,
-) -> io::Result<()> {
+) -> io::Result<()>
+    ensures asked { OnOk result (names.new.events ≡ asked Answer.Emptied (place_of root.now path.now) names.old.events) }
+    ensures unasked { OnErr result (names.new.events ≡ names.old.events) }
+{
     let below = below_of(host.memory(), root, path)?;
-    host.remove_dir(below.as_str())?;
+    remove_noted(host, names, below.as_str())?;
     dirs.forget_one(below.as_bytes());
     dirs.changed(above(below.as_str()).as_bytes());
     Ok(())
@@ -62,11 +76,15 @@ pub(crate) fn remove_at<H: Host, B: Allocator + Copy, C: Allocator + Copy>(
 pub(crate) fn delete_at<H: Host, B: Allocator + Copy, C: Allocator + Copy>(
     host: &H,
     dirs: &mut Dirs,
+    names: &mut Record,
     root: &Path<B>,
     path: &Path<C>,
-) -> io::Result<()> {
+) -> io::Result<()>
+    ensures asked { OnOk result (names.new.events ≡ asked Answer.Removed (place_of root.now path.now) names.old.events) }
+    ensures unasked { OnErr result (names.new.events ≡ names.old.events) }
+{
     let below = below_of(host.memory(), root, path)?;
-    host.delete(below.as_str())?;
+    delete_noted(host, names, below.as_str())?;
     dirs.changed(above(below.as_str()).as_bytes());
     Ok(())
 }
@@ -75,13 +93,17 @@ pub(crate) fn delete_at<H: Host, B: Allocator + Copy, C: Allocator + Copy>(
 pub(crate) fn rename_at<H: Host, B: Allocator + Copy, C: Allocator + Copy, D: Allocator + Copy>(
     host: &H,
     dirs: &mut Dirs,
+    names: &mut Record,
     root: &Path<B>,
     from: &Path<C>,
     to: &Path<D>,
-) -> io::Result<()> {
+) -> io::Result<()>
+    ensures asked { OnOk result (names.new.events ≡ asked_move Answer.Came (place_of root.now from.now) (place_of root.now to.now) names.old.events) }
+    ensures unasked { OnErr result (names.new.events ≡ names.old.events) }
+{
     let old = below_of(host.memory(), root, from)?;
     let new = below_of(host.memory(), root, to)?;
-    host.rename(old.as_str(), new.as_str())?;
+    rename_noted(host, names, old.as_str(), new.as_str())?;
     dirs.forget(old.as_bytes());
     both_changed(dirs, old.as_str(), new.as_str());
     Ok(())
@@ -93,10 +115,20 @@ pub(crate) fn rename_onto_at<
     B: Allocator + Copy,
     C: Allocator + Copy,
     D: Allocator + Copy,
->(host: &H, dirs: &mut Dirs, root: &Path<B>, from: &Path<C>, to: &Path<D>) -> io::Result<()> {
+>(
+    host: &H,
+    dirs: &mut Dirs,
+    names: &mut Record,
+    root: &Path<B>,
+    from: &Path<C>,
+    to: &Path<D>,
+) -> io::Result<()>
+    ensures asked { OnOk result (names.new.events ≡ asked_move Answer.CameOver (place_of root.now from.now) (place_of root.now to.now) names.old.events) }
+    ensures unasked { OnErr result (names.new.events ≡ names.old.events) }
+{
     let old = below_of(host.memory(), root, from)?;
     let new = below_of(host.memory(), root, to)?;
-    host.rename_onto(old.as_str(), new.as_str())?;
+    rename_onto_noted(host, names, old.as_str(), new.as_str())?;
     both_changed(dirs, old.as_str(), new.as_str());
     Ok(())
 }

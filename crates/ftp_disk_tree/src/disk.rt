@@ -1,7 +1,11 @@
 // The tree of a disk.
-ghost use Rattle.std.specs.Prelude.{◌≡◌, ◌≤◌, ◌<◌, ◌+◌, ◌++◌, IfErr, IfOk, OnErr, OnOk, drop, false, length, take};
+ghost use Rattle.std.specs.Prelude.{◌≡◌, ◌≤◌, ◌<◌, ◌+◌, ◌++◌, IfErr, IfOk, OnErr, OnOk, drop, false, length, take, true};
 ghost use Rattle.ftp_tree.specs.Change.{IsDone, IsRefused, IsSteady, NoStray, Tells, TellsOne, never_strayed, next_count};
-ghost use Rattle.ftp_tree.specs.Tree.{install_refusal, installed, octets_or_none, under, with_part};
+ghost use Rattle.ftp_tree.specs.Sound.{IsSoundTree};
+ghost use Rattle.ftp_tree.specs.Tree.{delete_refusal, freed, install_refusal, installed, made, make_refusal, moved};
+ghost use Rattle.ftp_tree.specs.Tree.{octets_or_none, onto_refusal, remove_refusal, removed, rename_refusal, under, with_part};
+ghost use Rattle.ftp_disk_tree.specs.Asked.{asked, asked_move, place_of};
+ghost use Rattle.ftp_disk_tree.specs.declared.answer.Answer.{Answer};
 ghost use Rattle.ftp_disk_tree.specs.Note.{taken};
 ghost use Rattle.ftp_disk_tree.specs.Put.{IsPut};
 ghost use Rattle.ftp_disk_tree.specs.Stray.{strays_between, strays_found};
@@ -12,7 +16,10 @@ use crate::changing::{
 };
 use crate::device::Device;
 use crate::draft::DiskDraft;
+use crate::left::Left;
 use crate::opened::DiskOpen;
+use crate::record::Record;
+use crate::thing::Thing;
 use ftp_disk_host::Host;
 use ftp_disk_scan::{Compared, Dirs, Findings, Held, LeftOut, Version, look_at, take_up};
 use ftp_facts::Moment;
@@ -20,7 +27,6 @@ use ftp_path::{Name, Path};
 use ftp_tree::{Broken, DirEntries, Draft, Limits, NodeKind, Sight, Tree, TreeFault};
 use ftp_tree_nodes::{Nodes, Standing};
 use std::alloc::{AllocError, Allocator, Global};
-use std::cell::Cell;
 use std::io;
 
 /// Who else changes the folder of a tree.
@@ -30,25 +36,6 @@ pub enum Others {
     Change,
     /// Nobody else changes it: a look does nothing.
     Keep,
-}
-
-/// What stands at a path; of a file, the number of its version.
-#[derive(Clone, Copy)]
-enum Thing {
-    Nothing,
-    Dir,
-    Version(u64),
-}
-
-impl Thing {
-    /// Whether both are the same.
-    fn is_same(self, other: Thing) -> bool {
-        match (self, other) {
-            (Thing::Nothing, Thing::Nothing) | (Thing::Dir, Thing::Dir) => true,
-            (Thing::Version(number), Thing::Version(other)) => number == other,
-            _ => false,
-        }
-    }
 }
 
 /// A tree of which names, sizes and moments are in memory, and octets on a disk. All that a change needs of memory is had first, then the disk is
@@ -63,37 +50,8 @@ pub struct DiskTree<'a, H: Host, K: Held> {
     pub(crate) left: Left,
     /// What the last look compared, if it came to an end.
     pub(crate) compared: Compared,
-}
-
-/// What looks left out for a limit last, and whether that was not told yet.
-pub(crate) struct Left {
-    last: LeftOut,
-    is_new: Cell<bool>,
-}
-
-/// By hand, as that of the tree.
-impl Drop for Left {
-    fn drop(self) {
-        let Self { last: _, is_new: _ } = self;
-    }
-}
-
-impl Left {
-    /// Nothing is left out.
-    fn nothing() -> Left {
-        Left {
-            last: LeftOut::nothing(),
-            is_new: Cell::new(false),
-        }
-    }
-
-    /// A look left this out. The same as last is not told again.
-    fn see(&mut self, left: LeftOut) {
-        if left.count > 0 && !left.is_same(&self.last) {
-            self.last = left;
-            self.is_new.set(true);
-        }
-    }
+    /// What the host was asked of names, and did.
+    pub(crate) names: Record,
 }
 
 /// By hand: a derived drop is proved again wherever a tree is let go, and what is generic over it is compiled again.
@@ -107,6 +65,7 @@ impl<'a, H: Host, K: Held> Drop for DiskTree<'a, H, K> {
             version: _,
             left: _,
             compared: _,
+            names: _,
         } = self;
     }
 }
@@ -154,6 +113,7 @@ impl<'a, H: Host, K: Held> DiskTree<'a, H, K> {
             version,
             left: Left::nothing(),
             compared: Compared::none(),
+            names: Record::new(),
         }
     }
 
@@ -379,14 +339,28 @@ impl<'a, H: Host, K: Held> Tree<Global> for DiskTree<'a, H, K> {
         &mut self,
         root: &Path<B>,
         path: &Path<C>,
-    ) -> Result<(), TreeFault> {
+    ) -> Result<(), TreeFault>
+        ensures done { OnOk result (let part = under self.old.nodes root.now in
+            IsDone (make_refusal part path.now) (with_part self.old.nodes root.now (made part path.now)) self.new.nodes self.old.device self.new.device) }
+        ensures refused { IfErr result (λ fault.
+            IsRefused (make_refusal (under self.old.nodes root.now) path.now) fault self.old.nodes self.new.nodes self.old.device self.new.device) }
+        // Witness of asked: `edits/a_directory_is_made_in_memory_alone`.
+        ensures asked { OnOk result (self.new.names.events ≡ asked Answer.Made (place_of root.now path.now) self.old.names.events) }
+        ensures unasked { OnErr result (self.new.names.events ≡ self.old.names.events) }
+    {
         if let Some(fault) = self.nodes.make_refusal(root, path) {
             return Err(fault);
         }
         if self.nodes.make_place(root, path).is_err() {
             return Err(TreeFault::Memory);
         }
-        if let Err(error) = make_at(self.device.host(), &mut self.dirs, root, path) {
+        if let Err(error) = make_at(
+            self.device.host(),
+            &mut self.dirs,
+            &mut self.names,
+            root,
+            path,
+        ) {
             self.nodes.take_away(root, path);
             self.device.fail(error);
             return Err(TreeFault::Device);
@@ -398,11 +372,25 @@ impl<'a, H: Host, K: Held> Tree<Global> for DiskTree<'a, H, K> {
         &mut self,
         root: &Path<B>,
         path: &Path<C>,
-    ) -> Result<(), TreeFault> {
+    ) -> Result<(), TreeFault>
+        ensures done { OnOk result (let part = under self.old.nodes root.now in
+            IsDone (remove_refusal part path.now) (with_part self.old.nodes root.now (removed part path.now)) self.new.nodes self.old.device self.new.device) }
+        ensures refused { IfErr result (λ fault.
+            IsRefused (remove_refusal (under self.old.nodes root.now) path.now) fault self.old.nodes self.new.nodes self.old.device self.new.device) }
+        // Witness of asked: `edits/a_directory_is_removed_in_memory_alone`.
+        ensures asked { OnOk result (self.new.names.events ≡ asked Answer.Emptied (place_of root.now path.now) self.old.names.events) }
+        ensures unasked { OnErr result (self.new.names.events ≡ self.old.names.events) }
+    {
         if let Some(fault) = self.nodes.remove_refusal(root, path) {
             return Err(fault);
         }
-        if let Err(error) = remove_at(self.device.host(), &mut self.dirs, root, path) {
+        if let Err(error) = remove_at(
+            self.device.host(),
+            &mut self.dirs,
+            &mut self.names,
+            root,
+            path,
+        ) {
             self.device.fail(error);
             return Err(TreeFault::Device);
         }
@@ -414,11 +402,25 @@ impl<'a, H: Host, K: Held> Tree<Global> for DiskTree<'a, H, K> {
         &mut self,
         root: &Path<B>,
         path: &Path<C>,
-    ) -> Result<(), TreeFault> {
+    ) -> Result<(), TreeFault>
+        ensures done { OnOk result (let part = under self.old.nodes root.now in
+            IsDone (delete_refusal part path.now) (with_part self.old.nodes root.now (removed part path.now)) self.new.nodes self.old.device self.new.device) }
+        ensures refused { IfErr result (λ fault.
+            IsRefused (delete_refusal (under self.old.nodes root.now) path.now) fault self.old.nodes self.new.nodes self.old.device self.new.device) }
+        // Witness of asked: `edits/a_file_is_deleted_in_memory_alone`.
+        ensures asked { OnOk result (self.new.names.events ≡ asked Answer.Removed (place_of root.now path.now) self.old.names.events) }
+        ensures unasked { OnErr result (self.new.names.events ≡ self.old.names.events) }
+    {
         if let Some(fault) = self.nodes.delete_refusal(root, path) {
             return Err(fault);
         }
-        if let Err(error) = delete_at(self.device.host(), &mut self.dirs, root, path) {
+        if let Err(error) = delete_at(
+            self.device.host(),
+            &mut self.dirs,
+            &mut self.names,
+            root,
+            path,
+        ) {
             self.device.fail(error);
             return Err(TreeFault::Device);
         }
@@ -431,14 +433,31 @@ impl<'a, H: Host, K: Held> Tree<Global> for DiskTree<'a, H, K> {
         root: &Path<B>,
         from: &Path<C>,
         to: &Path<D>,
-    ) -> Result<(), TreeFault> {
+    ) -> Result<(), TreeFault>
+        ensures done { OnOk result (let part = under self.old.nodes root.now in
+            IsDone (rename_refusal part from.now to.now) (with_part self.old.nodes root.now (moved part from.now to.now))
+            self.new.nodes self.old.device self.new.device) }
+        ensures refused { IfErr result (λ fault.
+            IsRefused (rename_refusal (under self.old.nodes root.now) from.now to.now) fault self.old.nodes self.new.nodes self.old.device self.new.device) }
+        // Witness of asked: `edits/a_move_is_made_in_memory_alone`.
+        ensures asked { OnOk result (self.new.names.events ≡
+            asked_move Answer.Came (place_of root.now from.now) (place_of root.now to.now) self.old.names.events) }
+        ensures unasked { OnErr result (self.new.names.events ≡ self.old.names.events) }
+    {
         if let Some(fault) = self.nodes.rename_refusal(root, from, to) {
             return Err(fault);
         }
         if self.nodes.make_place(root, to).is_err() {
             return Err(TreeFault::Memory);
         }
-        if let Err(error) = rename_at(self.device.host(), &mut self.dirs, root, from, to) {
+        if let Err(error) = rename_at(
+            self.device.host(),
+            &mut self.dirs,
+            &mut self.names,
+            root,
+            from,
+            to,
+        ) {
             self.nodes.take_away(root, to);
             self.device.fail(error);
             return Err(TreeFault::Device);
@@ -452,11 +471,29 @@ impl<'a, H: Host, K: Held> Tree<Global> for DiskTree<'a, H, K> {
         root: &Path<B>,
         from: &Path<C>,
         to: &Path<D>,
-    ) -> Result<(), TreeFault> {
+    ) -> Result<(), TreeFault>
+        ensures done { OnOk result (let part = under self.old.nodes root.now in
+            IsDone (onto_refusal part from.now to.now) (with_part self.old.nodes root.now (moved (freed true part from.now to.now) from.now to.now))
+            self.new.nodes self.old.device self.new.device) }
+        ensures refused { IfErr result (λ fault.
+            IsRefused (onto_refusal (under self.old.nodes root.now) from.now to.now) fault self.old.nodes self.new.nodes self.old.device self.new.device) }
+        ensures sound { IsSoundTree self.old.nodes }
+        // Witness of asked: `edits/a_file_moves_onto_another_in_memory_alone`.
+        ensures asked { OnOk result (self.new.names.events ≡
+            asked_move Answer.CameOver (place_of root.now from.now) (place_of root.now to.now) self.old.names.events) }
+        ensures unasked { OnErr result (self.new.names.events ≡ self.old.names.events) }
+    {
         if let Some(fault) = self.nodes.onto_refusal(root, from, to) {
             return Err(fault);
         }
-        if let Err(error) = rename_onto_at(self.device.host(), &mut self.dirs, root, from, to) {
+        if let Err(error) = rename_onto_at(
+            self.device.host(),
+            &mut self.dirs,
+            &mut self.names,
+            root,
+            from,
+            to,
+        ) {
             self.device.fail(error);
             return Err(TreeFault::Device);
         }

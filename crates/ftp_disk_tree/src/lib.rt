@@ -7,12 +7,15 @@ mod changing;
 mod device;
 mod disk;
 mod draft;
+mod left;
+mod naming;
 mod opened;
 mod opening;
 mod parked;
 mod preparing;
 mod putting;
 mod record;
+mod thing;
 
 pub use disk::{DiskTree, Explains, Others};
 pub use draft::DiskDraft;

@@ -1,4 +1,4 @@
-use Rattle.std.proofs.Common.{◌≡◌, ℕ, ap}
+use Rattle.std.proofs.Common.{ℕ, ap}
 use Rattle.ftp_tree.specs.Change.{Failures}
 use Rattle.ftp_disk_tree.proofs.StrayLemmas.{none_strays}
 use Rattle.ftp_disk_tree.proofs.device.Device.new.Goals as goal

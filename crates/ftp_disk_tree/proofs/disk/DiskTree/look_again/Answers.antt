@@ -1,4 +1,4 @@
-use Rattle.std.proofs.Common.{◌≡◌, ap, arith, false, sym, true, ◌∙◌}
+use Rattle.std.proofs.Common.{◌≡◌, ap, arith, false, sym, ◌∙◌}
 use Rattle.ftp_disk_scan.specs.loading.Compared.{all_agree}
 use Rattle.ftp_disk_tree.proofs.StrayLemmas.{nothing_found, other_found, same_found}
 use Rattle.ftp_disk_tree.proofs.disk.DiskTree.look_again.Goals as goal

@@ -1,4 +1,4 @@
-use Rattle.std.proofs.Common.{◌≡◌, ℕ, arith}
+use Rattle.std.proofs.Common.{arith}
 use Rattle.ftp_tree.specs.Tree.{octets_or_none, under}
 use Rattle.ftp_disk_scan.specs.loading.Held.{fit}
 use Rattle.ftp_disk_tree.proofs.PutLemmas.{file-deleted, kept-front, no-file}

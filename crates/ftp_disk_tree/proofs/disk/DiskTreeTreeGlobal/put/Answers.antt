@@ -1,4 +1,4 @@
-use Rattle.std.proofs.Common.{◌≡◌, ◌+◌, ◌++◌, None, [], length, take, sym, ap, ◌∙◌, arith}
+use Rattle.std.proofs.Common.{◌≡◌, ◌+◌, ◌++◌, length, take, sym, ap, ◌∙◌, arith}
 use Rattle.ftp_tree.proofs.DeviceLemmas.{install-no, map-tells}
 use Rattle.ftp_tree.specs.Tree.{install_refusal, octets_or_none, under}
 use Rattle.ftp_disk_tree.specs.Note.{taken}

@@ -1,4 +1,4 @@
-use Rattle.std.proofs.Common.{◌≤◌, arith, length, drop}
+use Rattle.std.proofs.Common.{arith, length}
 use Rattle.std.proofs.lemmas.Result.{IfOk-weaker}
 use Rattle.ftp_disk_scan.specs.loading.Held.{fit}
 use Rattle.ftp_disk_tree.proofs.PutLemmas.{within_left}
