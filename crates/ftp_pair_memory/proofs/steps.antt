@@ -1,4 +1,5 @@
 pub mod Coursing
+pub mod Ending
 pub mod Gathering
 pub mod Quieting
 pub mod Taken

@@ -7,5 +7,6 @@ pub mod Lifting
 mod Lying
 pub mod Noting
 pub mod Plainly
+pub mod Straying
 pub mod Turning
 pub mod Ways

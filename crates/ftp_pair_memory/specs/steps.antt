@@ -1,4 +1,5 @@
 pub mod Seating
 pub mod Speaking
+pub mod Stopping
 pub mod Taking
 pub mod Turning

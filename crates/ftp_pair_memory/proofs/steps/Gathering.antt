@@ -158,14 +158,14 @@ module _ {A : Type 0} where
   pub rounds_then : (course : Course (Answer A)) (old mid new : Ends) → NearTurns course mid new → Took old mid → Rounds course old new
   rounds_then (Courses.Over answer) old mid new answers took = record { mid = mid; took = took; answers = answers }
   rounds_then Courses.On old mid new second took = took_then old mid new second took
-  rounds_then Courses.Off old mid new second took = tt
+  rounds_then (Courses.Off stop) old mid new second took = tt
 
   -- turns of both after others
   pub rounds_on : (course : Course (Answer A)) (old mid new : Ends) → Rounds course mid new → Took old mid → Rounds course old new
   rounds_on (Courses.Over answer) old mid new settled took =
       record { mid = settled.mid; took = took_then old mid settled.mid settled.took took; answers = settled.answers }
   rounds_on Courses.On old mid new second took = took_then old mid new second took
-  rounds_on Courses.Off old mid new second took = tt
+  rounds_on (Courses.Off stop) old mid new second took = tt
 
   -- an operation was begun before
   asks : (op : Op (List ℕ)) (given : Option (Answer A)) (server : Held Timed) (old begun : Held NearEnd) (first : Between) (told : ℕ) (hosts : Hosts)

@@ -99,7 +99,7 @@ module _ (own peer own_1 peer_1 own_2 own_3 : MemoryEnd) (meets : Meets own peer
     near_taken Courses.On goes_on =
         let did = near_did goes_on.actions goes_on.speaks in
         near_took start now (map plain goes_on.actions) (ap (held server) meets.peer_channel) did.0 did.1 did.2 did.3 did.4
-    near_taken Courses.Off off = tt
+    near_taken (Courses.Off stop) off = tt
 
   -- ---- the server's
 
@@ -124,7 +124,7 @@ module _ (own peer own_1 peer_1 own_2 own_3 : MemoryEnd) (meets : Meets own peer
         (subst (CountedAlone (map plain actions) (told_at own peer)) (either_way own_3 peer_1) did.counted) in
         far_took (far_ends client e0 own peer came before) (far_ends client e1 own_3 peer_1 left after) (map plain actions) (ap (held client) meets.peer_channel)
         did.led went counted did.came (hosts_same peer own peer_1 own_3 did.peer_host did.own_host)
-    far_taken Courses.Off off = tt
+    far_taken (Courses.Off stop) off = tt
 
 -- the same where it was told before that octets of the control connection came
 module _ (own peer own_1 peer_1 own_t own_2 own_3 : MemoryEnd) (meets : Meets own peer own_1 peer_1) (is_known : IsKnown own_2 own_3)

@@ -30,7 +30,7 @@ out_has Stays.Reset has = absurd (cc)
 -- ---- one that the end has
 
 module _ (before after : Wire) (old new : Data Wire) (exchanged : IsExchanged before after old new) where
-  stood : (plain_in old).stands ≡ true
+  pub stood : (plain_in old).stands ≡ true
   stood = ap is_some (exchanged (λ wire. None) (λ wire. None) None).2
 
   plain_stays : plain_in new ≡ plain_in old
@@ -38,13 +38,13 @@ module _ (before after : Wire) (old new : Data Wire) (exchanged : IsExchanged be
       let tells : Wire → Option (List ℕ) = λ wire. None in
       (exchanged tells tells None).1 ∙ sym (exchanged tells tells None).0
 
-  stands_still : (plain_in new).stands ≡ true
+  pub stands_still : (plain_in new).stands ≡ true
   stands_still = ap (λ (l : Channel). l.stands) plain_stays ∙ stood
 
   told_before : (tells : Wire → Option (List ℕ)) → told_in tells old ≡ octets_of (tells before)
   told_before tells = ap (λ (l : Channel). octets_of l.left) (exchanged tells tells None).0
 
-  told_after : (tells : Wire → Option (List ℕ)) → told_in tells new ≡ octets_of (tells after)
+  pub told_after : (tells : Wire → Option (List ℕ)) → told_in tells new ≡ octets_of (tells after)
   told_after tells = ap (λ (l : Channel). octets_of l.left) (exchanged tells tells None).1
 
 -- of two, this one
@@ -91,7 +91,7 @@ lowers_out before after old new exchanged same =
 
 -- ---- one that its ports have
 
-stood_not : (old : Data Wire) → old.connection.stream ≡ None → (plain_in old).stands ≡ false
+pub stood_not : (old : Data Wire) → old.connection.stream ≡ None → (plain_in old).stands ≡ false
 stood_not old none = ap is_some none
 
 pub lifts_there : (wire : Wire) (old new : MemoryEnd) → old.stream.connection.stream ≡ None → IsSameChannel old.stream new.stream → is_out old.memory_ports.port_table.stay ≡ false

@@ -64,22 +64,22 @@ pub record Settled (answer : Said) (old new : Ends) : Type 0 where
   pub took : Took old mid
   pub answers : Answers answer mid new
 
--- some turns of the client, or of the server
+-- some turns of the client, or of the server; what is so where no turn comes after is in `Stopping`
 abbrev pub NearTurns : {A : Type 0} → Course (Answer A) → (old new : Ends) → Type 0
 NearTurns (Courses.Over answer) old new = Answers (said_of answer) old new
 NearTurns Courses.On old new = Took old new
-NearTurns Courses.Off old new = ⊤
+NearTurns (Courses.Off stop) old new = ⊤
 
 abbrev pub FarTurns : Course ⊤ → (old new : Ends) → Type 0
 FarTurns (Courses.Over over) old new = ⊤
 FarTurns Courses.On old new = Took old new
-FarTurns Courses.Off old new = ⊤
+FarTurns (Courses.Off stop) old new = ⊤
 
 -- turns of both
 abbrev pub Rounds : {A : Type 0} → Course (Answer A) → (old new : Ends) → Type 0
 Rounds (Courses.Over answer) old new = Settled (said_of answer) old new
 Rounds Courses.On old new = Took old new
-Rounds Courses.Off old new = ⊤
+Rounds (Courses.Off stop) old new = ⊤
 
 -- the client began an operation
 abbrev pub Begins : Op (List ℕ) → (old new : Held NearEnd) → Type 0
@@ -91,7 +91,7 @@ pub record Answered (op : Op (List ℕ)) (answer : Said) (old new : Ends) : Type
   pub begins : Begins op old.client begun
   pub settled : Settled answer (both_ends old.server begun old.between old.listens old.hosts) new
 
--- so it is where an answer is given; else nothing is said
+-- so it is where an answer is given; else see `Stopping`
 abbrev pub SettlesAnswer : {A : Type 0} → Option (Answer A) → (old new : Ends) → Type 0
 SettlesAnswer (Some answer) old new = Settled (said_of answer) old new
 SettlesAnswer None old new = ⊤

@@ -1,5 +1,5 @@
 -- A data connection in memory, wherever it is: with the end, or with its ports; of values of the program.
-use Rattle.std.specs.Prelude.{◌≡◌, ℕ, ◌+◌, ◌%◌, Bool, true, false, List, [], ◌++◌, Option, None, Some}
+use Rattle.std.specs.Prelude.{◌≡◌, ◌⊎◌, ℕ, ◌+◌, ◌%◌, Bool, true, false, List, [], ◌++◌, Option, None, Some}
 use Rattle.ftp_endpoint.specs.declared.host.Host.{Host}
 use Rattle.ftp_ports.specs.Asking.{Asked}
 use Rattle.ftp_ports.specs.Channel.{Channel, no_channel}
@@ -8,7 +8,7 @@ use Rattle.ftp_driver.specs.declared.data.Data.{Data}
 use Rattle.laws_drivers.specs.control.Between.{Between, Has_not, Hold, Ways, Who}
 use Rattle.ftp_pair_memory.specs.streams.LinkState.{LinkState, Knows, between_at, called_by, hold_by, mark}
 use Rattle.ftp_pair_memory.specs.streams.PortTables.{asked_of}
-use Rattle.ftp_pair_memory.specs.streams.PortTableMoves.{link_state_at, header, hold_at, is_ended, is_out, left_in, went_in}
+use Rattle.ftp_pair_memory.specs.streams.PortTableMoves.{link_state_at, header, hold_at, is_back, is_ended, is_out, left_in, went_in}
 use Rattle.ftp_pair_memory.specs.declared.streams.memory_end.MemoryEnd.{MemoryEnd}
 use Rattle.ftp_pair_memory.specs.declared.streams.wire.Wire.{Wire}
 
@@ -157,6 +157,18 @@ pub record Meets (own peer own_now peer_now : MemoryEnd) : Type 0 where
   pub peer_host : (link_state_of peer_now).host ≡ (link_state_of peer).host
   pub begins : IsPrepared own_now peer_now
 
+-- one dialled, and the other one can't be called: it and its ports don't agree on who has its data connection, or it has one
+abbrev pub CannotAnswer : (dialler other : MemoryEnd) → Type 0
+CannotAnswer dialler other =
+    (dialler.memory_ports.port_table.dialled ≡ true) × ((KnowsHolder other → ⊥) ⊎ ((plain_in other.stream).stands ≡ true))
+
+-- no turn can begin: so it is of either, or an end and its ports don't agree
+pub data CannotMeet (own peer : MemoryEnd) : Type 0 where
+  Peer_not_called : CannotAnswer own peer → CannotMeet own peer
+  Own_not_called : CannotAnswer peer own → CannotMeet own peer
+  Own_astray : (KnowsHolder own → ⊥) → CannotMeet own peer
+  Peer_astray : (KnowsHolder peer → ⊥) → CannotMeet own peer
+
 -- after a turn ports know where it is, and the end sees what it saw
 pub record IsKnown (old new : MemoryEnd) : Type 0 where
   pub port_table : new.memory_ports.port_table ≡ old.memory_ports.port_table
@@ -165,6 +177,13 @@ pub record IsKnown (old new : MemoryEnd) : Type 0 where
   pub agrees : KnowsHolder new
   pub mark : (plain_in new.stream).stands ≡ true → told_in mark_of_wire new.stream ≡ mark (is_ended new.memory_ports.port_table.wire.closed)
   pub known : new.memory_ports.port_table.spoiled ≡ false
+
+-- after a turn they don't: what they noted is lost, or they don't agree with the end on who has it or whether it ended
+pub data IsUnknown (own : MemoryEnd) : Type 0 where
+  Spoiled : own.memory_ports.port_table.spoiled ≡ true → IsUnknown own
+  Astray : (KnowsHolder own → ⊥) → IsUnknown own
+  Another : (ended : Bool) → (plain_in own.stream).stands ≡ true → told_in mark_of_wire own.stream ≡ mark ended
+      → is_back (hold_at own.memory_ports.port_table.stay) (is_ended own.memory_ports.port_table.wire.closed) ended ≡ false → IsUnknown own
 
 -- ---- both ends
 

@@ -1,5 +1,6 @@
 // Both ends of a session in their slots, and a control connection in memory.
-ghost use Rattle.std.specs.Prelude.{◌≡◌, [], List, ℕ};
+ghost use Rattle.std.specs.Prelude.{◌≡◌, [], IsTrue, List, ℕ};
+ghost use Rattle.ftp_pair_memory.specs.steps.Seating.{nothing_left, ways_of};
 ghost use Rattle.ftp_pair_memory.specs.streams.MemoryEnds.{IsFresh};
 
 use crate::streams::MemoryEnd;
@@ -27,7 +28,9 @@ impl Line {
     }
 
     /// Whether all that was written was read.
-    pub(crate) fn is_empty(&self) -> bool {
+    pub(crate) fn is_empty(&self) -> bool
+        ensures { IsTrue result → ways_of self.now ≡ nothing_left }
+    {
         self.to_server.is_empty() && self.to_client.is_empty()
     }
 }

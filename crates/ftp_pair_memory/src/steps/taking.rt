@@ -1,11 +1,12 @@
 // Both ends take turns.
-ghost use Rattle.std.specs.Prelude.{◌≡◌, IsTrue};
-ghost use Rattle.ftp_pair_memory.specs.steps.Seating.{both_ends_of, held_at};
+ghost use Rattle.std.specs.Prelude.{◌≡◌, ◌<◌, IsTrue, false, suc};
+ghost use Rattle.ftp_pair_memory.specs.steps.Seating.{both_ends_of, held_at, pair_of};
+ghost use Rattle.ftp_pair_memory.specs.steps.Stopping.{AsksUnanswered, FarGoes, IsRefused, NearGoes, RoundGoes, SettlesNot};
 ghost use Rattle.ftp_pair_memory.specs.steps.Taking.{AsksAnswered, Begins, FarTurns, NearTurns, Rounds, SettlesAnswer};
 ghost use Rattle.ftp_server_driver.specs.alone.Side.{timed};
 
 use crate::steps::slots::{Line, Slot};
-use crate::steps::turn_ending::Course;
+use crate::steps::turn_ending::{Course, Stop};
 use crate::steps::turns::{far_turn, near_turn};
 use crate::streams::{MemoryPorts, Wire, meet};
 use ftp_client_model::Near;
@@ -34,10 +35,11 @@ where
     F: Far<A, T>,
     C: Watch,
     O: Watches<F>,
-    ensures { NearTurns result (both_ends_of (timed F.server C.told) N.client client.old server.old line.old) (both_ends_of (timed F.server C.told) N.client client.new server.new line.new) }
+    ensures took { NearTurns result (both_ends_of (timed F.server C.told) N.client client.old server.old line.old) (both_ends_of (timed F.server C.told) N.client client.new server.new line.new) }
+    ensures turned { NearGoes result (pair_of (timed F.server C.told) N.client client.old server.old line.old) (pair_of (timed F.server C.told) N.client client.new server.new line.new) }
 {
     if !meet(&mut client.memory_end, &mut server.memory_end) {
-        return Course::Off;
+        return Course::Off(Stop::Unmet);
     }
     client
         .memory_end
@@ -53,7 +55,7 @@ where
     if client.memory_end.is_known() {
         course
     } else {
-        Course::Off
+        Course::Off(Stop::Unknown)
     }
 }
 
@@ -71,10 +73,11 @@ where
     F: Far<A, T>,
     C: Watch,
     O: Watches<F>,
-    ensures { FarTurns result (both_ends_of (timed F.server C.told) N.client client.old server.old line.old) (both_ends_of (timed F.server C.told) N.client client.new server.new line.new) }
+    ensures took { FarTurns result (both_ends_of (timed F.server C.told) N.client client.old server.old line.old) (both_ends_of (timed F.server C.told) N.client client.new server.new line.new) }
+    ensures turned { FarGoes result (pair_of (timed F.server C.told) N.client client.old server.old line.old) (pair_of (timed F.server C.told) N.client client.new server.new line.new) }
 {
     if !meet(&mut server.memory_end, &mut client.memory_end) {
-        return Course::Off;
+        return Course::Off(Stop::Unmet);
     }
     server
         .memory_end
@@ -90,7 +93,7 @@ where
     if server.memory_end.is_known() {
         course
     } else {
-        Course::Off
+        Course::Off(Stop::Unknown)
     }
 }
 
@@ -108,12 +111,23 @@ where
     F: Far<A, T>,
     C: Watch,
     O: Watches<F>,
-    ensures { Rounds result (both_ends_of (timed F.server C.told) N.client client.old server.old line.old) (both_ends_of (timed F.server C.told) N.client client.new server.new line.new) }
+    ensures took { Rounds result (both_ends_of (timed F.server C.told) N.client client.old server.old line.old) (both_ends_of (timed F.server C.told) N.client client.new server.new line.new) }
+    ensures turned { RoundGoes result (pair_of (timed F.server C.told) N.client client.old server.old line.old) (pair_of (timed F.server C.told) N.client client.new server.new line.new) }
 {
     match server_turn::<A, T, N, F, C, O>(client, server, line, most) {
         Course::On => client_turn::<A, T, N, F, C, O>(client, server, line, most),
-        Course::Over(()) | Course::Off => Course::Off,
+        Course::Over(()) => Course::Off(Stop::Done),
+        Course::Off(stop) => Course::Off(stop),
     }
+}
+
+/// How many rounds in a row were silent, with this one.
+fn silent_with(silent: u64, is_silent: bool) -> u64
+    requires { silent < 8 }
+    ensures more { IsTrue is_silent → result ≡ suc silent }
+    ensures none { is_silent ≡ false → result ≡ 0 }
+{
+    if is_silent { silent + 1 } else { 0 }
 }
 
 /// Turns of both until the client's operation is answered; none where one broke off, or nothing was said for so many rounds.
@@ -130,23 +144,20 @@ where
     F: Far<A, T>,
     C: Watch,
     O: Watches<F>,
-    ensures { SettlesAnswer result (both_ends_of (timed F.server C.told) N.client client.old server.old line.old) (both_ends_of (timed F.server C.told) N.client client.new server.new line.new) }
+    ensures settled { SettlesAnswer result (both_ends_of (timed F.server C.told) N.client client.old server.old line.old) (both_ends_of (timed F.server C.told) N.client client.new server.new line.new) }
+    ensures none { SettlesNot result (pair_of (timed F.server C.told) N.client client.old server.old line.old) (pair_of (timed F.server C.told) N.client client.new server.new line.new) }
 {
     let mut silent: u64 = 0;
-    for _ in 0..TURNS {
+    for made in 0..TURNS {
         match round::<A, T, N, F, C, O>(client, server, line, most) {
             Course::On => {
                 if silent >= SILENT_ROUNDS {
                     return None;
                 }
-                silent = if line.is_empty() {
-                    silent.saturating_add(1)
-                } else {
-                    0
-                };
+                silent = silent_with(silent, line.is_empty());
             }
             Course::Over(answer) => return Some(answer),
-            Course::Off => return None,
+            Course::Off(_) => return None,
         }
     }
     None
@@ -159,6 +170,7 @@ where
     N: Near<A>,
     ensures begun { IsTrue result → Begins op (held_at N.client client.old) (held_at N.client client.new) }
     ensures same { client.new.memory_end ≡ client.old.memory_end }
+    ensures busy { result ≡ false → IsRefused (N.client client.old.end) (N.client client.new.end) }
 {
     let mut given = Some(op);
     client.end.begin(&mut given);
@@ -184,7 +196,9 @@ where
     O: Watches<F>,
     // Witness: `edits/an_operation_is_answered_that_was_not_begun`, `one_that_broke_off_is_answered`, `octets_that_nobody_heard_are_let_go`,
     // `a_turn_is_not_prepared`; what it leads to: `transfers_asked_are_the_direct_run`.
-    ensures { AsksAnswered op result (both_ends_of (timed F.server C.told) N.client client.old server.old line.old) (both_ends_of (timed F.server C.told) N.client client.new server.new line.new) }
+    ensures answered { AsksAnswered op result (both_ends_of (timed F.server C.told) N.client client.old server.old line.old) (both_ends_of (timed F.server C.told) N.client client.new server.new line.new) }
+    // Witness: `edits/one_that_was_answered_is_kept_back`, `an_operation_is_given_up_at_once`, `a_round_stops_without_a_reason`.
+    ensures unanswered { AsksUnanswered op result (pair_of (timed F.server C.told) N.client client.old server.old line.old) (pair_of (timed F.server C.told) N.client client.new server.new line.new) }
 {
     if !begin::<A, N>(client, op) {
         return None;

@@ -1,6 +1,6 @@
 // How some turns of a drive ended.
 ghost use Rattle.std.specs.Prelude.{◌≡◌};
-ghost use Rattle.ftp_pair_memory.specs.steps.Turning.{IsFarCourse, IsNearCourse};
+ghost use Rattle.ftp_pair_memory.specs.steps.Turning.{IsFarCourse, IsNearCourse, IsReported};
 
 use ftp_client_driver::{Driven, Turned};
 use ftp_operation::Answer;
@@ -14,8 +14,23 @@ pub(crate) enum Course<T> {
     Over(T),
     /// It goes on.
     On,
-    /// It broke off; or octets were read that the end did not hear, and no later turn would find them.
-    Off,
+    /// No turn comes after.
+    Off(Stop),
+}
+
+/// Why no turn comes after one.
+#[derive(Clone, Copy)]
+pub(crate) enum Stop {
+    /// Its drive broke off.
+    Broken(Cause),
+    /// Octets were read that the end did not hear, and no later turn would find them.
+    Unheard,
+    /// Its drive was over, and the end gave nothing: a server's; no client's, as its drive says.
+    Done,
+    /// It could not begin: an end and its ports did not agree on who had the data connection, or one was called who had one.
+    Unmet,
+    /// After it the ports did not know of the data connection what they are to know: memory was refused to their notes.
+    Unknown,
 }
 
 /// That of a client's drive, where all that was read was heard or not.
@@ -28,17 +43,30 @@ pub(crate) fn near_course<A: Allocator + Copy>(
     match turned {
         Turned::Over(driven) => {
             let Driven { report, off } = driven;
-            match report {
-                Some(answer) => {
-                    if is_heard && off.is_none() {
-                        return Course::Over(answer);
-                    }
-                    Course::Off
-                }
-                None => Course::Off,
+            match off {
+                Some(cause) => Course::Off(Stop::Broken(cause)),
+                None => reported(report, is_heard),
             }
         }
-        Turned::Later | Turned::More => { if is_heard { Course::On } else { Course::Off } }
+        Turned::Later | Turned::More => if is_heard {
+            Course::On
+        } else {
+            Course::Off(Stop::Unheard)
+        }
+    }
+}
+
+/// That of a client's drive which did not break off.
+fn reported<A: Allocator + Copy>(report: Option<Answer<A>>, is_heard: bool) -> Course<Answer<A>>
+    ensures { IsReported result report is_heard }
+{
+    match report {
+        Some(answer) => if is_heard {
+            Course::Over(answer)
+        } else {
+            Course::Off(Stop::Unheard)
+        }
+        None => Course::Off(Stop::Done),
     }
 }
 
@@ -48,10 +76,10 @@ pub(crate) fn far_course(turned: Result<Turned<()>, Cause>, is_heard: bool) -> C
 {
     let turned = match turned {
         Ok(turned) => turned,
-        Err(_) => return Course::Off,
+        Err(cause) => return Course::Off(Stop::Broken(cause)),
     };
     if !is_heard {
-        return off(turned);
+        return unheard(turned);
     }
     match turned {
         Turned::Over(over) => Course::Over(over),
@@ -59,10 +87,10 @@ pub(crate) fn far_course(turned: Result<Turned<()>, Cause>, is_heard: bool) -> C
     }
 }
 
-fn off(turned: Turned<()>) -> Course<()>
-    ensures { result ≡ Course.Off }
+fn unheard(turned: Turned<()>) -> Course<()>
+    ensures { result ≡ Course.Off Stop.Unheard }
 {
     match turned {
-        Turned::Over(()) | Turned::Later | Turned::More => Course::Off,
+        Turned::Over(()) | Turned::Later | Turned::More => Course::Off(Stop::Unheard),
     }
 }

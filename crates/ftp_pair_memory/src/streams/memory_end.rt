@@ -1,6 +1,6 @@
 // A data connection in memory, wherever it is: with the end that has it, or with its ports.
-ghost use Rattle.std.specs.Prelude.{◌≡◌, ◌++◌, IfSome, IsTrue};
-ghost use Rattle.ftp_pair_memory.specs.streams.MemoryEnds.{AnswersDial, Meets, Prepares};
+ghost use Rattle.std.specs.Prelude.{◌≡◌, ◌⊎◌, ◌++◌, IfNone, IfSome, IsTrue, false};
+ghost use Rattle.ftp_pair_memory.specs.streams.MemoryEnds.{AnswersDial, CannotAnswer, CannotMeet, KnowsHolder, Meets, Prepares};
 
 use crate::streams::memory_ports::MemoryPorts;
 use crate::streams::wire::{Closed, Wire};
@@ -27,7 +27,7 @@ impl Drop for MemoryEnd {
 }
 
 impl MemoryEnd {
-    ghost use Rattle.ftp_pair_memory.specs.streams.MemoryEnds.{IsFresh, IsKnown, Lifts, LowersWire};
+    ghost use Rattle.ftp_pair_memory.specs.streams.MemoryEnds.{IsFresh, IsKnown, IsUnknown, KnowsHolder, Lifts, LowersWire};
 
     /// There is none, and this host is at the other end; each read or write moves at most so many octets, of none one.
     pub fn new(alloc: Global, peer: Host, most: usize) -> MemoryEnd
@@ -42,7 +42,8 @@ impl MemoryEnd {
 
     /// Takes it, unless end and ports don't agree on who has it.
     fn lift(&mut self) -> Option<Wire>
-        ensures { IfSome result (λ wire. Lifts wire self.old self.new) }
+        ensures some { IfSome result (λ wire. Lifts wire self.old self.new) }
+        ensures none { IfNone result (KnowsHolder self.old → ⊥) }
     {
         let none = Wire::new(
             self.memory_ports.port_table.alloc,
@@ -85,8 +86,9 @@ impl MemoryEnd {
 
     /// Whether a turn left it as its ports know it.
     pub fn is_known(&mut self) -> bool
-        // Witness: `edits/ports_that_gave_another_are_believed`.
-        ensures { IsTrue result → IsKnown self.old self.new }
+        // Witness: `edits/ports_that_gave_another_are_believed` (known), `a_turn_counts_as_unknown` (unknown).
+        ensures known { IsTrue result → IsKnown self.old self.new }
+        ensures unknown { result ≡ false → IsUnknown self.new }
     {
         if self.memory_ports.port_table.spoiled {
             return false;
@@ -123,7 +125,10 @@ fn bring(from: &mut Wire, to: &mut Wire)
 
 /// Where an end dialled, the other one was called; not where that one has a data connection.
 fn answers(dialler: &mut MemoryEnd, other: &mut MemoryEnd) -> bool
-    ensures { IsTrue result → AnswersDial dialler.old other.old dialler.new other.new }
+    ensures answers { IsTrue result → AnswersDial dialler.old other.old dialler.new other.new }
+    ensures dialler { IsTrue result → KnowsHolder dialler.old → KnowsHolder dialler.new }
+    ensures other { IsTrue result → KnowsHolder other.old → KnowsHolder other.new }
+    ensures not { result ≡ false → CannotAnswer dialler.old other.old }
 {
     if !dialler.memory_ports.port_table.dialled {
         return true;
@@ -147,7 +152,8 @@ fn answers(dialler: &mut MemoryEnd, other: &mut MemoryEnd) -> bool
 
 /// Brings either end what the other wrote, and tells the first one what it is to know of the other in its turn: it counts the ports of both.
 fn carry(own: &mut MemoryEnd, peer: &mut MemoryEnd) -> bool
-    ensures { IsTrue result → Prepares own.old peer.old own.new peer.new }
+    ensures prepares { IsTrue result → Prepares own.old peer.old own.new peer.new }
+    ensures not { result ≡ false → (KnowsHolder own.old → ⊥) ⊎ (KnowsHolder peer.old → ⊥) }
 {
     let Some(mine) = own.lift() else {
         return false;
@@ -172,8 +178,9 @@ fn carry(own: &mut MemoryEnd, peer: &mut MemoryEnd) -> bool
 /// where an end broke off before.
 pub fn meet(own: &mut MemoryEnd, peer: &mut MemoryEnd) -> bool
     // Witness: `edits/what_was_written_is_brought_twice`, `an_end_is_told_before_all_was_brought`, `one_is_dialled_where_nobody_listens`,
-    // `each_end_counts_its_own_ports`.
-    ensures { IsTrue result → Meets own.old peer.old own.new peer.new }
+    // `each_end_counts_its_own_ports`; `no_turn_is_prepared` (not).
+    ensures meets { IsTrue result → Meets own.old peer.old own.new peer.new }
+    ensures not { result ≡ false → CannotMeet own.old peer.old }
 {
     if !answers(own, peer) {
         return false;

@@ -22,4 +22,4 @@ returns g c =
       left_back = λ same. ap (λ v. v.items) (c.came-1.given.1 (sym c.new.ensures.same ∙ same));
       after_back = λ same. ap (λ v. v.items) (c.goes-1.given.1 (sym c.new-2.ensures.same ∙ same));
     })
-    c.has_unheard-is_heard.ensures.none
+    c.has_unheard-is_heard.ensures.none c.has_unheard-is_heard.ensures.some
