@@ -90,11 +90,13 @@ impl<A: Allocator + Copy> Tree<A> for StrayingTree<A> {
         let Some(change) = self.found.counted() else {
             return self.tree.look(root, path, sight);
         };
+        let kind = self.kind(root, path);
         let size = self.size(root, path);
         let stamp = self.stamp(root, path);
         let _ = change.apply(root, &mut self.tree.tree);
         let _ = self.tree.look(root, path, sight)?;
-        Ok(self.size(root, path) != size || self.stamp(root, path) != stamp)
+        let is_alike = self.kind(root, path) == kind && self.size(root, path) == size;
+        Ok(!is_alike || self.stamp(root, path) != stamp)
     }
 
     fn kind<B: Allocator + Copy, C: Allocator + Copy>(
