@@ -20,7 +20,7 @@ use ftp_pair::World;
 use ftp_server_model::SureFar;
 use ftp_server_session::ServerTransfer;
 use ftp_server_transfer::TreeTransfer;
-use ftp_tree::Tree;
+use ftp_tree::{SureTree, Tree};
 use ftp_tree_memory::MemTree;
 use std::alloc::Allocator;
 use std::io;
@@ -108,23 +108,29 @@ fn play_script<A: Allocator + Copy, W: Write>(
 {
     let Script { login, orders } = script;
     let of = beginning_of(alloc, login, settings.roots)?;
-    play_from::<A, OperationTransfer<A>, TreeTransfer<A, MemTree<A>>, W>(
+    play_from::<A, MemTree<A>, OperationTransfer<A>, TreeTransfer<A, MemTree<A>>, W>(
         alloc, settings, of, orders, writer,
     )
 }
 
-/// Plays orders from a beginning, by ends with such transfers; these are parameters, since named ones cost the proof more.
-fn play_from<A: Allocator + Copy, C: ClientTransfer<A>, J: ServerTransfer<A, MemTree<A>>, W: Write>(
+/// Plays orders from a beginning, by ends over such a tree and with such transfers; these are parameters, since named ones cost the proof more.
+fn play_from<A, T, C, J, W>(
     alloc: A,
     settings: PairSettings,
-    of: Beginning<A, MemTree<A>>,
+    of: Beginning<A, T>,
     orders: Vec<Order<Text<A>>, A>,
     writer: &mut W,
 ) -> io::Result<Status>
-    ensures { IfOk result (λ status. Plays A settings.transcript (begun of.login.user of.login.pass of.accounts of.tree of.near_host of.far_host) orders.items
+where
+    A: Allocator + Copy,
+    T: SureTree<A>,
+    C: ClientTransfer<A>,
+    J: ServerTransfer<A, T>,
+    W: Write,
+    ensures { IfOk result (λ status. Plays A settings.transcript (begun of.login.user of.login.pass of.accounts (T.table of.tree) of.near_host of.far_host) orders.items
         (W.contents writer.old) (W.contents writer.new) status) }
 {
-    let mut world = world_of::<A, MemTree<A>, C, J>(alloc, of)?;
+    let mut world = world_of::<A, T, C, J>(alloc, of)?;
     play_in(alloc, settings, &mut world, orders, writer)
 }
 
