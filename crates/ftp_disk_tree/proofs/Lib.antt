@@ -1,2 +1,3 @@
 pub mod PutLemmas
+pub mod SinceLemmas
 pub mod StrayLemmas

@@ -2,4 +2,5 @@ pub mod Asked
 pub mod Note
 pub mod Parked
 pub mod Put
+pub mod Since
 pub mod Stray

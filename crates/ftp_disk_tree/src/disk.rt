@@ -1,13 +1,14 @@
 // The tree of a disk.
-ghost use Rattle.std.specs.Prelude.{◌≡◌, ◌≤◌, ◌<◌, ◌+◌, ◌++◌, IfErr, IfOk, OnErr, OnOk, drop, false, length, take, true};
+ghost use Rattle.std.specs.Prelude.{◌≡◌, [], ◌≤◌, ◌<◌, ◌+◌, ◌++◌, IfErr, IfOk, None, OnErr, OnOk, drop, false, length, take, true};
 ghost use Rattle.ftp_tree.specs.Change.{IsDone, IsRefused, IsSteady, NoStray, Tells, TellsOne, never_strayed, next_count};
 ghost use Rattle.ftp_tree.specs.Sound.{IsSoundTree};
-ghost use Rattle.ftp_tree.specs.Tree.{delete_refusal, freed, install_refusal, installed, made, make_refusal, moved};
+ghost use Rattle.ftp_tree.specs.Tree.{delete_refusal, freed, install_refusal, installed, made, make_refusal, moved, node_at};
 ghost use Rattle.ftp_tree.specs.Tree.{octets_or_none, onto_refusal, remove_refusal, removed, rename_refusal, under, with_part};
 ghost use Rattle.ftp_disk_tree.specs.Asked.{asked, asked_move, place_of};
 ghost use Rattle.ftp_disk_tree.specs.declared.answer.Answer.{Answer};
 ghost use Rattle.ftp_disk_tree.specs.Note.{taken};
 ghost use Rattle.ftp_disk_tree.specs.Put.{IsPut};
+ghost use Rattle.ftp_disk_tree.specs.Since.{IsThing, StraysSince};
 ghost use Rattle.ftp_disk_tree.specs.Stray.{strays_between, strays_found};
 ghost use Rattle.ftp_disk_scan.specs.loading.Held.{fit};
 
@@ -19,13 +20,13 @@ use crate::draft::DiskDraft;
 use crate::left::Left;
 use crate::opened::DiskOpen;
 use crate::record::Record;
-use crate::thing::Thing;
+use crate::thing::thing_at;
 use ftp_disk_host::Host;
 use ftp_disk_scan::{Compared, Dirs, Findings, Held, LeftOut, Version, look_at, take_up};
 use ftp_facts::Moment;
 use ftp_path::{Name, Path};
 use ftp_tree::{Broken, DirEntries, Draft, Limits, NodeKind, Sight, Tree, TreeFault};
-use ftp_tree_nodes::{Nodes, Standing};
+use ftp_tree_nodes::Nodes;
 use std::alloc::{AllocError, Allocator, Global};
 use std::io;
 
@@ -124,19 +125,6 @@ impl<'a, H: Host, K: Held> DiskTree<'a, H, K> {
         self.nodes.limits()
     }
 
-    /// What stands at a path.
-    fn thing_at<B: Allocator + Copy, C: Allocator + Copy>(
-        &self,
-        root: &Path<B>,
-        path: &Path<C>,
-    ) -> Thing {
-        match self.nodes.standing(root, path) {
-            None => Thing::Nothing,
-            Some(Standing::Dir) => Thing::Dir,
-            Some(Standing::File(version, _)) => Thing::Version(version.number),
-        }
-    }
-
     /// Looks, and takes up what it finds. What is found is a stray before it is. Whether another thing stands at the path then: a file is told from
     /// another by device, inode, length and moment.
     fn look_again<B: Allocator + Copy, C: Allocator + Copy>(
@@ -157,9 +145,9 @@ impl<'a, H: Host, K: Held> DiskTree<'a, H, K> {
         if findings.is_empty() {
             return Ok(false);
         }
-        let stood = self.thing_at(root, path);
+        let stood = thing_at(&self.nodes, root, path);
         self.take(findings)?;
-        Ok(!stood.is_same(self.thing_at(root, path)))
+        Ok(!stood.is_same(thing_at(&self.nodes, root, path)))
     }
 
     /// Takes up what a look found, which is a stray.
@@ -203,7 +191,7 @@ impl<'a, H: Host, K: Held> Tree<Global> for DiskTree<'a, H, K> {
         ensures changed { NoStray self.old.device self.new.device → IfOk result (λ is_changed. is_changed ≡ false) }
         ensures steady { OnOk result (IsSteady self.old.device self.new.device) }
         ensures failed { OnErr result (TellsOne self.old.device self.new.device) }
-        // Witness of strays, alone: `a_look_strays_twice`, `a_look_that_finds_nothing_strays`, `a_look_looks_where_nobody_else_changes`.
+        // Witness of strays, once, alone: `a_look_strays_twice`, `a_look_that_finds_nothing_strays`, `a_look_looks_where_nobody_else_changes`.
         ensures strays { self.new.device.strays ≡ self.old.device.strays + strays_found self.new.compared.pairs }
         ensures once { self.new.device.strays ≤ self.old.device.strays + 1 }
         ensures alone { self.old.others ≡ Others.Keep → (self.new.nodes ≡ self.old.nodes) × (self.new.device ≡ self.old.device) }
@@ -219,6 +207,28 @@ impl<'a, H: Host, K: Held> Tree<Global> for DiskTree<'a, H, K> {
                 Err(Broken)
             }
         }
+    }
+
+    fn look_since<B: Allocator + Copy, C: Allocator + Copy>(
+        &mut self,
+        root: &Path<B>,
+        path: &Path<C>,
+        draft: &DiskDraft<'a, H>,
+    ) -> Result<bool, Broken>
+        ensures same { NoStray self.old.device self.new.device → self.new.nodes ≡ self.old.nodes }
+        ensures changed { NoStray self.old.device self.new.device → IfOk result (λ is_changed. is_changed ≡ false) }
+        ensures steady { OnOk result (IsSteady self.old.device self.new.device) }
+        ensures failed { OnErr result (TellsOne self.old.device self.new.device) }
+        // Witness of since: `edits/a_look_since_strays_at_will`.
+        ensures since { OnOk result (StraysSince K.holds draft.now.stood (node_at (under self.new.nodes root.now) path.now)
+            (self.old.device.strays + strays_found self.new.compared.pairs) self.new.device.strays) }
+    {
+        self.look(root, path, Sight::Path)?;
+        let is_same = draft.stood.is_same(thing_at(&self.nodes, root, path));
+        if !is_same {
+            self.device.changed();
+        }
+        Ok(!is_same)
     }
 
     fn kind<B: Allocator + Copy, C: Allocator + Copy>(
@@ -506,10 +516,17 @@ impl<'a, H: Host, K: Held> Tree<Global> for DiskTree<'a, H, K> {
         root: &Path<B>,
         path: &Path<C>,
         keep: u64,
-    ) -> Result<DiskDraft<'a, H>, TreeFault> {
+    ) -> Result<DiskDraft<'a, H>, TreeFault>
+        ensures none { IfOk result (λ draft. taken draft.written.events ≡ []) }
+        ensures done { OnOk result ((self.new.nodes ≡ self.old.nodes) × (self.new.device ≡ self.old.device)) }
+        ensures refused { IfErr result (λ fault. IsRefused None fault self.old.nodes self.new.nodes self.old.device self.new.device) }
+        // Witness of stood: `look_since` compares with it.
+        ensures stood { IfOk result (λ draft. IsThing K.holds draft.stood (node_at (under self.old.nodes root.now) path.now)) }
+    {
         let host = self.device.host();
+        let stood = thing_at(&self.nodes, root, path);
         match begin_at(host, root, path, self.old_file(root, path, keep)) {
-            Ok(part) => Ok(DiskDraft::new(host, part)),
+            Ok(part) => Ok(DiskDraft::new(host, part, stood)),
             Err(error) => {
                 self.device.fail(error);
                 Err(TreeFault::Device)

@@ -4,6 +4,7 @@ ghost use Rattle.ftp_disk_tree.specs.Note.{taken};
 
 use crate::answer::Answer;
 use crate::record::Record;
+use crate::thing::Thing;
 use ftp_disk_host::Host;
 use ftp_tree::Draft;
 use std::alloc::AllocError;
@@ -26,6 +27,8 @@ pub struct DiskDraft<'a, H: Host> {
     pub(crate) state: State,
     pub(crate) len: u64,
     pub(crate) written: Record,
+    /// What stood at its path when it was begun.
+    pub(crate) stood: Thing,
     ghost counted: { len ≡ length (taken written.events) },
 }
 
@@ -37,6 +40,7 @@ impl<'a, H: Host> Drop for DiskDraft<'a, H> {
             state,
             len: _,
             written: _,
+            stood: _,
         } = self;
         match state {
             State::Named => {}
@@ -47,9 +51,10 @@ impl<'a, H: Host> Drop for DiskDraft<'a, H> {
 
 impl<'a, H: Host> DiskDraft<'a, H> {
     /// A part to which nothing came.
-    pub(crate) fn new(host: &'a H, part: H::Part) -> DiskDraft<'a, H>
+    pub(crate) fn new(host: &'a H, part: H::Part, stood: Thing) -> DiskDraft<'a, H>
         ensures none { taken result.written.events ≡ [] }
         ensures whole { result.state ≡ State.Whole }
+        ensures stood { result.stood ≡ stood }
     {
         DiskDraft {
             host,
@@ -57,6 +62,7 @@ impl<'a, H: Host> DiskDraft<'a, H> {
             state: State::Whole,
             len: 0,
             written: Record::new(),
+            stood,
         }
     }
 }
@@ -74,6 +80,7 @@ impl<'a, H: Host> Draft for DiskDraft<'a, H> {
         ensures err { OnErr result (taken self.new.written.events ≡ taken self.old.written.events) }
         ensures torn { OnErr result (self.new.state ≡ State.Torn) }
         ensures state { OnOk result (self.new.state ≡ self.old.state) }
+        ensures stood { self.new.stood ≡ self.old.stood }
     {
         let Some(len) = self.len.checked_add(more.len() as u64) else {
             self.state = State::Torn;

@@ -1,5 +1,5 @@
 // An upload: the octets of its data connection are settled into a file, apart from the tree until it ends (RFC 959, section 3.4).
-ghost use Rattle.std.specs.Prelude.{◌≡◌, ◌≤◌, ◌<◌, ◌+◌, ◌^◌, ℕ, Some, false, length, take, is_none, is_some, if◌then◌else◌};
+ghost use Rattle.std.specs.Prelude.{◌≡◌, ◌≤◌, ◌<◌, ◌+◌, ◌^◌, ℕ, IfOk, OnErr, OnOk, Some, false, length, take, is_none, is_some, if◌then◌else◌};
 ghost use Rattle.std.specs.Option.{IfSome};
 ghost use Rattle.ftp_wire.specs.Decoder.{no_octets};
 ghost use Rattle.ftp_server_replies.specs.ServerTransfer.{Comes, Ends};
@@ -9,6 +9,7 @@ ghost use Rattle.ftp_server_model.specs.Standing.{overtaken, standing_at};
 ghost use Rattle.ftp_server_model.specs.View.{Session};
 ghost use Rattle.ftp_server_model.specs.declared.session.Transfer.TheVariants as Transfers;
 ghost use Rattle.ftp_server_transfer.specs.Receiving.{is_over};
+ghost use Rattle.ftp_tree.specs.Change.{IsSteady, NoStray, TellsOne};
 ghost use Rattle.ftp_tree.specs.Tree.{octets_refusal, under};
 
 use crate::ending::{
@@ -23,7 +24,7 @@ use ftp_path::Path;
 use ftp_server_model::{FixedReply, Keep, Standing};
 use ftp_server_replies::{Fault, Marker, Received, Told};
 use ftp_settings::{MARKER_LIMIT, Representation};
-use ftp_tree::{Sight, Tree};
+use ftp_tree::{Broken, Sight, Tree};
 use ftp_wire::{Decoded, Decoder, Taken};
 use std::alloc::Allocator;
 
@@ -202,10 +203,10 @@ impl<A: Allocator + Copy, T: Tree<A>> Upload<A, T> {
             keep,
             decoder,
         } = self;
-        let Ok(is_changed) = tree.look(root, &path, Sight::Path) else {
+        let Ok(is_changed) = look_at_end(tree, root, &path, &decoder.sink().draft, text) else {
             return Err(Fault::Device);
         };
-        if is_changed && is_broken(text) {
+        if is_changed {
             return Ok(text);
         }
         if let Some(why) = end_refusal(tree, root, &path, keep, decoder.len(), rights) {
@@ -231,6 +232,26 @@ impl Arrived {
             is_over: false,
         }
     }
+}
+
+/// Looks at the path of an upload that ends. Whether another thing stands there than as one began that broke.
+fn look_at_end<A: Allocator + Copy, T: Tree<A>>(
+    tree: &mut T,
+    root: &Path<A>,
+    path: &Path<A>,
+    draft: &T::Draft,
+    text: FixedReply,
+) -> Result<bool, Broken>
+    ensures same { NoStray (T.failures tree.old) (T.failures tree.new) → T.table tree.new ≡ T.table tree.old }
+    ensures changed { NoStray (T.failures tree.old) (T.failures tree.new) → IfOk result (λ is_changed. is_changed ≡ false) }
+    ensures steady { OnOk result (IsSteady (T.failures tree.old) (T.failures tree.new)) }
+    ensures failed { OnErr result (TellsOne (T.failures tree.old) (T.failures tree.new)) }
+{
+    if is_broken(text) {
+        return tree.look_since(root, path, draft);
+    }
+    let _ = tree.look(root, path, Sight::Path)?;
+    Ok(false)
 }
 
 /// Whether it is the reply of an upload that broke.

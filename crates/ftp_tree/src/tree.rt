@@ -46,7 +46,7 @@ pub struct DirEntry<'a> {
 /// refusals the first of the call's own order is given, then `Memory`, then `Device`, which comes just where the count of
 /// device failures moves on in the call, by one.
 ///
-/// A device may stray, which nobody can tell: what it gives is not what the map says, or others changed what it keeps. Only `look`, `read`
+/// A device may stray, which nobody can tell: what it gives is not what the map says, or others changed what it keeps. Only looks, `read`
 /// and `put` meet that, and of a call that does nothing is said but how the count of failures moved.
 pub trait Tree<A: Allocator + Copy>: Drop {
     /// A file as it was when it was opened, whatever became of the tree after that.
@@ -71,6 +71,20 @@ pub trait Tree<A: Allocator + Copy>: Drop {
         sight: Sight,
     ) -> Result<bool, Broken>
         // Witness: equations; that a look is made no clause says.
+        ensures same { NoStray (failures self.old) (failures self.new) → table self.new ≡ table self.old }
+        ensures changed { NoStray (failures self.old) (failures self.new) → IfOk result (λ is_changed. is_changed ≡ false) }
+        ensures steady { OnOk result (IsSteady (failures self.old) (failures self.new)) }
+        ensures failed { OnErr result (TellsOne (failures self.old) (failures self.new)) };
+
+    /// Looks at the path of a draft that broke, as `look` does. Says whether what stands there is another thing than when the draft was begun,
+    /// whoever changed it: on a device by more than length and moment tell. That counts as a stray, as what others changed does.
+    fn look_since<B: Allocator + Copy, C: Allocator + Copy>(
+        &mut self,
+        root: &Path<B>,
+        path: &Path<C>,
+        draft: &Self::Draft,
+    ) -> Result<bool, Broken>
+        // Witness: as of `look`.
         ensures same { NoStray (failures self.old) (failures self.new) → table self.new ≡ table self.old }
         ensures changed { NoStray (failures self.old) (failures self.new) → IfOk result (λ is_changed. is_changed ≡ false) }
         ensures steady { OnOk result (IsSteady (failures self.old) (failures self.new)) }

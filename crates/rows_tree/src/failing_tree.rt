@@ -85,6 +85,15 @@ impl<A: Allocator + Copy> Tree<A> for FailingTree<A> {
         Ok(false)
     }
 
+    fn look_since<B: Allocator + Copy, C: Allocator + Copy>(
+        &mut self,
+        root: &Path<B>,
+        path: &Path<C>,
+        _draft: &Content<A>,
+    ) -> Result<bool, Broken> {
+        self.look(root, path, Sight::Path)
+    }
+
     fn kind<B: Allocator + Copy, C: Allocator + Copy>(
         &self,
         root: &Path<B>,

@@ -56,6 +56,15 @@ impl<A: Allocator + Copy> Tree<A> for MemTree<A> {
         Ok(false)
     }
 
+    fn look_since<B: Allocator + Copy, C: Allocator + Copy>(
+        &mut self,
+        _root: &Path<B>,
+        _path: &Path<C>,
+        _draft: &Content<A>,
+    ) -> Result<bool, Broken> {
+        Ok(false)
+    }
+
     fn kind<B: Allocator + Copy, C: Allocator + Copy>(
         &self,
         root: &Path<B>,
