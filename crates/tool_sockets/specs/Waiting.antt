@@ -1,4 +1,6 @@
 -- What a wait for the control connection and another socket gives (own choice).
+use Rattle.ftp_ports.specs.declared.ports.Ready.{Ready}
+use Rattle.ftp_ports.specs.declared.ports.Ready.TheVariants as Readies
 use Rattle.ftp_ports.specs.declared.ports.Spoken.{Spoken}
 use Rattle.ftp_ports.specs.declared.ports.Spoken.TheVariants as Said
 use Rattle.tool_sockets.specs.declared.wait.Heeds.{Heeds}
@@ -15,3 +17,11 @@ wakes said Others.Ready heeds = Woken.Ready
 wakes Said.Nothing Others.Waits heeds = Woken.Failed
 wakes said Others.Waits Heed.End = Woken.Ended
 wakes said Others.Waits heeds = Woken.Spoken
+
+-- the connection that is served behind a wait: none where the control connection ended or the time is over
+abbrev pub served_after : Woke → Ready
+served_after Woken.Ready = Readies.Data
+served_after Woken.Spoken = Readies.Control
+served_after Woken.Ended = Readies.Lost
+served_after Woken.TimeOver = Readies.Lost
+served_after Woken.Failed = Readies.Lost

@@ -16,7 +16,8 @@ const LAST_MILLIS: u64 = 1_000;
 /// What of a control connection ends a wait for octets.
 const OCTETS: i16 = c::POLLIN | c::POLLRDHUP;
 
-/// Reads a control connection. Where its time is over, it has ended.
+/// Reads a control connection, and waits for octets while time is left; behind that it has ended. Fails where the system's call does. An octet LF is the end of
+/// a line of a reply (RFC 959, section 4.2), and so a sign of life.
 #[derive(Drop)]
 pub struct ControlReader<'a> {
     stream: &'a TcpStream,
@@ -24,6 +25,7 @@ pub struct ControlReader<'a> {
 }
 
 impl<'a> ControlReader<'a> {
+    /// The reader of a stream, lent while the control connection lasts.
     pub fn new(stream: &'a TcpStream, timeouts: &'a ClientTimeouts) -> ControlReader<'a> {
         ControlReader { stream, timeouts }
     }
@@ -46,7 +48,7 @@ impl<'a> Read for ControlReader<'a> {
     }
 }
 
-/// Writes a control connection. Where there is no room it waits for it while timeouts lasts.
+/// Writes a control connection. Where there is no room it waits for it while time is left; behind that a write fails as `TimedOut`.
 #[derive(Drop)]
 pub struct ControlWriter<'a> {
     stream: &'a TcpStream,
@@ -54,6 +56,7 @@ pub struct ControlWriter<'a> {
 }
 
 impl<'a> ControlWriter<'a> {
+    /// The writer of a stream, lent while the control connection lasts.
     pub fn new(stream: &'a TcpStream, timeouts: &'a ClientTimeouts) -> ControlWriter<'a> {
         ControlWriter { stream, timeouts }
     }
@@ -106,8 +109,8 @@ impl<'a> Write for ControlWriter<'a> {
     }
 }
 
-/// Closes a control connection behind its last reply: sends nothing more, and reads what the peer sent behind it, for a second in all,
-/// since a connection that is dropped with unread octets is reset, and loses the reply.
+/// Closes a control connection behind its last reply (RFC 959, section 4.1.1, QUIT): sends nothing more, and reads what the peer sent behind it, for a second
+/// in all. A connection that is dropped with unread octets is reset, and loses the reply. Fails where the system's call does; the connection is over anyway.
 pub fn say_goodbye(stream: &TcpStream) -> io::Result<()> {
     stream.shutdown(Shutdown::Write)?;
     let until = monotonic_millis().saturating_add(LAST_MILLIS);

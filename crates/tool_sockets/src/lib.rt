@@ -4,6 +4,7 @@
 
 mod control;
 mod host;
+mod last_activity;
 mod link;
 mod options;
 mod ports;
@@ -14,6 +15,7 @@ mod watch;
 
 pub use control::{ControlReader, ControlWriter, say_goodbye, send_now};
 pub use host::{addr_of, host_of};
+pub use last_activity::LastActivity;
 pub use link::DataSocket;
 pub use options::{drop_connection, keep_alive, limit_room, limit_untaken};
 pub use ports::{OPENING_MILLIS, SocketPorts};

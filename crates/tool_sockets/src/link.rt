@@ -1,4 +1,7 @@
 // A data connection of one who asks, which does not outlast its control connection.
+ghost use Rattle.std.specs.Prelude.{◌≡◌};
+ghost use Rattle.tool_sockets.specs.Waiting.{served_after};
+
 use crate::options::{drop_connection, limit_untaken};
 use crate::timeouts::{ClientTimeouts, monotonic_millis, piece_of};
 use crate::wait::{Heeds, Woke, wait, wait_millis};
@@ -24,6 +27,17 @@ pub struct DataSocket<'a> {
 /// The control connection ended before.
 fn lost() -> Error {
     Error::from(ErrorKind::ConnectionAborted)
+}
+
+/// Which connection is to be served behind a wait that ended so.
+fn served_after(woke: Woke) -> Ready
+    ensures { result ≡ served_after woke }
+{
+    match woke {
+        Woke::Ready => Ready::Data,
+        Woke::Spoken => Ready::Control,
+        Woke::Ended | Woke::TimeOver | Woke::Failed => Ready::Lost,
+    }
 }
 
 /// What a read or a write that waited ends with, where the data connection was not ready.
@@ -70,11 +84,7 @@ impl<'a> DataSocket<'a> {
         } else {
             Heeds::End
         };
-        match self.await_either(what, heeds) {
-            Woke::Ready => Ready::Data,
-            Woke::Spoken => Ready::Control,
-            Woke::Ended | Woke::TimeOver | Woke::Failed => Ready::Lost,
-        }
+        served_after(self.await_either(what, heeds))
     }
 
     /// Waits until octets can be read or written, or what is heeded of the control connection is there. Only where there is no room at once is it

@@ -1,5 +1,5 @@
 // Data connections of one who asks, over real sockets.
-ghost use Rattle.std.specs.Prelude.{◌≡◌, None};
+ghost use Rattle.std.specs.Prelude.{◌≡◌, IfOk, None};
 ghost use Rattle.ftp_ports.specs.Asking.{Closes};
 
 use crate::host::{addr_of, host_of};
@@ -20,7 +20,7 @@ pub const OPENING_MILLIS: u64 = 30_000;
 /// How long the end of the last data connection is waited for, in milliseconds.
 const LEAVING_MILLIS: u64 = 500;
 
-/// Data connections beside one control connection, which wait as long as timeouts lasts.
+/// Data connections beside one control connection, for each of which is waited while time is left. One whose opening fails is none, whatever the reason.
 #[derive(Drop)]
 pub struct SocketPorts<'a, R: Sockets> {
     net: &'a R,
@@ -37,12 +37,15 @@ pub struct SocketPorts<'a, R: Sockets> {
 }
 
 impl<'a, R: Sockets> SocketPorts<'a, R> {
-    /// None was opened yet.
+    /// None was opened yet. Fails where the system does not tell the address of this end.
     pub fn new(
         net: &'a R,
         control: &'a TcpStream,
         timeouts: &'a ClientTimeouts,
-    ) -> io::Result<SocketPorts<'a, R>> {
+    ) -> io::Result<SocketPorts<'a, R>>
+        // Witness: `edits/a_data_connection_was_opened_before.edit`.
+        ensures { IfOk result (λ ports. ports.opened ≡ 0) }
+    {
         let here = control.local_addr()?.ip().to_canonical();
         Ok(SocketPorts {
             net,
@@ -92,7 +95,7 @@ impl<'a, R: Sockets> SocketPorts<'a, R> {
         Ok(port)
     }
 
-    /// Opens a connection; ends as failed where the control connection does, and where its time is over.
+    /// Opens a connection; none where the control connection ends or the time is over before, and within 30 seconds.
     fn open(&self, addr: SocketAddr) -> io::Result<Option<TcpStream>> {
         let begun = self.net.connecting(addr)?;
         if !is_open_in_time(self.control, &begun, self.timeouts) {
@@ -123,22 +126,25 @@ impl<'a, R: Sockets> SocketPorts<'a, R> {
 
 /// What waiting at a port gave.
 #[derive(Drop)]
-enum Waited {
+enum Arrival {
+    /// A connection, from this address.
     Came(TcpStream, SocketAddr),
+    /// The control connection has octets.
     Spoken,
+    /// No connection comes any more.
     Refused,
 }
 
 /// The next connection that comes, if one did.
-fn take_next(listener: &TcpListener) -> Option<Waited> {
+fn take_next(listener: &TcpListener) -> Option<Arrival> {
     match listener.accept() {
-        Ok((stream, peer)) => Some(Waited::Came(stream, peer)),
+        Ok((stream, peer)) => Some(Arrival::Came(stream, peer)),
         Err(error) if error.kind() == ErrorKind::WouldBlock => None,
-        Err(_) => Some(Waited::Refused),
+        Err(_) => Some(Arrival::Refused),
     }
 }
 
-/// Whether a connection that was begun is open, or was refused, within 30 seconds and while timeouts and the control connection last.
+/// Whether a connection that was begun is open, or was refused, within 30 seconds, while time is left and the control connection lasts.
 fn is_open_in_time<S: AsRawFd>(control: &TcpStream, begun: &S, timeouts: &ClientTimeouts) -> bool {
     let until = monotonic_millis().saturating_add(OPENING_MILLIS);
     for _ in 0..TURNS {
@@ -161,19 +167,19 @@ fn wait_at(
     control: &TcpStream,
     timeouts: &ClientTimeouts,
     hears: bool,
-) -> Waited {
+) -> Arrival {
     let heeds = if hears { Heeds::Octets } else { Heeds::End };
     for _ in 0..TURNS {
-        if let Some(waited) = take_next(listener) {
-            return waited;
+        if let Some(arrival) = take_next(listener) {
+            return arrival;
         }
         match wait(control, listener, For::Octets, heeds, timeouts) {
             Woke::Ready => {}
-            Woke::Spoken => return Waited::Spoken,
-            Woke::Ended | Woke::TimeOver | Woke::Failed => return Waited::Refused,
+            Woke::Spoken => return Arrival::Spoken,
+            Woke::Ended | Woke::TimeOver | Woke::Failed => return Arrival::Refused,
         }
     }
-    Waited::Refused
+    Arrival::Refused
 }
 
 impl<'a, R: Sockets> Ports for SocketPorts<'a, R> {
@@ -190,9 +196,9 @@ impl<'a, R: Sockets> Ports for SocketPorts<'a, R> {
             return Accepted::Refused;
         };
         match wait_at(listener, self.control, self.timeouts, hears) {
-            Waited::Came(stream, peer) => self.linked(stream, peer),
-            Waited::Spoken => Accepted::Spoken,
-            Waited::Refused => Accepted::Refused,
+            Arrival::Came(stream, peer) => self.linked(stream, peer),
+            Arrival::Spoken => Accepted::Spoken,
+            Arrival::Refused => Accepted::Refused,
         }
     }
 

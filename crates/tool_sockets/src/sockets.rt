@@ -5,10 +5,10 @@ use std::net::{Net, SocketAddr, TcpListener, TcpStream};
 
 /// Who has sockets. Whoever has those of a system is one.
 pub trait Sockets {
-    /// Listens at an address.
+    /// Listens at an address; fails where the system does not let it, as where its port is taken.
     fn listener(&self, address: SocketAddr) -> io::Result<TcpListener>;
 
-    /// Begins to connect to an address, and returns at once.
+    /// Begins to connect to an address, and returns at once: that it stands, or failed, is told by a poll. Fails where the system begins none.
     fn connecting(&self, address: SocketAddr) -> io::Result<mio::net::TcpStream>;
 }
 

@@ -1,7 +1,8 @@
 // How long one who asks waits for its server.
 ghost use Rattle.std.specs.Prelude.{◌≡◌};
-ghost use Rattle.tool_sockets.specs.Timeouts.{sooner};
+ghost use Rattle.tool_sockets.specs.Timeouts.{limit_millis, millis_left, silent_until, sooner};
 
+use crate::last_activity::LastActivity;
 use crate::wait::{Polled, ask};
 use ftp_ports::TURNS;
 use libc::types::{pollfd, timespec};
@@ -21,47 +22,41 @@ pub(crate) enum Waited {
 }
 
 /// The timeouts of one who asks, over one control connection: its server may say, take and send nothing for so long, and all may take so long. Time is that of
-/// the system's monotonic clock.
+/// the system's monotonic clock, in milliseconds.
 #[derive(Drop)]
 pub struct ClientTimeouts {
-    /// In milliseconds; none: without a limit.
+    /// How long silence may last; none: without a limit.
     limit: Option<u64>,
-    /// Until when it lasts at most, in milliseconds; none: without a limit.
+    /// Until when all lasts at most; none: without a limit.
     until: Option<u64>,
-    /// When something was done last, in milliseconds.
-    last: Cell<u64>,
-    /// Whether the server said a line since anything else was done.
-    has_heard: Cell<bool>,
+    last: Cell<LastActivity>,
     is_over: Cell<bool>,
 }
 
 impl ClientTimeouts {
-    /// The timeouts of one that begins now, in seconds of silence, 0: without a limit; and until when it lasts at most, in milliseconds of the monotonic clock.
-    pub fn new(seconds: u32, until: Option<u64>) -> ClientTimeouts {
-        let limit = match seconds {
-            0 => None,
-            seconds => Some(u64::from(seconds) * 1_000),
-        };
+    /// The timeouts of one that begins now: so many seconds of silence, 0: without a limit; and until when all lasts at most, in milliseconds of the monotonic
+    /// clock.
+    pub fn new(seconds: u32, until: Option<u64>) -> ClientTimeouts
+        ensures limit { result.limit ≡ limit_millis seconds }
+        ensures until { result.until ≡ until }
+    {
         ClientTimeouts {
-            limit,
+            limit: limit_millis(seconds),
             until,
-            last: Cell::new(monotonic_millis()),
-            has_heard: Cell::new(false),
+            last: Cell::new(LastActivity::Done(monotonic_millis())),
             is_over: Cell::new(false),
         }
     }
 
     /// Something was done: a command went, or octets of a data connection.
     pub fn touch(&self) {
-        self.has_heard.set(false);
-        self.last.set(monotonic_millis());
+        self.last.set(LastActivity::Done(monotonic_millis()));
     }
 
-    /// The server said a line: a sign of life once behind what was done, so that lines without end are none.
+    /// The server said a line.
     pub(crate) fn hear(&self) {
-        if !self.has_heard.replace(true) {
-            self.last.set(monotonic_millis());
-        }
+        let last = self.last.get();
+        self.last.set(last.behind_line(monotonic_millis()));
     }
 
     /// Whether the moment has come until which it lasts at most.
@@ -82,7 +77,7 @@ impl ClientTimeouts {
         self.is_over.set(true);
     }
 
-    /// Polls while timeouts lasts.
+    /// Polls while any time is left.
     pub(crate) fn wait(&self, asked: &mut [pollfd]) -> Waited {
         for _ in 0..TURNS {
             let millis = match self.left() {
@@ -109,20 +104,43 @@ impl ClientTimeouts {
         if self.is_over.get() {
             return Some(0);
         }
-        let now = monotonic_millis();
-        let until = match self.limit {
-            Some(limit) => Some(self.last.get().saturating_add(limit)),
-            None => None,
-        };
-        match sooner(until, self.until) {
-            Some(until) => Some(until.saturating_sub(now)),
-            None => None,
-        }
+        let silent = silent_until(self.limit, self.last.get().moment());
+        millis_left(sooner(silent, self.until), monotonic_millis())
     }
 
     /// How long octets may wait for the peer to take them, in milliseconds; 0: without a limit.
     pub(crate) fn untaken_millis(&self) -> i32 {
         i32::try_from(self.limit.unwrap_or(0)).unwrap_or(i32::MAX)
+    }
+}
+
+/// A limit of so many seconds in milliseconds; 0 is none.
+fn limit_millis(seconds: u32) -> Option<u64>
+    ensures { result ≡ limit_millis seconds }
+{
+    if seconds == 0 {
+        return None;
+    }
+    Some(u64::from(seconds) * 1_000)
+}
+
+/// Until when silence may last behind the last activity; none where there is no limit.
+fn silent_until(limit: Option<u64>, last: u64) -> Option<u64>
+    ensures { result ≡ silent_until limit last }
+{
+    match limit {
+        Some(limit) => Some(last.saturating_add(limit)),
+        None => None,
+    }
+}
+
+/// How many milliseconds are left until a moment, now; none where there is none.
+fn millis_left(until: Option<u64>, now: u64) -> Option<u64>
+    ensures { result ≡ millis_left until now }
+{
+    match until {
+        Some(until) => Some(until.saturating_sub(now)),
+        None => None,
     }
 }
 

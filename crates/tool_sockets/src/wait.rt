@@ -17,7 +17,9 @@ pub enum Woke {
     Spoken,
     /// The control connection ended.
     Ended,
+    /// No time is left.
     TimeOver,
+    /// The system's call failed, or told of nothing.
     Failed,
 }
 
@@ -35,11 +37,13 @@ pub enum Heeds {
 /// Whether what was asked for of the other socket is there.
 #[derive(Clone, Copy)]
 pub enum Other {
+    /// It is not.
     Waits,
+    /// It is, or the socket broke.
     Ready,
 }
 
-/// Waits until the other socket is ready or what is heeded of the control connection is there, while timeouts lasts. The end is seen behind
+/// Waits until the other socket is ready or what is heeded of the control connection is there, while time is left. The end is seen behind
 /// octets that are not read yet, too.
 pub(crate) fn wait<C: AsRawFd, S: AsRawFd>(
     control: &C,
@@ -81,7 +85,7 @@ fn both_of<C: AsRawFd, S: AsRawFd>(control: &C, other: &S, what: For, heeds: Hee
     [asking(control, told), asking(other, events_of(what))]
 }
 
-/// A socket of which these events are asked.
+/// A row for a poll: a socket of which these events are asked, and nothing was told yet.
 pub fn asking<S: AsRawFd>(socket: &S, events: i16) -> pollfd {
     pollfd {
         fd: socket.as_raw_fd(),
@@ -155,7 +159,7 @@ pub fn spoken_by(events: i16) -> Spoken {
     }
 }
 
-/// What ends a wait, by what both have.
+/// What ends a wait, by what both have. Where both have nothing, the system told of what nobody asked for.
 pub fn woken(control: Spoken, other: Other, heeds: Heeds) -> Woke
     ensures { result ≡ wakes control other heeds }
 {

@@ -1,9 +1,12 @@
 // The system's clock.
+ghost use Rattle.std.specs.Prelude.{◌≡◌};
+
 use ftp_facts::Moment;
 use ftp_ports::Watch;
 use std::time::{Clock, SystemTime, UNIX_EPOCH};
 
-/// The moment by the system's clock; where it says none that the profile has, the one before stays.
+/// The moment by the system's clock, in whole seconds since 1970 (RFC 3659, section 2.3). Where the clock tells none from 1970 to the year 9999, the one that
+/// it told last stays.
 #[derive(Drop)]
 pub struct SystemWatch<'a, R: Clock> {
     clock: &'a R,
@@ -11,7 +14,10 @@ pub struct SystemWatch<'a, R: Clock> {
 }
 
 impl<'a, R: Clock> SystemWatch<'a, R> {
-    pub fn new(clock: &'a R) -> SystemWatch<'a, R> {
+    /// Nothing was told yet: the start of 1970 stands.
+    pub fn new(clock: &'a R) -> SystemWatch<'a, R>
+        ensures { result.last.seconds ≡ 0 }
+    {
         SystemWatch {
             clock,
             last: Moment { seconds: 0 },
