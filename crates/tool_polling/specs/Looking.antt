@@ -1,43 +1,39 @@
--- How long a server may wait, which port is the next, and which octet is hidden (own choice where no section is named).
-use Rattle.std.specs.Prelude.{ℕ, Bool, false, ◌&&◌, zero, suc, ◌-◌, ◌*◌, ◌==◌, min, nat_le, nat_lt, Option, Some, None, if◌then◌else◌}
+-- What a look at a data connection and the control connection beside it tells (own choice).
+use Rattle.std.specs.Prelude.{ℕ, ◌+◌, ◌-◌, ◌^◌, min, Bool, true, false}
+use Rattle.ftp_ports.specs.declared.ports.Beside.{Beside}
+use Rattle.ftp_ports.specs.declared.ports.Beside.TheVariants as Besides
+use Rattle.ftp_ports.specs.declared.ports.Ready.{Ready}
+use Rattle.ftp_ports.specs.declared.ports.Ready.TheVariants as Readies
 use Rattle.ftp_ports.specs.declared.ports.Spoken.{Spoken}
 use Rattle.ftp_ports.specs.declared.ports.Spoken.TheVariants as Speaks
-use Rattle.tool_polling.specs.declared.hangup.DataInput.{DataInput}
-use Rattle.tool_polling.specs.declared.hangup.DataInput.TheVariants as Gifts
-use Rattle.tool_polling.specs.declared.session_timeouts.TimeoutReason.{TimeoutReason}
-use Rattle.tool_polling.specs.declared.session_timeouts.Term.{Term}
+use Rattle.tool_polling.specs.declared.link.LinkTime.{LinkTime}
+use Rattle.tool_polling.specs.declared.link.LinkTime.TheVariants as Times
+use Rattle.tool_sockets.specs.declared.wait.Other.{Other}
+use Rattle.tool_sockets.specs.declared.wait.Other.TheVariants as Others
+use Rattle.tool_sockets.specs.declared.wait.Woke.{Woke}
+use Rattle.tool_sockets.specs.declared.wait.Woke.TheVariants as Woken
 
--- what is left, in milliseconds, of a limit of so many seconds; of none there is no term
-abbrev pub term_after : ℕ → ℕ → TimeoutReason → Option Term
-term_after zero spent over = None
-term_after (suc limit) spent over = Some (record { left = suc limit * 1000 - spent; over = over })
+-- a look ends the waiting: the data connection is ready, or what of the control connection is awaited beside is there
+abbrev pub is_told : Beside → Spoken → Other → Bool
+is_told beside control Others.Ready = true
+is_told Besides.Nothing control Others.Waits = false
+is_told Besides.End Speaks.Nothing Others.Waits = false
+is_told Besides.Octets Speaks.Nothing Others.Waits = false
+is_told Besides.End Speaks.Octets Others.Waits = true
+is_told Besides.End Speaks.Ended Others.Waits = true
+is_told Besides.Octets Speaks.Octets Others.Waits = true
+is_told Besides.Octets Speaks.Ended Others.Waits = true
 
--- the one of two that ends sooner
-abbrev pub sooner_of : Option Term → Option Term → Option Term
-sooner_of (Some one) (Some other) = if nat_le one.left other.left then Some one else Some other
-sooner_of (Some one) None = Some one
-sooner_of None other = other
+-- the connection that is served behind a look: where neither has anything, a read or a write of the data connection says why
+abbrev pub ready_after : Woke → Ready
+ready_after Woken.Ready = Readies.Data
+ready_after Woken.Spoken = Readies.Control
+ready_after Woken.Ended = Readies.Lost
+ready_after Woken.TimeOver = Readies.Data
+ready_after Woken.Failed = Readies.Data
 
--- the shorter of two limits in seconds, of which 0 is none
-abbrev pub stricter : ℕ → ℕ → ℕ
-stricter one other = if one == 0 then other else (if other == 0 then one else min one other)
-
--- what is told of a control connection beside an upload: its end only where the upload's data connection gave nothing for 10,000 milliseconds
-abbrev pub told_beside : Spoken → DataInput → Spoken
-told_beside Speaks.Ended Gifts.Something = Speaks.Nothing
-told_beside Speaks.Ended (Gifts.NothingFor millis) = if nat_lt millis 10000 then Speaks.Nothing else Speaks.Ended
-told_beside Speaks.Octets gift = Speaks.Octets
-told_beside Speaks.Nothing gift = Speaks.Nothing
-
--- the octet that urgent data hides after another one: LF after CR, the data mark after IAC, and IAC after IAC IP (RFC 854; RFC 959, section 4.1.3)
-abbrev pub hidden : ℕ → Option ℕ
-hidden last = if last == 13 then Some 10 else (if last == 255 then Some 242 else (if last == 244 then Some 255 else None))
-
--- a port is given up that nobody opened for 10 seconds, where another was wanted within the last 10 and not had
-abbrev pub is_given_up : ℕ → Option ℕ → Bool
-is_given_up held None = false
-is_given_up held (Some wanted) = nat_lt wanted 10000 && nat_le 10000 held
-
--- the port after one, in turn among those from `first` to `last`
-abbrev pub next_port : ℕ → ℕ → ℕ → ℕ
-next_port first last port = if nat_le first port then (if nat_le last port then first else suc port) else first
+-- until when the last octets of a download wait: 30,000 milliseconds behind the first look that found the control connection ended
+abbrev pub last_until : LinkTime → (now : ℕ) → ℕ
+last_until Times.Lasts now = min (now + 30000) (2 ^ 64 - 1)
+last_until (Times.EndsAt until) now = until
+last_until Times.IsOver now = now

@@ -1,7 +1,8 @@
 -- How long a session may last (own choice): a limit of silence is put off by each sign of life, and one of time by nothing.
 use Rattle.std.specs.Prelude.{◌≡◌, ℕ, suc, ◌*◌, ◌≤◌, ◌<◌, Bool, true, false, Option, Some, None, nat_lt, if◌then◌else◌}
-use Rattle.tool_polling.specs.Looking.{sooner_of, term_after}
+use Rattle.tool_polling.specs.Limits.{passed_by, sooner_of, stricter, term_after}
 use Rattle.tool_polling.specs.declared.session_timeouts.TimeLimits.{TimeLimits}
+use Rattle.tool_polling.specs.declared.session_timeouts.TimeoutReason.{TimeoutReason}
 use Rattle.tool_polling.specs.declared.session_timeouts.TimeoutReason.TheVariants as Overs
 use Rattle.tool_polling.specs.declared.session_timeouts.SessionTimes.{SessionTimes}
 use Rattle.tool_polling.specs.declared.session_timeouts.Term.{Term}
@@ -34,6 +35,22 @@ fixed_term limits stand =
 -- what is left of a session
 abbrev pub term_of_session : TimeLimits → SessionTimes → Option Term
 term_of_session limits stand = sooner_of (quiet_term limits stand) (fixed_term limits stand)
+
+-- why a session is ended for another client that comes, by whether somebody logged in and for how long the limits of silence and until the login are passed
+abbrev pub spare_by : (logged_in : Bool) → (quiet login : Option ℕ) → Option (TimeoutReason × ℕ)
+spare_by logged_in (Some since) login = Some (Overs.Waited, since)
+spare_by true None login = None
+spare_by false None None = None
+spare_by false None (Some since) = Some (Overs.LoginWaited, since)
+
+-- the same of a session that stands so
+abbrev pub spare_of : TimeLimits → SessionTimes → Option (TimeoutReason × ℕ)
+spare_of limits stand = spare_by stand.logged_in (passed_by limits.idle_while_waited stand.quiet) (passed_by limits.login_while_waited stand.begun)
+
+-- for how many seconds octets may wait for the peer: as long as silence may last now
+abbrev pub untaken_limit : TimeLimits → (waited : Option ℕ) → ℕ
+untaken_limit limits (Some since) = stricter limits.idle limits.idle_while_waited
+untaken_limit limits None = limits.idle
 
 -- since when another client waits once an octet of a data connection went now: since now, where transfers are spared
 abbrev pub waited_after : Option ℕ → (now : ℕ) → Transfers → Option ℕ

@@ -1,4 +1,6 @@
 // What one waits for who does not wait: the round of all sessions polls it.
+ghost use Rattle.std.specs.Prelude.{◌≡◌, ◌-◌, ◌^◌};
+
 use libc::net as c;
 use libc::types::pollfd;
 use std::os::fd::AsRawFd;
@@ -19,7 +21,9 @@ pub struct Awaits {
 
 impl Awaits {
     /// Nothing does.
-    pub fn nothing() -> Awaits {
+    pub fn nothing() -> Awaits
+        ensures { result.until ≡ 2 ^ 64 - 1 }
+    {
         Awaits {
             rows: [NOTHING, NOTHING],
             until: u64::MAX,
@@ -27,7 +31,9 @@ impl Awaits {
     }
 
     /// This moment does.
-    pub(crate) fn until(until: u64) -> Awaits {
+    pub(crate) fn until(until: u64) -> Awaits
+        ensures { result.until ≡ until }
+    {
         Awaits {
             until,
             ..Awaits::nothing()
@@ -40,7 +46,9 @@ impl Awaits {
     }
 
     /// Events of either of two do.
-    pub(crate) fn both(row: pollfd, other: pollfd) -> Awaits {
+    pub(crate) fn both(row: pollfd, other: pollfd) -> Awaits
+        ensures { result.until ≡ 2 ^ 64 - 1 }
+    {
         Awaits {
             rows: [row, other],
             until: u64::MAX,
@@ -48,7 +56,10 @@ impl Awaits {
     }
 
     /// Events of these, or the moment, whichever comes first.
-    pub(crate) fn or_until(self, until: u64) -> Awaits {
+    pub(crate) fn or_until(self, until: u64) -> Awaits
+        ensures until { result.until ≡ until }
+        ensures rows { result.rows ≡ self.rows }
+    {
         Awaits { until, ..self }
     }
 

@@ -2,7 +2,8 @@
 ghost use Rattle.std.specs.Prelude.{◌≡◌, ◌<◌, ◌≤◌, IfOk, length};
 ghost use Rattle.std.specs.Global.{Global};
 
-use crate::line::{ControlLine, PendingInput, hidden_after};
+use crate::line::ControlLine;
+use crate::pending_input::{PendingInput, hidden_after};
 use std::alloc::Global;
 use std::io;
 use std::io::{Error, ErrorKind, Read, Write};
@@ -10,13 +11,15 @@ use std::rc::Rc;
 use tool_sockets::send_now;
 
 /// Reads a control connection, where octets are there. The system takes an urgent octet out of what is read; behind CR it is taken for LF, and behind IAC
-/// for the data mark 242, so that an ABOR whose last octet is urgent is a line, and a Synch is whole. Where its time is over, the connection has ended.
+/// for the data mark 242, so that an ABOR whose last octet is urgent is a line, and a Synch is whole. Where its time is over, the connection has ended. A read
+/// fails where the system's call does, and once more behind a break that a look met.
 #[derive(Drop)]
 pub struct LineReader {
     line: Rc<ControlLine, Global>,
 }
 
 impl LineReader {
+    /// The reader of a control connection, of which nothing was read yet.
     pub fn new(line: Rc<ControlLine, Global>) -> LineReader {
         LineReader { line }
     }
@@ -128,6 +131,7 @@ pub struct LineWriter {
 }
 
 impl LineWriter {
+    /// The writer of a control connection.
     pub fn new(line: Rc<ControlLine, Global>) -> LineWriter {
         LineWriter { line }
     }

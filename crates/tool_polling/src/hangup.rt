@@ -1,19 +1,20 @@
 // The end of a control connection while an upload is under way: a client may hang up right behind its last octet (own choice; RFC 959, section 4.1.3).
 ghost use Rattle.std.specs.Prelude.{◌≡◌};
-ghost use Rattle.tool_polling.specs.Looking.{told_beside};
+ghost use Rattle.tool_polling.specs.Hangup.{told_beside};
 
 use ftp_ports::Spoken;
 
 /// How long the end of a control connection waits for octets of an upload, in milliseconds.
 pub(crate) const HELD_MILLIS: u64 = 10_000;
 
-/// What the end of a control connection does while octets come over a data connection.
+/// Whose data connections these are.
 #[derive(Clone, Copy)]
-pub(crate) enum Hangup {
-    /// It is told at once.
-    AtOnce,
-    /// It is told once the data connection ended or broke, or gave nothing for ten seconds.
-    AfterUpload,
+pub(crate) enum LinkOwner {
+    /// A client's: the end of its control connection is told at once.
+    Client,
+    /// A server's: the end of its control connection is told once the data connection of an upload ended or broke, or gave nothing for ten seconds. Its session
+    /// goes on without a data connection that failed, so that such a failure counts as something done.
+    Server,
 }
 
 /// What a data connection gives over which octets come.

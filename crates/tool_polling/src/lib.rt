@@ -4,15 +4,20 @@
 
 mod awaits;
 mod control;
+mod establishing;
 mod hangup;
 pub mod laws;
 mod leaving;
 mod line;
 mod link;
+mod link_look;
 mod opening;
 mod passive;
+mod pending_input;
 mod ports;
 mod session_timeouts;
+mod timeouts;
+mod turn_share;
 
 pub use awaits::Awaits;
 pub use control::{LineReader, LineWriter};
@@ -21,4 +26,5 @@ pub use line::ControlLine;
 pub use link::LineLink;
 pub use passive::PassivePorts;
 pub use ports::LinePorts;
-pub use session_timeouts::{TimeLimits, TimeoutReason, Timeouts};
+pub use session_timeouts::{TimeLimits, TimeoutReason};
+pub use timeouts::Timeouts;

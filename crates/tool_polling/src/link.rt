@@ -1,27 +1,19 @@
-// A data connection of a server, over which octets go where they can, and which is never waited for.
+// A data connection, over which octets go where they can, and which is never waited for.
 ghost use Rattle.std.specs.Global.{Global};
 
-use crate::awaits::{Awaits, look};
-use crate::hangup::{DataInput, HELD_MILLIS, Hangup, told_beside};
+use crate::hangup::LinkOwner;
 use crate::line::ControlLine;
-use ftp_ports::{Beside, Duplex, For, Ready, Spoken};
-use libc::net as c;
+use ftp_ports::{Duplex, For, Spoken};
 use libc::types::pollfd;
 use std::alloc::Global;
 use std::io;
 use std::io::{Error, ErrorKind, Read, Write};
 use std::net::{Shutdown, TcpStream};
 use std::rc::Rc;
-use tool_sockets::{
-    Heeds, Other, Woke, asking, drop_connection, limit_room, limit_untaken, monotonic_millis,
-    spoken_by, woken,
-};
+use tool_sockets::{Other, drop_connection, limit_room, limit_untaken, monotonic_millis};
 
 /// The most reads in a turn of octets that came behind the end of a transfer.
 const LAST_READS: u32 = 64;
-
-/// How long the last octets of a download wait after the end of the control connection, in milliseconds.
-const LAST_MILLIS: u64 = 30_000;
 
 /// The most octets of a download that wait in the system where a transfer that moves is spared: so a slow one has room for more while it moves.
 const SPARED_ROOM: i32 = 65_536;
@@ -31,32 +23,47 @@ const SPARED_ROOM: i32 = 65_536;
 /// connection while the peer takes some within 30 seconds.
 #[derive(Drop)]
 pub struct LineLink {
-    line: Rc<ControlLine, Global>,
-    stream: TcpStream,
-    /// Until when octets wait after the end of the control connection: what goes then is no sign of life.
-    outlives: Option<u64>,
-    /// The limit of octets that nobody takes, as it was set last.
+    pub(crate) line: Rc<ControlLine, Global>,
+    pub(crate) stream: TcpStream,
+    pub(crate) owner: LinkOwner,
+    pub(crate) time: LinkTime,
+    /// The limit of octets that nobody takes, as it was set last, in milliseconds.
     limit: i32,
     /// What the last look found of the control connection and of this one, until that is asked for.
-    seen: Option<(Spoken, Other)>,
-    /// Whether its time was over where it was looked at last, and nothing was there: the next read or write says so.
-    is_late: bool,
-    /// Whether the peer's end was told of, and whether it was read, behind all that it sent.
-    is_ending: bool,
-    has_ended: bool,
+    pub(crate) seen: Option<(Spoken, Other)>,
+    pub(crate) peer: PeerEnd,
     /// Whether nothing was looked for yet.
-    is_new: bool,
-    /// How many writes were made; from the second one on what is written goes at once.
-    writes: Writes,
-    /// What the end of the control connection does while octets come.
-    hangup: Hangup,
+    pub(crate) is_new: bool,
+    pub(crate) writes: Writes,
     /// Since when no octet came, where octets come and the control connection has ended: since its end at the earliest.
-    quiet_since: Option<u64>,
+    pub(crate) quiet_since: Option<u64>,
 }
 
-/// The writes of a data connection so far.
+/// How long a read or a write that would wait may be put off.
 #[derive(Clone, Copy)]
-enum Writes {
+pub(crate) enum LinkTime {
+    /// As long as the control connection and its timeouts last.
+    Lasts,
+    /// The control connection ended, and the last octets of a download go: until this moment in milliseconds. What goes then is no sign of life.
+    EndsAt(u64),
+    /// No longer: nothing was there at the last look. The next read or write says so.
+    IsOver,
+}
+
+/// How far the peer's end is known.
+#[derive(Clone, Copy)]
+pub(crate) enum PeerEnd {
+    /// No look told of it.
+    Unseen,
+    /// A look told of it, behind octets that are not read yet or none.
+    Told,
+    /// It was read, behind all that the peer sent.
+    Read,
+}
+
+/// The writes of a data connection so far; from the second one on what is written goes at once.
+#[derive(Clone, Copy)]
+pub(crate) enum Writes {
     Nothing,
     One,
     More,
@@ -68,11 +75,11 @@ fn lost() -> Error {
 }
 
 impl LineLink {
-    /// A data connection beside its control connection.
+    /// A data connection beside its control connection. Fails where the system refuses an option of it.
     pub(crate) fn new(
         line: Rc<ControlLine, Global>,
         stream: TcpStream,
-        hangup: Hangup,
+        owner: LinkOwner,
     ) -> io::Result<LineLink> {
         stream.set_nonblocking(true)?;
         if line.timeouts.are_transfers_spared() {
@@ -81,32 +88,47 @@ impl LineLink {
         Ok(LineLink {
             line,
             stream,
-            outlives: None,
+            owner,
+            time: LinkTime::Lasts,
             limit: 0,
             seen: None,
-            is_late: false,
-            is_ending: false,
-            has_ended: false,
+            peer: PeerEnd::Unseen,
             is_new: true,
             writes: Writes::Nothing,
-            hangup,
             quiet_since: None,
         })
     }
 
-    /// Fails where the last look found that nothing was there for as long as timeouts lasted.
+    /// Fails where the last look found that nothing was there and no time was left.
     fn check_time(&self) -> io::Result<()> {
-        if self.is_late { Err(lost()) } else { Ok(()) }
+        match self.time {
+            LinkTime::IsOver => Err(lost()),
+            LinkTime::Lasts | LinkTime::EndsAt(_) => Ok(()),
+        }
     }
 
     /// So many octets went over the connection.
     fn moved(&mut self, count: usize) {
-        if count > 0 {
-            self.line.data_went(count);
-            self.quiet_since = self.quiet_since.map(|_| monotonic_millis());
-            if self.outlives.is_none() {
-                self.line.timeouts.carry();
+        if count == 0 {
+            return;
+        }
+        self.line.data_went(count);
+        self.quiet_since = self.quiet_since.map(|_| monotonic_millis());
+        match self.time {
+            LinkTime::Lasts | LinkTime::IsOver => self.line.timeouts.carry(),
+            LinkTime::EndsAt(_) => {}
+        }
+    }
+
+    /// A read or a write ended so: a failure is something done where the session goes on without this connection.
+    fn note(&self, moved: &io::Result<usize>) {
+        match self.owner {
+            LinkOwner::Server => {
+                if moved.is_err() {
+                    self.line.timeouts.touch();
+                }
             }
+            LinkOwner::Client => {}
         }
     }
 
@@ -124,7 +146,7 @@ impl LineLink {
     }
 
     /// Limits how long what is written waits for the peer to take it, where there is no room for more: octets that only the system took are no sign of life.
-    fn limit(&mut self) {
+    pub(crate) fn limit(&mut self) {
         let limit = self.line.timeouts.untaken_millis();
         if limit != self.limit {
             self.limit = limit;
@@ -132,156 +154,13 @@ impl LineLink {
         }
     }
 
-    /// The row of the connection itself.
-    fn row(&self, what: For) -> pollfd {
-        match what {
-            For::Octets => asking(&self.stream, c::POLLIN | c::POLLRDHUP),
-            For::Room => asking(&self.stream, c::POLLOUT),
-        }
-    }
-
-    /// The session is ended, or no time is left of it: its control connection has ended. So an upload is dropped, and no part of it takes a file's place; of a
-    /// download whose last octets go, these fail.
-    fn cut(&mut self, beside: Beside) {
-        match beside {
-            Beside::Nothing => self.is_late = true,
-            Beside::End | Beside::Octets => self.seen = Some((Spoken::Ended, Other::Waits)),
-        }
-    }
-
-    /// Whether octets can be read or written, or what is awaited beside is there; so many go in a turn.
-    pub(crate) fn looks(&mut self, what: For, beside: Beside) -> Result<(), Awaits> {
-        if self.line.timeouts.is_spent() {
-            self.cut(beside);
-            return Ok(());
-        }
-        let mut rows = [self.line.row(events_beside(beside)), self.row(what)];
-        if self.line.has_moved() || self.comes_later(what) {
-            return Err(Awaits::both(rows[0], rows[1]));
-        }
-        if self.is_there(what) {
-            self.seen = Some((Spoken::Nothing, Other::Ready));
-            return Ok(());
-        }
-        self.line.ask(&self.stream, &mut rows);
-        let other = other_by(rows[1].revents);
-        let control = self.told(what, beside, spoken_by(rows[0].revents), other);
-        if is_told(beside, control, other) {
-            self.is_ending = is_end(what, rows[1].revents);
-            self.seen = Some((control, other));
-            return Ok(());
-        }
-        if let For::Room = what {
-            self.limit();
-        }
-        if self.line.timeouts.spent().is_some() {
-            self.is_late = true;
-            return Ok(());
-        }
-        match beside {
-            Beside::Nothing => self.outlive(control, rows),
-            Beside::End | Beside::Octets => Err(self.awaits_beside(rows)),
-        }
-    }
-
-    /// What is told of the control connection, which has this: where octets come, its end waits for theirs. Octets before its end are told.
-    fn told(&mut self, what: For, beside: Beside, control: Spoken, other: Other) -> Spoken {
-        if !matches!((self.hangup, what), (Hangup::AfterUpload, For::Octets)) {
-            return control;
-        }
-        if control != Spoken::Ended {
-            return control;
-        }
-        if beside == Beside::Octets && self.line.has_unread() {
-            return Spoken::Octets;
-        }
-        let gift = self.gift(other);
-        told_beside(control, gift)
-    }
-
-    /// What the data connection gives beside a control connection that has ended.
-    fn gift(&mut self, other: Other) -> DataInput {
-        let now = monotonic_millis();
-        let since = self.quiet_since.unwrap_or(now);
-        self.quiet_since = Some(since);
-        match other {
-            Other::Ready => DataInput::Something,
-            Other::Waits => DataInput::NothingFor(now.saturating_sub(since)),
-        }
-    }
-
-    /// What is waited for where octets come: the end of the control connection only while it was not told.
-    fn awaits_beside(&self, rows: [pollfd; 2]) -> Awaits {
-        match self.quiet_since {
-            Some(since) => Awaits::one(rows[1]).or_until(since.saturating_add(HELD_MILLIS)),
-            None => Awaits::both(rows[0], rows[1]),
-        }
-    }
-
-    /// Whether what is waited for is surely there: room for the first write, and the peer's end that was told of.
-    fn is_there(&self, what: For) -> bool {
-        match (what, self.writes) {
-            (For::Room, Writes::Nothing) => true,
-            (For::Room, Writes::One | Writes::More) => false,
-            (For::Octets, _) => self.is_ending,
-        }
-    }
-
-    /// Whether octets are not looked for in this turn: the first ones, for which a reply asked that went in it.
-    fn comes_later(&mut self, what: For) -> bool {
-        let comes_later = self.is_new && matches!(what, For::Octets) && self.line.has_spoken();
-        self.is_new = false;
-        comes_later
-    }
-
-    /// The last octets wait for room: for half a minute after the end of the control connection.
-    fn outlive(&mut self, control: Spoken, rows: [pollfd; 2]) -> Result<(), Awaits> {
-        if control != Spoken::Ended {
-            return Err(Awaits::both(rows[0], rows[1]));
-        }
-        let now = monotonic_millis();
-        let until = self.outlives.unwrap_or(now.saturating_add(LAST_MILLIS));
-        self.outlives = Some(until);
-        if now < until {
-            Err(Awaits::one(rows[1]).or_until(until))
-        } else {
-            Ok(())
-        }
-    }
-
-    /// Which connection is to be served; where `hears`, octets of the control connection go first.
-    pub(crate) fn ready(&mut self, what: For, hears: bool) -> Ready {
-        let (beside, heeds) = if hears {
-            (Beside::Octets, Heeds::OctetsFirst)
-        } else {
-            (Beside::End, Heeds::End)
-        };
-        let (control, other) = match self.seen.take() {
-            Some(seen) => seen,
-            None => self.both(what, beside),
-        };
-        match woken(control, other, heeds) {
-            Woke::Spoken => Ready::Control,
-            Woke::Ended => Ready::Lost,
-            Woke::Ready | Woke::TimeOver | Woke::Failed => Ready::Data,
-        }
-    }
-
-    /// What the control connection and this one have now.
-    fn both(&self, what: For, beside: Beside) -> (Spoken, Other) {
-        if self.line.timeouts.is_spent() {
-            return (Spoken::Ended, Other::Waits);
-        }
-        let mut rows = [self.line.row(events_beside(beside)), self.row(what)];
-        look(&mut rows);
-        (spoken_by(rows[0].revents), other_by(rows[1].revents))
-    }
-
     /// What a read or a write meets that would wait.
     fn halted(&self) -> Error {
-        let is_late = self
-            .outlives
-            .is_some_and(|until| until <= monotonic_millis());
+        let is_late = match self.time {
+            LinkTime::Lasts => false,
+            LinkTime::EndsAt(until) => until <= monotonic_millis(),
+            LinkTime::IsOver => true,
+        };
         if is_late || self.line.timeouts.spent().is_some() {
             lost()
         } else {
@@ -291,7 +170,7 @@ impl LineLink {
 
     /// Whether the peer's end was read, behind all that it sent: such a connection can be dropped, and nothing of what was sent is lost.
     pub(crate) fn has_ended(&self) -> bool {
-        self.has_ended
+        matches!(self.peer, PeerEnd::Read)
     }
 
     /// Sends nothing more: the peer finds the end behind all that was sent.
@@ -324,40 +203,6 @@ impl LineLink {
     }
 }
 
-/// Whether a waiting is over, by what is there.
-fn is_told(beside: Beside, control: Spoken, other: Other) -> bool {
-    match (beside, control, other) {
-        (_, _, Other::Ready) => true,
-        (Beside::Nothing, _, Other::Waits) | (_, Spoken::Nothing, Other::Waits) => false,
-        (Beside::End | Beside::Octets, _, Other::Waits) => true,
-    }
-}
-
-/// Whether the peer's end is there, behind octets that are not read yet or none.
-fn is_end(what: For, events: i16) -> bool {
-    match what {
-        For::Octets => events & c::POLLRDHUP != 0,
-        For::Room => false,
-    }
-}
-
-/// Whether a data connection is ready, by its events.
-fn other_by(events: i16) -> Other {
-    if events == 0 {
-        Other::Waits
-    } else {
-        Other::Ready
-    }
-}
-
-/// The events of the control connection that are awaited beside a data connection: of one whose last octets go its end, since those wait for less then.
-pub(crate) fn events_beside(beside: Beside) -> i16 {
-    match beside {
-        Beside::Nothing | Beside::End => c::POLLRDHUP,
-        Beside::Octets => c::POLLIN | c::POLLRDHUP,
-    }
-}
-
 impl Read for LineLink {
     fn read(&mut self, room: &mut [u8]) -> io::Result<usize> {
         self.check_time()?;
@@ -365,7 +210,9 @@ impl Read for LineLink {
             Err(error) if error.kind() == ErrorKind::WouldBlock => Err(self.halted()),
             Ok(count) => {
                 self.moved(count);
-                self.has_ended = count == 0 && !room.is_empty();
+                if count == 0 && !room.is_empty() {
+                    self.peer = PeerEnd::Read;
+                }
                 Ok(count)
             }
             failed => failed,
@@ -397,10 +244,14 @@ impl Write for LineLink {
 
 impl Duplex for LineLink {
     fn receive(&mut self, room: &mut [u8]) -> io::Result<usize> {
-        self.read(room)
+        let read = self.read(room);
+        self.note(&read);
+        read
     }
 
     fn send(&mut self, octets: &[u8]) -> io::Result<usize> {
-        self.write(octets)
+        let written = self.write(octets);
+        self.note(&written);
+        written
     }
 }

@@ -1,7 +1,7 @@
 // The ports that passive data connections are listened at.
-ghost use Rattle.std.specs.Prelude.{◌≡◌};
+ghost use Rattle.std.specs.Prelude.{◌≡◌, max};
 ghost use Rattle.std.specs.Global.{Global};
-ghost use Rattle.tool_polling.specs.Looking.{is_given_up, next_port};
+ghost use Rattle.tool_polling.specs.PassivePorts.{is_given_up, next_port};
 
 use crate::awaits::look;
 use libc::net as c;
@@ -88,7 +88,10 @@ pub struct PassivePorts {
 
 impl PassivePorts {
     /// These ports, from the first one on. Where `last` is before `first`, the first alone.
-    pub fn new(alloc: Global, first: u16, last: u16) -> PassivePorts {
+    pub fn new(alloc: Global, first: u16, last: u16) -> PassivePorts
+        ensures first { result.first ≡ first }
+        ensures last { result.last ≡ max first last }
+    {
         PassivePorts {
             first,
             last: first.max(last),
@@ -100,14 +103,17 @@ impl PassivePorts {
     }
 
     /// The same, of which one that nobody opened for ten seconds is given up where another is wanted and none is free.
-    pub fn given_up(alloc: Global, first: u16, last: u16) -> PassivePorts {
+    pub fn given_up(alloc: Global, first: u16, last: u16) -> PassivePorts
+        ensures first { result.first ≡ first }
+        ensures last { result.last ≡ max first last }
+    {
         PassivePorts {
             unopened: Unopened::IsGivenUp,
             ..PassivePorts::new(alloc, first, last)
         }
     }
 
-    /// Listens at the next of the ports that is free; where none is, one is wanted.
+    /// Listens at the next of the ports that is free (RFC 959, section 4.1.2, PASV); where none is, it fails, and one is wanted.
     pub(crate) fn listen<R: Sockets>(&self, net: &R, here: IpAddr) -> io::Result<Listening> {
         let mut listening = self.next_free(net, here);
         match &mut listening {
