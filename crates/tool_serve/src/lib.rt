@@ -2,7 +2,6 @@
 #![tactic(auto)]
 
 mod accounts;
-mod alone;
 mod begins;
 mod ceiling;
 mod connections;
@@ -23,15 +22,11 @@ mod text;
 mod watching;
 
 pub use accounts::accounts_of;
-pub use alone::session;
 pub use ftp_disk_tree::{Odd, Others};
 pub use ftp_tree::Limits;
 pub use laws::each_served_is_one_drive;
 pub use serving::{Serving, serve};
-pub use session_in_slot::{Guest, Service};
 pub use session_log::Log;
 pub use sessions::SessionCount;
-pub use tool_log::LogLines;
-pub use tool_login_limit::LoginLimiter;
-pub use tool_polling::{PassivePorts, TimeLimits as Waits};
+pub use tool_polling::TimeLimits as Waits;
 pub use tool_scheduler::Input;

@@ -4,12 +4,13 @@ ghost use Rattle.ftp_server_driver.specs.shared.Lending.{holding};
 ghost use Rattle.tool_serve.specs.Served.{Starts};
 ghost use Rattle.tool_serve.specs.Sharing.{TakesSlotTurn, ended_by, stand_of};
 
-use crate::connections::{CountedLink, CountedPorts, SaidWriter};
+use crate::connections::{LoggedPorts, SaidWriter};
 use crate::goodbye::last_reply;
 use crate::log_line::Tells;
 use crate::session_log::{Log, SessionLog};
 use crate::watching::Watching;
 use ftp_disk_tree::Prepares;
+use ftp_endpoint::Host;
 use ftp_operation::Accounts;
 use ftp_ports::{Cause, Ports};
 use ftp_server_driver::{Clocked, Control, Data, Turned, lent_turns};
@@ -23,7 +24,7 @@ use std::rc::Rc;
 use std::time::Clock;
 use tool_log::LogLines;
 use tool_login_limit::LoginLimiter;
-use tool_polling::{Awaits, Leaving, LineReader, PassivePorts, TimeLimits, Timeouts};
+use tool_polling::{Awaits, Leaving, LineLink, LineReader, PassivePorts, TimeLimits, Timeouts};
 use tool_scheduler::{Slot, Turn, TurnResult};
 use tool_sockets::{Sockets, SystemWatch};
 
@@ -32,7 +33,7 @@ const MOST: u64 = 1_024;
 
 /// What a session needs of whoever serves it.
 #[derive(Clone, Copy)]
-pub struct Service<'a> {
+pub(crate) struct Service<'a> {
     pub log: Log,
     pub passive: &'a PassivePorts,
     /// The address that PASV names in place of that which the client reached, where both are of one family.
@@ -45,7 +46,7 @@ pub struct Service<'a> {
 
 /// A client that came: who may log in, its control connection, how long it is waited for, and what its session needs.
 #[derive(Drop)]
-pub struct Guest<'a> {
+pub(crate) struct Guest<'a> {
     pub accounts: Accounts<Global>,
     pub stream: TcpStream,
     pub waits: TimeLimits,
@@ -63,8 +64,7 @@ enum SessionOutcome {
     Off,
 }
 
-/// A session: its server with a clock, its control connection, its data connections, and the session_log. Between its turns the server holds a tree that has
-/// nothing.
+/// A session: its server with a clock, its control connection, its data connections, and its log. Between its turns the server holds a tree that has nothing.
 pub struct ServerSession<'a, R, T, F>
 where
     R: Sockets + Tells + Clock,
@@ -73,8 +73,8 @@ where
 {
     clocked: Clocked<F, SystemWatch<'a, R>, Watching<'a, R, T>>,
     control: Control<LineReader, SaidWriter<'a, R>>,
-    ports: CountedPorts<'a, R>,
-    data: Data<CountedLink<'a, R>>,
+    ports: LoggedPorts<'a, R>,
+    data: Data<LineLink>,
     /// What stood at the path of an upload when the tree was last given back.
     stood: Option<Standing>,
     session_log: Rc<SessionLog<'a, R>, Global>,
@@ -103,11 +103,22 @@ where
     }
 }
 
-/// The connections of a session that begins.
+/// The hosts of a session: the one that PASV names, and the client's.
+#[derive(Clone, Copy)]
+pub(crate) struct SessionHosts {
+    pub(crate) here: Host,
+    pub(crate) peer: Host,
+}
+
+/// The connections of a session that begins, and its session log.
 #[derive(Drop)]
 pub(crate) struct Connected<'a, R: Sockets + Tells> {
+    pub(crate) hosts: SessionHosts,
     pub(crate) control: Control<LineReader, SaidWriter<'a, R>>,
-    pub(crate) ports: CountedPorts<'a, R>,
+    pub(crate) ports: LoggedPorts<'a, R>,
+    pub(crate) session_log: Rc<SessionLog<'a, R>, Global>,
+    /// The same log, for whoever looks on while the server is driven.
+    pub(crate) watched: Rc<SessionLog<'a, R>, Global>,
 }
 
 impl<'a, R, T, F> ServerSession<'a, R, T, F>
@@ -116,23 +127,27 @@ where
     T: Tree<Global> + Prepares,
     F: Lends<Global, T>,
 {
-    /// A session that begins, of a server that has a bare tree; `watching` is its session log too.
+    /// A session that begins, of a server that has a bare tree.
     pub(crate) fn new(
         rt: &'a R,
         server: F,
         connected: Connected<'a, R>,
-        watching: Watching<'a, R, T>,
-        session_log: Rc<SessionLog<'a, R>, Global>,
     ) -> ServerSession<'a, R, T, F>
         ensures { Starts result.stood (stand_of F.Far.server result.clocked result.control result.data) }
     {
+        let Connected {
+            hosts: _,
+            control,
+            ports,
+            session_log,
+            watched,
+        } = connected;
         session_log.note("begins");
-        let Connected { control, ports } = connected;
         ServerSession {
             clocked: Clocked {
                 server,
                 watch: SystemWatch::new(rt),
-                watcher: watching,
+                watcher: Watching::new(rt, watched),
             },
             control,
             ports,
@@ -223,8 +238,8 @@ where
 fn some_turns<'a, R, T, F>(
     clocked: &mut Clocked<F, SystemWatch<'a, R>, Watching<'a, R, T>>,
     control: &mut Control<LineReader, SaidWriter<'a, R>>,
-    ports: &mut CountedPorts<'a, R>,
-    link: &mut Data<CountedLink<'a, R>>,
+    ports: &mut LoggedPorts<'a, R>,
+    link: &mut Data<LineLink>,
     tree: &mut T,
     stood: &mut Option<Standing>,
 ) -> Result<Turned<()>, Cause>
@@ -241,7 +256,7 @@ where
         F,
         LineReader,
         SaidWriter<'a, R>,
-        CountedPorts<'a, R>,
+        LoggedPorts<'a, R>,
         SystemWatch<'a, R>,
         Watching<'a, R, T>,
     >(clocked, control, ports, link, tree, stood, MOST)

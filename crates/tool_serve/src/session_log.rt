@@ -68,7 +68,6 @@ pub(crate) struct SessionLog<'a, R: Tells> {
     closed: Cell<Option<LoggedLine>>,
     /// Whether a data connection stands.
     is_open: Cell<bool>,
-    moved: Cell<u64>,
     fate: Cell<DataClose>,
     /// Why the folder failed last, where no line was told of that yet.
     why: Cell<Option<io::Error>>,
@@ -106,7 +105,6 @@ impl<'a, R: Tells> SessionLog<'a, R> {
             pending: Cell::new(None),
             closed: Cell::new(None),
             is_open: Cell::new(false),
-            moved: Cell::new(0),
             fate: Cell::new(DataClose::Ended),
             why: Cell::new(None),
             copied: Cell::new(None),
@@ -380,12 +378,6 @@ impl<'a, R: Tells> SessionLog<'a, R> {
         self.is_open.set(true);
     }
 
-    /// Octets went over a data connection.
-    pub(crate) fn carry(&self, count: usize) {
-        self.moved
-            .set(self.moved.get().saturating_add(count as u64));
-    }
-
     /// A data connection was closed.
     pub(crate) fn parted(&self, fate: DataClose) {
         self.fate.set(fate);
@@ -421,7 +413,7 @@ impl<'a, R: Tells> SessionLog<'a, R> {
             user: user.octets(),
             verb: closed.asked.verb,
             names: closed.asked.names.octets(),
-            moved: self.moved.replace(0),
+            moved: self.line.take_transferred(),
             outcome: LineOutcome {
                 code: closed.code,
                 fate: self.fate.replace(DataClose::Ended),

@@ -7,19 +7,18 @@ ghost use Rattle.tool_serve.specs.Sharing.{stand_of};
 
 use crate::accounts::accounts_told;
 use crate::begins::Begins;
-use crate::connections::{CountedPorts, SaidWriter};
+use crate::connections::{LoggedPorts, SaidWriter};
 use crate::goodbye::{guessed_from, no_slot};
 use crate::log_line::{NoClient, SessionNote, Tells};
 use crate::serving::Serving;
-use crate::session_in_slot::{Connected, Guest, ServerSession, Service};
+use crate::session_in_slot::{Connected, Guest, ServerSession, Service, SessionHosts};
 use crate::session_log::{Log, SessionLog};
 use crate::sessions::SessionCount;
-use crate::watching::Watching;
 use ftp_disk_tree::{Parks, Prepares};
 use ftp_endpoint::Host;
 use ftp_server_driver::Control;
 use ftp_tree::Tree;
-use std::alloc::{AllocError, Global};
+use std::alloc::Global;
 use std::fs::Files;
 use std::io;
 use std::marker::PhantomData;
@@ -158,49 +157,86 @@ where
         waits,
         service,
     } = guest;
-    let Ok(line) = ControlLine::new(stream, waits) else {
-        return None;
-    };
-    let (Ok(here), Ok(peer)) = (line.here(), line.peer()) else {
-        return None;
-    };
-    let here = told_host(service.passive_address, host_of(here));
-    let server = begins.begin(rt.alloc(), tree.bare(), accounts, here, host_of(peer))?;
-    let Ok(line) = Rc::new(rt.alloc(), line) else {
-        return None;
-    };
-    let Ok(journal_line) = line.clone() else {
-        return None;
-    };
-    let session_log = SessionLog::new(rt, journal_line, peer, service);
-    let Ok(session_log) = Rc::new(rt.alloc(), session_log) else {
-        return None;
-    };
-    let Ok(Some(connected)) = connected(rt, &line, &session_log, service) else {
-        return None;
-    };
-    let Ok(watched) = session_log.clone() else {
-        return None;
-    };
-    let watching = Watching::new(rt, watched);
-    Some(ServerSession::new(rt, server, connected, watching, session_log))
+    let connected = connected(rt, stream, waits, service)?;
+    let SessionHosts { here, peer } = connected.hosts;
+    let server = begins.begin(rt.alloc(), tree.bare(), accounts, here, peer)?;
+    Some(ServerSession::new(rt, server, connected))
 }
 
-/// The connections of a session that begins; none where an address of its control connection is not had.
-fn connected<'a, R: Sockets + Tells>(
+/// The connections of a session that begins; none where its control connection failed, or memory is refused.
+fn connected<'a, R: Sockets + Tells + AllocGlobal>(
+    rt: &'a R,
+    stream: TcpStream,
+    waits: TimeLimits,
+    service: Service<'a>,
+) -> Option<Connected<'a, R>> {
+    let line = ControlLine::new(stream, waits).ok()?;
+    let line = Rc::new(rt.alloc(), line).ok()?;
+    connected_at(rt, &line, service)
+}
+
+/// The same at a control connection that stands.
+fn connected_at<'a, R: Sockets + Tells + AllocGlobal>(
+    rt: &'a R,
+    line: &Rc<ControlLine, Global>,
+    service: Service<'a>,
+) -> Option<Connected<'a, R>> {
+    let hosts = hosts_of(line, service)?;
+    let session_log = log_of(rt, line, service)?;
+    let watched = session_log.clone().ok()?;
+    let control = control_of(line, &session_log)?;
+    let ports = ports_of(rt, line, &session_log, service)?;
+    Some(Connected {
+        hosts,
+        control,
+        ports,
+        session_log,
+        watched,
+    })
+}
+
+/// The hosts at both ends of a control connection; none where the system does not tell an address of it.
+fn hosts_of(line: &ControlLine, service: Service<'_>) -> Option<SessionHosts> {
+    let here = host_of(line.here().ok()?);
+    let peer = host_of(line.peer().ok()?);
+    Some(SessionHosts {
+        here: told_host(service.passive_address, here),
+        peer,
+    })
+}
+
+/// The session log at a control connection.
+fn log_of<'a, R: Tells + AllocGlobal>(
+    rt: &'a R,
+    line: &Rc<ControlLine, Global>,
+    service: Service<'a>,
+) -> Option<Rc<SessionLog<'a, R>, Global>> {
+    let peer = line.peer().ok()?;
+    let log = SessionLog::new(rt, line.clone().ok()?, peer, service);
+    Rc::new(rt.alloc(), log).ok()
+}
+
+/// The reader and the writer of a control connection.
+fn control_of<'a, R: Tells>(
+    line: &Rc<ControlLine, Global>,
+    session_log: &Rc<SessionLog<'a, R>, Global>,
+) -> Option<Control<LineReader, SaidWriter<'a, R>>> {
+    let reader = LineReader::new(line.clone().ok()?);
+    let writer = LineWriter::new(line.clone().ok()?);
+    let writer = SaidWriter::new(writer, session_log.clone().ok()?);
+    Some(Control::new(reader, writer))
+}
+
+/// What opens and closes data connections beside a control connection.
+fn ports_of<'a, R: Sockets + Tells>(
     rt: &'a R,
     line: &Rc<ControlLine, Global>,
     session_log: &Rc<SessionLog<'a, R>, Global>,
     service: Service<'a>,
-) -> Result<Option<Connected<'a, R>>, AllocError> {
-    let Ok(inner) = LinePorts::serving(rt, line.clone()?, service.passive) else {
-        return Ok(None);
-    };
-    let ports = CountedPorts {
+) -> Option<LoggedPorts<'a, R>> {
+    let inner = LinePorts::serving(rt, line.clone().ok()?, service.passive).ok()?;
+    Some(LoggedPorts {
         inner,
-        session_log: session_log.clone()?,
-    };
-    let writer = SaidWriter::new(LineWriter::new(line.clone()?), session_log.clone()?);
-    let control = Control::new(LineReader::new(line.clone()?), writer);
-    Ok(Some(Connected { control, ports }))
+        session_log: session_log.clone().ok()?,
+    })
 }
