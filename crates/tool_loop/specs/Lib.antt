@@ -1,1 +1,1 @@
--- no definitions yet
+pub mod Way

@@ -5,7 +5,7 @@ use crate::ports::LoopPorts;
 use crate::socket::Socket;
 use std::io;
 
-/// The two sockets of a control connection, the client's and the server's, and the door of each.
+/// The two sockets of a control connection, the client's and the server's, and where each of them awaits data connections.
 pub(crate) struct Between {
     pub(crate) asks: Socket,
     pub(crate) serves: Socket,
@@ -13,7 +13,7 @@ pub(crate) struct Between {
     far: PassiveListener,
 }
 
-/// By hand, as that of a door.
+/// By hand: a derived drop is proved again, part by part, wherever this is let go.
 impl Drop for Between {
     fn drop(self) {
         let Self {
@@ -26,7 +26,7 @@ impl Drop for Between {
 }
 
 impl Between {
-    /// A control connection that is opened for both.
+    /// A control connection that is opened for both; fails where the system opens none, or memory is refused.
     pub(crate) fn new<J: Joins>(net: &J) -> io::Result<Between> {
         let listener = net.bound()?;
         let (asks, serves) = net.joined(&listener)?;
@@ -38,12 +38,12 @@ impl Between {
         })
     }
 
-    /// The data connections of the client.
+    /// The data connections of the client, which are lent both sockets and the listeners.
     pub(crate) fn client_ports<'h, J: Joins>(&'h self, net: &'h J) -> LoopPorts<'h, J> {
         LoopPorts::new(net, &self.asks, &self.near, &self.far)
     }
 
-    /// The data connections of the server.
+    /// The data connections of the server, which are lent the same the other way round.
     pub(crate) fn server_ports<'h, J: Joins>(&'h self, net: &'h J) -> LoopPorts<'h, J> {
         LoopPorts::new(net, &self.serves, &self.far, &self.near)
     }

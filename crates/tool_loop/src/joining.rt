@@ -14,10 +14,10 @@ pub(crate) trait Joins {
     /// Where memory is had.
     fn heap(&self) -> Global;
 
-    /// Listens at a port of the loopback that the system chooses.
+    /// Listens at a port of the loopback (127.0.0.1) that the system chooses; fails where it gives none.
     fn bound(&self) -> io::Result<TcpListener>;
 
-    /// Connects to a port that this process listens at: the socket that connects, and the one that comes.
+    /// Connects to a port that this process listens at: the socket that connects, and the one that comes. Fails where the system or memory refuses it.
     fn joined(&self, listener: &TcpListener) -> io::Result<(Socket, Socket)>;
 }
 

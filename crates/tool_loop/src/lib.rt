@@ -7,6 +7,7 @@ mod joining;
 mod orders;
 mod pair;
 mod passive_listener;
+mod pipe;
 mod playing;
 mod ports;
 mod server;

@@ -11,7 +11,7 @@ pub(crate) struct PassiveListener {
     came: RefCell<Option<Socket>>,
 }
 
-/// By hand: a derived drop is proved again, part by part, wherever a door is let go.
+/// By hand: a derived drop is proved again, part by part, wherever this is let go.
 impl Drop for PassiveListener {
     fn drop(self) {
         let Self {
@@ -30,7 +30,7 @@ impl PassiveListener {
         }
     }
 
-    /// Listens at a port, and says which.
+    /// Listens at a port of the system's choice, and says which; one that was listened at before is let go.
     pub(crate) fn listen<J: Joins>(&self, net: &J) -> io::Result<u16> {
         let listener = net.bound()?;
         let port = listener.local_addr()?.port();
@@ -38,7 +38,7 @@ impl PassiveListener {
         Ok(port)
     }
 
-    /// Connects to the port, where it is the one that is listened at: then nothing more is.
+    /// Connects to the port, where it is the one that is listened at: then nothing more is. None where it is another one, or the system refuses it.
     pub(crate) fn join<J: Joins>(&self, net: &J, port: u16) -> Option<Socket> {
         let listener = self.listener.try_replace(None).ok()??;
         if listener.local_addr().ok()?.port() != port {
@@ -58,7 +58,7 @@ impl PassiveListener {
         }
     }
 
-    /// The data connection that came.
+    /// The data connection that came, which is given once.
     pub(crate) fn take(&self) -> Option<Socket> {
         self.came.try_replace(None).ok()?
     }

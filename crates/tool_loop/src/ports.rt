@@ -11,8 +11,8 @@ use ftp_ports::{Accepted, Awaited, Beside, For, Ports, Ready, Spoken, Whole};
 /// The host of both ends.
 pub(crate) const HERE: Host = Host::V4(LOOPBACK);
 
-/// Data connections beside a control connection; the other end's are opened to its door. Nothing is waited for: all that is not on its way stays away
-/// until the other end has its turn.
+/// Data connections beside a control connection (RFC 959, section 3.2); those to the other end go to the port where that listens. Nothing is waited for: all
+/// that is not on its way stays away until the other end has its turn.
 #[derive(Drop)]
 pub(crate) struct LoopPorts<'h, J> {
     net: &'h J,
@@ -22,6 +22,7 @@ pub(crate) struct LoopPorts<'h, J> {
 }
 
 impl<'h, J: Joins> LoopPorts<'h, J> {
+    /// None is open yet; `own` is where this end listens, and `other` where the other one does.
     pub(crate) fn new(
         net: &'h J,
         control: &'h Socket,

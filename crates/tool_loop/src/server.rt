@@ -21,6 +21,15 @@ impl Watch for OrderWatch {
     }
 }
 
+/// Where the drive of a server stands.
+#[derive(Clone, Copy)]
+enum DriveState {
+    /// It goes on.
+    UnderWay,
+    /// The server was done, or the drive broke off.
+    Over,
+}
+
 /// A server over a tree in memory, beside its connections.
 pub(crate) struct ServerSlot<'h, J, S>
 where
@@ -32,7 +41,7 @@ where
     control: Control<ControlSocket<'h>, ControlSocket<'h>>,
     ports: LoopPorts<'h, J>,
     data: Data<Socket>,
-    is_over: bool,
+    state: DriveState,
 }
 
 /// Its data connection is closed, if one stands.
@@ -48,7 +57,7 @@ where
             control: _,
             ports,
             data,
-            is_over: _,
+            state: _,
         } = self;
         let mut ports = ports;
         data.finish(&mut ports);
@@ -78,7 +87,7 @@ where
             control: Control::new(ControlSocket::new(line), ControlSocket::new(line)),
             ports,
             data: Data::new(),
-            is_over: false,
+            state: DriveState::UnderWay,
         }
     }
 
@@ -89,9 +98,9 @@ where
 
     /// A turn of its drive, where that would not wait; says whether one was made. Behind the last one it says nothing more.
     pub(crate) fn turn(&mut self) -> bool {
-        if self.is_over {
+        let DriveState::UnderWay = self.state else {
             return false;
-        }
+        };
         match self.drive() {
             Ok(Turned::Later) => false,
             Ok(Turned::More) => true,
@@ -102,7 +111,7 @@ where
 
     /// The drive is over, behind a turn.
     fn end(&mut self) -> bool {
-        self.is_over = true;
+        self.state = DriveState::Over;
         self.line.end();
         true
     }

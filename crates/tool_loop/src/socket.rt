@@ -2,7 +2,8 @@
 ghost use Rattle.std.specs.Prelude.{◌≤◌, IfOk, length};
 ghost use Rattle.std.specs.Global.{Global};
 
-use crate::way::{Flow, Pipe};
+use crate::pipe::Pipe;
+use crate::way::Flow;
 use ftp_ports::{Duplex, For, Spoken};
 use std::alloc::Global;
 use std::io;
@@ -10,7 +11,7 @@ use std::io::{Error, ErrorKind, Read, Write};
 use std::net::{Shutdown, TcpStream};
 use std::rc::Rc;
 
-/// The most octets that an end owes at once over a control connection.
+/// The most octets that an end owes at once over a control connection: what `Awaited::Replies` asks room for here.
 const REPLIES: usize = 3072;
 
 /// One of the two sockets of a connection. What would wait fails as `WouldBlock`: who looks first does not meet that.
@@ -33,7 +34,7 @@ impl Drop for Socket {
 }
 
 impl Socket {
-    /// The two sockets of a connection over which nothing went yet; each write goes out at once.
+    /// The two sockets of a connection over which nothing went yet; each write goes out at once. Fails where memory is refused.
     pub(crate) fn both(
         alloc: Global,
         one: TcpStream,
@@ -56,48 +57,39 @@ impl Socket {
         Ok((near, far))
     }
 
-    /// Whether a read ends at once.
+    /// Whether octets can be read, or the end or the break is there: a read ends at once.
     pub(crate) fn has_octets(&self) -> bool {
-        self.coming.has_octets() || self.coming.flow() != Flow::Open
-    }
-
-    /// Whether a write ends at once.
-    pub(crate) fn has_room(&self) -> bool {
-        self.going.room() > 0 || self.going.flow() != Flow::Open
+        self.coming.way().reads_at_once()
     }
 
     /// Whether there is room for what an end owes at once over a control connection, or nobody takes it.
     pub(crate) fn has_room_for_replies(&self) -> bool {
-        self.going.room() >= REPLIES || self.going.flow() != Flow::Open
+        self.going.way().writes_at_once(REPLIES)
     }
 
-    /// Whether what is waited for is there.
+    /// Whether what is waited for is there: a read, or a write of one octet, ends at once.
     pub(crate) fn is_ready(&self, what: For) -> bool {
         match what {
             For::Octets => self.has_octets(),
-            For::Room => self.has_room(),
+            For::Room => self.going.way().writes_at_once(1),
         }
     }
 
     /// What it has, as a control connection.
     pub(crate) fn spoken(&self) -> Spoken {
-        match self.coming.flow() {
-            Flow::Ended | Flow::Broken => Spoken::Ended,
-            Flow::Open if self.coming.has_octets() => Spoken::Octets,
-            Flow::Open => Spoken::Nothing,
-        }
+        self.coming.way().spoken()
     }
 
-    /// Reads what is on its way; none is the end behind it.
+    /// Reads what is on its way; none is the end behind it. Fails as `ConnectionReset` where the way was cut, and as `WouldBlock` where nothing is on it.
     pub(crate) fn receive_some(&self, room: &mut [u8]) -> io::Result<usize>
         ensures within { IfOk result (λ count. count ≤ length room.new) }
     {
-        match self.coming.flow() {
-            Flow::Broken => return Err(Error::from(ErrorKind::ConnectionReset)),
-            Flow::Open if !self.coming.has_octets() => {
-                return Err(Error::from(ErrorKind::WouldBlock));
-            }
-            Flow::Open | Flow::Ended => {}
+        let way = self.coming.way();
+        if let Flow::Broken = way.flow {
+            return Err(Error::from(ErrorKind::ConnectionReset));
+        }
+        if !way.reads_at_once() {
+            return Err(Error::from(ErrorKind::WouldBlock));
         }
         let mut stream = &self.stream;
         let count = stream.read(room)?;
@@ -105,14 +97,15 @@ impl Socket {
         Ok(count)
     }
 
-    /// Writes as many octets as there is room for.
+    /// Writes as many octets as there is room for. Fails as `BrokenPipe` where nobody takes any, and as `WouldBlock` where there is no room.
     pub(crate) fn send_some(&self, octets: &[u8]) -> io::Result<usize>
         ensures within { IfOk result (λ count. count ≤ length octets.now) }
     {
-        if self.going.flow() != Flow::Open {
+        let way = self.going.way();
+        let Flow::Open = way.flow else {
             return Err(Error::from(ErrorKind::BrokenPipe));
-        }
-        let room = self.going.room();
+        };
+        let room = way.room();
         if room == 0 {
             return Err(Error::from(ErrorKind::WouldBlock));
         }
@@ -175,6 +168,7 @@ pub(crate) struct ControlSocket<'h> {
 }
 
 impl<'h> ControlSocket<'h> {
+    /// One side of a socket, which is lent while the session lasts.
     pub(crate) fn new(socket: &'h Socket) -> ControlSocket<'h> {
         ControlSocket { socket }
     }
