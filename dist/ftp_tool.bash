@@ -21,7 +21,7 @@ _ftp_tool_options() {
         mirror) echo '--user --password-file --active --extended --no-extended --quiet --timeout --max-time --limit --limit-rate --parallel --delete
             --delete-any --dry-run --json --progress --checksum --exclude --no-flush --help' ;;
         run) echo '--user --password-file --timeout --host --port --help' ;;
-        serve) echo '--port --dir --host --accounts --sessions --at-once --at-once-per-host --until-input-ends --finish --log --keep --login --idle
+        serve) echo '--port --dir --host --accounts --sessions --at-once --at-once-per-host --until-input-ends --stop-file --finish --log --keep --login --idle
             --idle-while-waited --session-while-waited --login-while-waited --passive-ports --passive-address --skip --most-octets --most-of-a-file --most-files
             --any --help' ;;
         password) echo '--rounds --help' ;;
@@ -39,7 +39,7 @@ _ftp_tool_values() {
         --user | --timeout | --max-time | --limit | --limit-rate | --parallel | --exclude | --rounds | --host | --port | --sessions | --at-once | \
             --at-once-per-host | --finish | --login | --idle | --idle-while-waited | --session-while-waited | --login-while-waited | --passive-ports | \
             --passive-address | --piece) ;;
-        --password-file | --accounts) echo files ;;
+        --password-file | --accounts | --stop-file) echo files ;;
         --type) echo A I ;;
         --stru) echo F R ;;
         --mode) echo S B ;;

@@ -64,6 +64,7 @@ complete -c ftp_tool -n '__fish_seen_subcommand_from serve' -l sessions -x -d 'h
 complete -c ftp_tool -n '__fish_seen_subcommand_from serve' -l at-once -x -d 'how many sessions at once'
 complete -c ftp_tool -n '__fish_seen_subcommand_from serve' -l at-once-per-host -x -d 'how many of these from one address'
 complete -c ftp_tool -n '__fish_seen_subcommand_from serve' -l until-input-ends -d 'stops where standard input ends'
+complete -c ftp_tool -n '__fish_seen_subcommand_from serve' -l stop-file -r -F -d 'stops once something stands there'
 complete -c ftp_tool -n '__fish_seen_subcommand_from serve' -l finish -x -d 'how long transfers may go on then'
 complete -c ftp_tool -n '__fish_seen_subcommand_from serve' -l log -d 'tells of sessions on standard error'
 complete -c ftp_tool -n '__fish_seen_subcommand_from serve' -l keep -d 'nobody else changes the folder'

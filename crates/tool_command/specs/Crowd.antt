@@ -1,9 +1,5 @@
--- How many clients the words of `serve` ask to be served at once, and what stops it (own choice).
+-- How many clients the words of `serve` ask to be served at once (own choice).
 use Rattle.std.specs.Prelude.{◌≡◌, ◌≤◌, ◌-◌, ◌^◌, max, ℕ, List, Option, Some, None}
-use Rattle.tool_command.specs.declared.crowd.StopCause.{StopCause}
-use Rattle.tool_command.specs.declared.crowd.StopCause.TheVariants.{InputEnd, Signal}
-use Rattle.tool_scheduler.specs.declared.session_limits.Input.{Input}
-use Rattle.tool_scheduler.specs.declared.session_limits.Input.TheVariants.{Stops, Unread}
 use Rattle.tool_command.specs.Numbers.{SaysBelow}
 use Rattle.tool_serve.specs.declared.sessions.SessionCount.{SessionCount}
 use Rattle.tool_serve.specs.declared.sessions.SessionCount.TheVariants.{Count, Forever}
@@ -28,9 +24,3 @@ unsaid_per_host at_once = max 1 (at_once - 1)
 abbrev pub SaysPerHost : Option (List ℕ) → ℕ → ℕ → Type 0
 SaysPerHost None at_once count = count ≡ unsaid_per_host at_once
 SaysPerHost (Some word) at_once count = SaysCount word count
-
--- the end of standard input stops the server only where that is asked for; the seconds for transfers are a number in either case
-abbrev pub SaysInput : StopCause → List ℕ → Input → Type 0
-SaysInput Signal finish input = ((n : ℕ) × SaysBelow (2 ^ 32) finish n) × (input ≡ Unread)
-SaysInput InputEnd finish (Stops n) = SaysBelow (2 ^ 32) finish n
-SaysInput InputEnd finish Unread = ⊥

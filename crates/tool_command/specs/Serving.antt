@@ -3,7 +3,7 @@ use Rattle.std.specs.Prelude.{◌≡◌, ◌^◌, ◌-◌, ⊤, ℕ, List, Optio
 use Rattle.std.specs.Net.Grammar.{IsIpText}
 use Rattle.std.specs.declared.net.IpAddr.{IpAddr}
 use Rattle.tool_command.specs.Amount.{SaysMost}
-use Rattle.tool_command.specs.Crowd.{SaysAtOnce, SaysInput, SaysPerHost}
+use Rattle.tool_command.specs.Crowd.{SaysAtOnce, SaysPerHost}
 use Rattle.tool_command.specs.declared.serving.LimitWords.{LimitWords}
 use Rattle.tool_command.specs.declared.serving.Scope.{Scope}
 use Rattle.tool_command.specs.declared.serving.Scope.TheVariants.{Any, Usual}
@@ -68,7 +68,7 @@ SaysAddress None (Some address) = ⊥
 SaysAddress (Some text) None = ⊥
 SaysAddress (Some text) (Some address) = IsIpText text address
 
--- each value is what its word says, and the folder and the file of accounts are their words
+-- each value is what its word says, and the folder, the file of accounts and the stop file are their words
 pub record AsksServing (words : ServeWords) (serving : Serving) : Type 0 where
   pub host : IsIpText words.host.now serving.host
   pub port : SaysPortOrZero words.port.now serving.port
@@ -76,7 +76,9 @@ pub record AsksServing (words : ServeWords) (serving : Serving) : Type 0 where
   pub sessions : SaysSessions words.sessions.now serving.sessions
   pub at_once : SaysAtOnce (option_map (λ word. word.now) words.at_once) serving.sessions serving.at_once
   pub per_host : SaysPerHost (option_map (λ word. word.now) words.per_host) serving.at_once serving.per_host
-  pub input : SaysInput words.stop words.finish.now serving.input
+  pub input : serving.input ≡ words.input
+  pub stop_file : serving.stop_file ≡ words.stop_file
+  pub finish : SaysBelow (2 ^ 32) words.finish.now serving.finish
   pub accounts : serving.accounts ≡ words.accounts
   pub log : serving.log ≡ words.log
   pub others : serving.others ≡ words.others

@@ -1,20 +1,10 @@
 // How many clients `serve` serves at once, as its words say it.
 ghost use Rattle.std.specs.Prelude.{◌≡◌, ℕ, IfOk, OnErr, option_map};
-ghost use Rattle.tool_command.specs.Crowd.{SaysAtOnce, SaysInput, SaysPerHost, unsaid_at_once, unsaid_per_host};
-ghost use Rattle.tool_scheduler.specs.declared.session_limits.Input.{Input};
+ghost use Rattle.tool_command.specs.Crowd.{SaysAtOnce, SaysPerHost, unsaid_at_once, unsaid_per_host};
 
 use crate::refusal::UsageError;
 use tool_codec::number_of;
-use tool_serve::{Input, SessionCount};
-
-/// What stops the server.
-#[derive(Clone, Copy)]
-pub(crate) enum StopCause {
-    /// A signal alone.
-    Signal,
-    /// The end of standard input too.
-    InputEnd,
-}
+use tool_serve::SessionCount;
 
 /// How many clients are served at once: one where only so many sessions are, else 32.
 pub(crate) fn at_once_by(
@@ -64,18 +54,4 @@ fn unsaid_per_host(at_once: usize) -> usize
     ensures { result ≡ unsaid_per_host at_once }
 {
     if at_once < 2 { 1 } else { at_once - 1 }
-}
-
-/// What the end of standard input means, and for how many seconds transfers may go on then.
-pub(crate) fn input_by(stop: StopCause, finish: &str) -> Result<Input, UsageError<'_>>
-    ensures some { IfOk result (λ input. SaysInput stop finish.now input) }
-    ensures none { OnErr result ((input : Input) → ¬ SaysInput stop finish.now input) }
-{
-    let Some(seconds) = number_of(finish) else {
-        return Err(UsageError::Number);
-    };
-    match stop {
-        StopCause::Signal => Ok(Input::Unread),
-        StopCause::InputEnd => Ok(Input::Stops(seconds)),
-    }
 }

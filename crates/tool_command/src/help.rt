@@ -50,8 +50,9 @@ Of more than one at once nobody waits: where all places are taken, the session
 that said and sent nothing for the longest is ended for who comes, where that is longer than --idle-while-waited, or one that is not logged
 in after --login-while-waited, or one without a transfer that moves of the address with the most sessions where who comes has none; else who
 comes is told 421, and so is whose address has as many sessions as --at-once-per-host says. A second server on the folder is refused. With
---until-input-ends the end of standard input stops the server: nobody more is taken, a session that does nothing is told 421, and transfers
-may go on for the seconds of --finish. From the third
+--until-input-ends the end of standard input stops the server, with --stop-file what stands at its path, which is looked for each second:
+nobody more is taken, a session that does nothing is told 421, and transfers may go on for the seconds of --finish. What stands there at the
+start already is refused. From the third
 refused login on answers wait a second, and the tenth ends the connection; so do answers to an address from its tenth one on, over all
 connections, until ten minutes after the last.
 Status: 0 done; 2 bad command line; 3 the folder, the accounts, the port or a session failed, or memory was refused.

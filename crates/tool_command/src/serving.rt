@@ -10,7 +10,7 @@ ghost use Rattle.ftp_tree.specs.declared.limits.Limits.{Limits};
 ghost use Rattle.tool_command.specs.Serving.{AreLimits, AreWaits, AsksServing, SaysAddress, SaysLimit, SaysSeconds, odd_of, unsaid_limits, unsaid_waits};
 
 use crate::amount::most_of;
-use crate::crowd::{StopCause, at_once_by, input_by, per_host_by};
+use crate::crowd::{at_once_by, per_host_by};
 use crate::help;
 use crate::numbers::{port_of, ports_of, sessions_of};
 use crate::refusal::UsageError;
@@ -18,7 +18,7 @@ use crate::words::{Form, MOST, Subcommand, ValueForm, Word, chosen, text_in};
 use clap::ArgMatches;
 use std::net::IpAddr;
 use tool_codec::number_of;
-use tool_serve::{Limits, Log, Odd, Others, Serving, SessionCount, Waits};
+use tool_serve::{Input, Limits, Log, Odd, Others, Serving, SessionCount, Waits};
 
 /// How long something is waited for.
 const SECONDS: ValueForm<'static> = ValueForm::Number("SECONDS", 0, MOST);
@@ -81,6 +81,11 @@ const OPTIONS: &[Word<'static>] = &[
         name: "until-input-ends",
         form: Form::Flag,
         help: "stops where standard input ends: nobody more is taken, and transfers are finished",
+    },
+    Word {
+        name: "stop-file",
+        form: Form::Given(ValueForm::Text("PATH")),
+        help: "stops once something stands at PATH, which is looked for each second: nobody more is taken, and transfers are finished",
     },
     Word {
         name: "finish",
@@ -168,7 +173,8 @@ pub(crate) struct ServeWords<'a> {
     sessions: &'a str,
     at_once: Option<&'a str>,
     per_host: Option<&'a str>,
-    stop: StopCause,
+    input: Input,
+    stop_file: Option<&'a str>,
     finish: &'a str,
     accounts: Option<&'a str>,
     log: Log,
@@ -217,12 +223,8 @@ pub fn serving_of<'a>(words: &'a ArgMatches<'_>) -> Result<Serving<'a>, UsageErr
         sessions: text_in(words, "sessions"),
         at_once: words.get_str("at-once"),
         per_host: words.get_str("at-once-per-host"),
-        stop: chosen(
-            words,
-            "until-input-ends",
-            StopCause::InputEnd,
-            StopCause::Signal,
-        ),
+        input: chosen(words, "until-input-ends", Input::Stops, Input::Unread),
+        stop_file: words.get_str("stop-file"),
         finish: text_in(words, "finish"),
         accounts: words.get_str("accounts"),
         log: chosen(words, "log", Log::Told, Log::Silent),
@@ -263,7 +265,9 @@ fn serving_by<'a>(words: ServeWords<'a>) -> Result<Serving<'a>, UsageError<'a>>
     let sessions = sessions_by(words.sessions)?;
     let at_once = at_once_by(words.at_once, sessions)?;
     let per_host = per_host_by(words.per_host, at_once)?;
-    let input = input_by(words.stop, words.finish)?;
+    let Some(finish) = number_of(words.finish) else {
+        return Err(UsageError::Number);
+    };
     let passive = passive_by(words.passive)?;
     let passive_address = passive_address_by(words.passive_address)?;
     let Some(port) = port_of(words.port) else {
@@ -280,7 +284,9 @@ fn serving_by<'a>(words: ServeWords<'a>) -> Result<Serving<'a>, UsageError<'a>>
         sessions,
         at_once,
         per_host,
-        input,
+        input: words.input,
+        stop_file: words.stop_file,
+        finish,
         accounts: words.accounts,
         log: words.log,
         waits,

@@ -3,7 +3,6 @@
 
 mod alone;
 mod crowd;
-mod input;
 pub mod laws;
 mod listening_port;
 mod order;
@@ -11,12 +10,13 @@ mod rounds;
 mod rows;
 mod session_limits;
 mod slot;
+mod stopping;
 mod table;
 mod waiting;
 
 pub use alone::serve_alone;
-pub use input::is_input_open;
 pub use order::TurnOrder;
 pub use rounds::serve_rounds;
 pub use session_limits::{Full, Input, SessionLimits};
-pub use slot::{Slot, Slots, Turn, TurnResult};
+pub use slot::{Slot, Slots, StopRequest, Turn, TurnResult};
+pub use stopping::is_input_open;

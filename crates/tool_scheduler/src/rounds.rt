@@ -8,12 +8,12 @@ ghost use Rattle.tool_scheduler.specs.Rounds.{Spares};
 ghost use Rattle.tool_scheduler.specs.Rounds.{is_slot_taken, place_of, round_standing, told_if};
 ghost use Rattle.tool_scheduler.specs.Sharing.{AreHosts, IsServed, OnlyShared, occupants_of, rules_of, shared};
 
-use crate::input::Heeded;
 use crate::listening_port::{Caller, ListeningPort};
 use crate::order::TurnOrder;
 use crate::rows::Rows;
 use crate::session_limits::{Full, SessionLimits};
 use crate::slot::{Slot, Slots, Turn, TurnResult};
+use crate::stopping::StopState;
 use crate::table::{Table, TakenSlot, awaits_at, crowded_in, spare_in};
 use crate::waiting::{MOST_SLOTS, WaitQueue, leave_one};
 use ftp_ports::TURNS;
@@ -73,7 +73,7 @@ struct Rounds<'a, M: Slots> {
     session_limits: SessionLimits,
     slots: &'a M,
     listening_port: ListeningPort<'a>,
-    input: Heeded,
+    stop: StopState,
     leaving: Vec<Leaving, Global>,
     rows: Rows,
     went_well: bool,
@@ -85,7 +85,7 @@ impl<'a, M: Slots> Drop for Rounds<'a, M> {
             session_limits: _,
             slots: _,
             listening_port: _,
-            input: _,
+            stop: _,
             leaving: _,
             rows: _,
             went_well: _,
@@ -107,7 +107,7 @@ impl<'a, M: Slots> Rounds<'a, M> {
             session_limits,
             slots,
             listening_port: ListeningPort::new(listener),
-            input: Heeded::new(session_limits.input),
+            stop: StopState::new(session_limits.input, session_limits.finish),
             leaving,
             rows,
             went_well: true,
@@ -121,7 +121,7 @@ impl<'a, M: Slots> Rounds<'a, M> {
 
     /// Whether no client is taken any more.
     fn takes_nobody(&self) -> bool {
-        self.input.stops().is_some() || self.session_limits.sessions == Some(0)
+        self.stop.until().is_some() || self.session_limits.sessions == Some(0)
     }
 
     /// One round.
@@ -137,17 +137,26 @@ impl<'a, M: Slots> Rounds<'a, M> {
         self.stop_some(table);
         self.await_all(table);
         self.rows.poll();
-        if self.rows.is_told(INPUT) {
-            self.input = self.input.read(self.rows.now());
-        }
+        self.look_for_stop();
         self.let_go();
         self.turns(order, table, tree);
         self.welcome_all(table, tree);
     }
 
+    /// Looks whether the server is to stop, by the end of standard input or by a request.
+    fn look_for_stop(&mut self) {
+        let now = self.rows.now();
+        if self.rows.is_told(INPUT) {
+            self.stop = self.stop.read_input(now);
+        }
+        if self.stop.looks(now) {
+            self.stop = self.stop.hear(self.slots.stop_request(), now);
+        }
+    }
+
     /// Where the server stops, ends each session that does nothing, and all of them once transfers may go on no longer.
     fn stop_some(&self, table: &Table<M::Slot>) {
-        let Some(until) = self.input.stops() else {
+        let Some(until) = self.stop.until() else {
             return;
         };
         let is_late = until <= self.rows.now();
@@ -165,7 +174,7 @@ impl<'a, M: Slots> Rounds<'a, M> {
         let at_door = self.door_awaits(table);
         self.rows.clear();
         self.rows.add(at_door);
-        let at_input = self.input.awaits(self.rows.now());
+        let at_input = self.stop.awaits(self.rows.now());
         self.rows.add(at_input);
         for place in 0..table.count() {
             let awaits = awaits_at(table, place);

@@ -8,7 +8,10 @@ pub struct SessionLimits {
     pub per_host: usize,
     /// How many in all; none: without an end.
     pub sessions: Option<u32>,
+    /// Whether the end of standard input stops the server: then nobody more is taken.
     pub input: Input,
+    /// How many seconds transfers may go on once the server stops.
+    pub finish: u32,
 }
 
 /// What the end of standard input means.
@@ -16,8 +19,8 @@ pub struct SessionLimits {
 pub enum Input {
     /// Nothing: it is not read.
     Unread,
-    /// That the server stops: nobody more is taken, and transfers may go on for so many seconds.
-    Stops(u32),
+    /// That the server stops.
+    Stops,
 }
 
 /// Why there is no slot for a client.

@@ -75,6 +75,17 @@ pub trait Slot<T>: Drop {
     fn leave(&mut self) -> (Leaving, bool);
 }
 
+/// Whether the server was asked to stop.
+#[derive(Clone, Copy)]
+pub enum StopRequest {
+    /// Nobody can ask it.
+    Never,
+    /// Nobody did yet.
+    NotYet,
+    /// It is to stop.
+    Made,
+}
+
 /// Who slots clients.
 pub trait Slots {
     /// What they are served over.
@@ -115,6 +126,9 @@ pub trait Slots {
         peer: SocketAddr,
         why: Full,
     ) -> Option<Rc<ControlLine, Global>>;
+
+    /// Whether the server was asked to stop. It is looked for at the start, and then once a second, as long as that can be asked.
+    fn stop_request(&self) -> StopRequest;
 
     /// The system gave no connection.
     fn none_came(&self, error: io::Error);

@@ -18,6 +18,7 @@ mod session_log;
 mod session_start;
 mod sessions;
 mod starting;
+mod stop_file;
 mod text;
 mod watching;
 

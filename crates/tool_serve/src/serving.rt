@@ -12,6 +12,7 @@ use crate::session_log::Log;
 use crate::session_start::Seating;
 use crate::sessions::SessionCount;
 use crate::starting::{Unserved, dir_text, is_folder, opened, tell_roots};
+use crate::stop_file::stop_request;
 use ftp_disk_host::{Host, SystemHost};
 use ftp_disk_tree::{LoadFault, Odd, Others, Parks, Prepares};
 use ftp_operation::Rights;
@@ -28,7 +29,7 @@ use tool_accounts::Reach;
 use tool_log::LogLines;
 use tool_login_limit::LoginLimiter;
 use tool_polling::{PassivePorts, TimeLimits as Waits};
-use tool_scheduler::{Input, SessionLimits, is_input_open, serve_rounds};
+use tool_scheduler::{Input, SessionLimits, StopRequest, is_input_open, serve_rounds};
 use tool_sockets::Sockets;
 use tool_terminal::{Shown, Status};
 
@@ -47,6 +48,10 @@ pub struct Serving<'a> {
     pub per_host: usize,
     /// Whether the end of standard input stops the server.
     pub input: Input,
+    /// The path at which something stands once the server is to stop; it is looked for each second.
+    pub stop_file: Option<&'a str>,
+    /// How many seconds transfers may go on once the server stops.
+    pub finish: u32,
     /// The file of accounts, which is read anew for each session; none: `guest` and `anonymous`, and an address of the loopback alone.
     pub accounts: Option<&'a str>,
     pub log: Log,
@@ -74,7 +79,8 @@ impl<'a> Serving<'a> {
 }
 
 /// Serves a folder, and gives the exit status: done; bad words where the address is none of the loopback and no file of accounts is given, or the end of a
-/// standard input is to stop the server that is closed; or failed where the folder, the file of accounts, the port or a session failed.
+/// standard input is to stop the server that is closed; or failed where the stop file is there already, or the folder, the file of accounts, the port or a
+/// session failed.
 pub fn serve<R>(rt: &R, job: Serving<'_>) -> io::Result<Status>
 where
     R: Net<Listener = TcpListener, Stream = TcpStream>
@@ -89,8 +95,15 @@ where
     if !job.may_listen() {
         return refuse_address(rt);
     }
-    if matches!(job.input, Input::Stops(_)) && !is_input_open() {
+    if matches!(job.input, Input::Stops) && !is_input_open() {
         return refuse_input(rt);
+    }
+    if let StopRequest::Made = stop_request(rt, job.stop_file) {
+        return refuse(
+            rt,
+            "stop file: ",
+            &OfFile(job.stop_file, &"it is there already"),
+        );
     }
     match accounts_of(rt, job.accounts) {
         Ok(_) => serve_dir(rt, &job),
@@ -444,5 +457,6 @@ fn house_of(job: &Serving<'_>) -> SessionLimits {
             SessionCount::Forever => None,
         },
         input: job.input,
+        finish: job.finish,
     }
 }

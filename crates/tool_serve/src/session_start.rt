@@ -14,6 +14,7 @@ use crate::serving::Serving;
 use crate::session_in_slot::{Connected, Guest, ServerSession, Service, SessionHosts};
 use crate::session_log::{Log, SessionLog};
 use crate::sessions::SessionCount;
+use crate::stop_file::stop_request;
 use ftp_disk_tree::{Parks, Prepares};
 use ftp_endpoint::Host;
 use ftp_server_driver::Control;
@@ -26,7 +27,7 @@ use std::net::{IpAddr, SocketAddr, TcpStream};
 use std::rc::Rc;
 use std::time::Clock;
 use tool_polling::{ControlLine, LinePorts, LineReader, LineWriter, TimeLimits};
-use tool_scheduler::{Full, Slot, Slots};
+use tool_scheduler::{Full, Slot, Slots, StopRequest};
 use tool_sockets::{Sockets, host_of};
 
 /// What all sessions have in common. `M` begins their servers.
@@ -34,6 +35,7 @@ use tool_sockets::{Sockets, host_of};
 pub(crate) struct Seating<'a, R, T, M> {
     rt: &'a R,
     accounts: Option<&'a str>,
+    stop_file: Option<&'a str>,
     waits: TimeLimits,
     sessions: SessionCount,
     service: Service<'a>,
@@ -52,6 +54,7 @@ impl<'a, R, T, M> Seating<'a, R, T, M> {
         Seating {
             rt,
             accounts: job.accounts,
+            stop_file: job.stop_file,
             waits: job.waits,
             sessions: job.sessions,
             service,
@@ -120,6 +123,10 @@ where
         let line = ControlLine::new(stream, self.waits).ok()?;
         line.say_last(no_slot(why));
         Rc::new(self.rt.alloc(), line).ok()
+    }
+
+    fn stop_request(&self) -> StopRequest {
+        stop_request(self.rt, self.stop_file)
     }
 
     fn none_came(&self, error: io::Error) {
