@@ -1,6 +1,6 @@
 -- What follows a try of an upload (own choice: RFC 959, section 3.5, leaves the recovery of a transfer to the user). Sizes are those
 -- of SIZE, in type I (RFC 3659, section 4).
-use Rattle.std.specs.Prelude.{ℕ, ◌-◌, ◌==◌, ◌&&◌, ◌||◌, Bool, true, false, not, nat_le, if◌then◌else◌}
+use Rattle.std.specs.Prelude.{ℕ, ◌-◌, ◌==◌, ◌&&◌, ◌||◌, Bool, true, false, not, nat_le, nat_lt, if◌then◌else◌}
 use Rattle.tool_resume.specs.declared.step.There.{There}
 use Rattle.tool_resume.specs.declared.step.There.TheVariants as Theres
 use Rattle.tool_resume.specs.declared.step.Ended.{Ended}
@@ -77,6 +77,14 @@ joins Fronts.Own awaited came = came - awaited
 joins Fronts.Other awaited came = 0
 joins Fronts.Lost awaited came = 0
 
+-- behind a try that ended so the size of what stands there is asked for: where anything may follow that
+abbrev pub is_size_asked_after : Ended → (left : ℕ) → Bool
+is_size_asked_after Ends.Done left = true
+is_size_asked_after Ends.Broken left = nat_lt 0 left
+is_size_asked_after Ends.Failed left = nat_lt 0 left
+is_size_asked_after Ends.Unopened left = false
+is_size_asked_after Ends.Unended left = false
+
 -- behind each, where this is there
 abbrev pub follows : TransferState → Ended → There → NextStep
 follows t Ends.Done there = behind_done t there
@@ -84,3 +92,14 @@ follows t Ends.Broken there = behind_broken t there
 follows t Ends.Failed there = behind_failed t there
 follows t Ends.Unended there = behind_unended t there
 follows t Ends.Unopened there = if t.left == 0 then Steps.Tell else Steps.Again
+
+-- a further try follows
+abbrev pub is_try : NextStep → Bool
+is_try (Steps.From from) = true
+is_try Steps.Again = true
+is_try step = false
+
+-- how many octets of those that are there stay, where a further try follows over this control connection
+abbrev pub kept_octets : NextStep → ℕ
+kept_octets (Steps.From from) = from
+kept_octets step = 0

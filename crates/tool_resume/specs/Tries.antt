@@ -1,6 +1,15 @@
 -- What follows a try of a download (own choice: RFC 959, section 3.5, leaves the recovery of a transfer to the user). After a try the server is asked
 -- once more which file it has: octets of two files are never joined, and none is done whose file is another one by then.
 use Rattle.std.specs.Prelude.{ℕ, ◌==◌, ◌&&◌, ◌||◌, Bool, true, false, not, nat_lt, Option, Some, None, if◌then◌else◌}
+use Rattle.std.specs.declared.io.Error.{Error}
+use Rattle.tool_session.specs.declared.request_state.DataEnding.{DataEnding}
+use Rattle.tool_session.specs.declared.request_state.DataEnding.TheVariants as Endings
+use Rattle.tool_resume.specs.declared.download_tries.TryResult.{TryResult}
+use Rattle.tool_resume.specs.declared.download_tries.TryResult.TheVariants as Results
+use Rattle.tool_resume.specs.declared.download_tries.VersionCheck.{VersionCheck}
+use Rattle.tool_resume.specs.declared.download_tries.VersionCheck.TheVariants as Checks
+use Rattle.tool_resume.specs.declared.step.FrontOwner.{FrontOwner}
+use Rattle.tool_resume.specs.declared.step.FrontOwner.TheVariants as Fronts
 use Rattle.tool_resume.specs.declared.step.Ended.{Ended}
 use Rattle.tool_resume.specs.declared.step.Ended.TheVariants as Ends
 use Rattle.tool_resume.specs.declared.step.NextStep.{NextStep}
@@ -73,3 +82,42 @@ after_loss left Ends.Unopened = after_unopened left
 abbrev pub follows_download : ℕ → Ended → ℕ → FileVersion → Option FileVersion → NextStep
 follows_download left ended came before (Some now) = after left ended before now came
 follows_download left ended came before None = after_loss left ended
+
+-- what comes of a try whose data connection ended so, where the part is written and of no other file
+abbrev pub result_of_ending : DataEnding → TryResult
+result_of_ending Endings.PastLimit = Results.PastLimit
+result_of_ending ending = Results.Answered
+
+-- the same, where the part is written, and of this owner
+abbrev pub result_of_part : FrontOwner → DataEnding → TryResult
+result_of_part Fronts.Other ending = Results.OtherPart
+result_of_part owner ending = result_of_ending ending
+
+-- what comes of a try: a part that can't be written comes first, then one of another file, and then the limit
+abbrev pub try_result : Option Error → FrontOwner → DataEnding → TryResult
+try_result (Some fault) owner ending = Results.Unwritten
+try_result None owner ending = result_of_part owner ending
+
+-- a download has ended: no try may begin, and the server did not say over the last control connection that it is done
+abbrev pub is_spent : (left : ℕ) → VersionCheck → Bool
+is_spent left Checks.Said = false
+is_spent left check = left == 0
+
+-- after a try that ended so the server is asked which file it has: where anything may follow that
+abbrev pub is_asked_after : Ended → (total : Option ℕ) → (left : ℕ) → Bool
+is_asked_after Ends.Done total left = true
+is_asked_after Ends.Unended total left = is_sized total
+is_asked_after Ends.Broken total left = is_sized total && nat_lt 0 left
+is_asked_after Ends.Failed total left = is_sized total && nat_lt 0 left
+is_asked_after Ends.Unopened total left = false
+
+-- the server said that it is done, and not which file it has by then
+abbrev pub is_said : Ended → Option FileVersion → Bool
+is_said Ends.Done None = true
+is_said ended now = false
+
+-- which octets count after a try: where the server says that all is sent, those that are seen to be the file's
+abbrev pub counted_octets : Ended → (came seen : ℕ) → ℕ
+counted_octets Ends.Done came seen = seen
+counted_octets Ends.Unended came seen = seen
+counted_octets ended came seen = came

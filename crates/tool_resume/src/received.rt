@@ -1,5 +1,10 @@
 // What came of a download.
-use crate::step::{FrontOwner, front_from, joins, part_owner};
+ghost use Rattle.std.specs.Prelude.{◌≡◌};
+ghost use Rattle.tool_resume.specs.Overlap.{awaited};
+ghost use Rattle.tool_resume.specs.Received.{seen_of, start_of};
+
+use crate::overlap::Overlap;
+use crate::step::{FrontOwner, front_from};
 use ftp_client_stream::{SinkTransfer, WriterSink};
 use ftp_facts::Text;
 use ftp_operation::Answer;
@@ -13,15 +18,13 @@ use tool_session::{FileDownloadStream, SharedFile, is_other};
 
 /// The octets that came: in a part of a file, to which they go as they come, or in memory, in pieces, none of which is copied.
 pub struct ReceivedOctets {
+    /// Those in memory: none where there is a part.
     pieces: Vec<Text<Global>, Global>,
     part: Option<OpenPart>,
+    /// How many they are, with those that the part has of an earlier run.
     count: u64,
-    /// The last of those that the part has of an earlier run, until all of them came once more.
-    awaited: Vec<u8, Global>,
-    /// How many of these came so far.
-    agreed: usize,
-    /// What these are.
-    front: FrontOwner,
+    /// The last octets of an earlier run, as far as they did not come once more.
+    overlap: Overlap,
     /// Why the part could not be written, where it could not.
     fault: Option<Error>,
 }
@@ -33,9 +36,7 @@ impl Drop for ReceivedOctets {
             pieces: _,
             part: _,
             count: _,
-            awaited: _,
-            agreed: _,
-            front: _,
+            overlap: _,
             fault: _,
         } = self;
     }
@@ -48,9 +49,7 @@ impl ReceivedOctets {
             pieces: Vec::new(alloc),
             part: None,
             count: 0,
-            awaited: Vec::new(alloc),
-            agreed: 0,
-            front: FrontOwner::Own,
+            overlap: Overlap::none(alloc),
             fault: None,
         }
     }
@@ -61,9 +60,7 @@ impl ReceivedOctets {
             pieces: Vec::new(alloc),
             part: Some(part),
             count: 0,
-            awaited: Vec::new(alloc),
-            agreed: 0,
-            front: FrontOwner::Own,
+            overlap: Overlap::none(alloc),
             fault: None,
         }
     }
@@ -74,19 +71,17 @@ impl ReceivedOctets {
         part: OpenPart,
         count: u64,
     ) -> io::Result<ReceivedOctets> {
-        let awaited = part.piece(alloc, front_from(count), count)?;
+        let last = part.piece(alloc, front_from(count), count)?;
         Ok(ReceivedOctets {
             pieces: Vec::new(alloc),
             part: Some(part),
             count,
-            awaited,
-            agreed: 0,
-            front: FrontOwner::Lost,
+            overlap: Overlap::of(last),
             fault: None,
         })
     }
 
-    /// These came behind those of before.
+    /// These came behind those of before. Fails where memory is refused; that the part can't be written is told by `fault`.
     pub(crate) fn add(&mut self, piece: Text<Global>) -> Result<(), AllocError> {
         if self.part.is_some() {
             self.write(piece.as_slice());
@@ -102,7 +97,7 @@ impl ReceivedOctets {
         let Some(part) = &self.part else {
             return;
         };
-        if !self.rest().is_empty() {
+        if self.overlap.awaited() > 0 {
             return;
         }
         let mut writer_sink = WriterSink::new(part.writer());
@@ -113,19 +108,11 @@ impl ReceivedOctets {
     }
 
     /// A data connection brought so many octets to the part, of which the first are those that are awaited once more, and it failed or not; `is_done`: the
-    /// server says that it sent all.
+    /// server says that it sent all. That an awaited octet is another is no failure of the part.
     pub(crate) fn took(&mut self, came: u64, fault: Option<Error>, is_done: bool) {
-        let awaited = self.rest().len() as u64;
-        let is_other = awaited > 0 && is_other(fault);
-        self.front = part_owner(awaited, came, is_other, is_done);
-        self.agreed = self.agreed.saturating_add(came.min(awaited) as usize);
-        let fault = if is_other { None } else { fault };
-        self.wrote(joins(self.front, awaited, came), fault);
-    }
-
-    /// Those that are awaited still.
-    fn rest(&self) -> &[u8] {
-        self.awaited.get(self.agreed..).unwrap_or(&[])
+        let is_other = self.overlap.awaited() > 0 && is_other(fault);
+        let joined = self.overlap.hear(came, is_other, is_done);
+        self.wrote(joined, if is_other { None } else { fault });
     }
 
     /// So many octets went to the part, and it failed or not: of those that it took in part it has none then.
@@ -145,7 +132,7 @@ impl ReceivedOctets {
     ) -> Result<Option<FileDownloadStream>, AllocError> {
         match &self.part {
             Some(part) => {
-                let awaited = Vec::from_slice(alloc, self.rest())?;
+                let awaited = Vec::from_slice(alloc, self.overlap.rest())?;
                 let writer = SharedFile::new(part.shared()?, awaited);
                 Ok(Some(SinkTransfer::new(settings, WriterSink::new(writer))))
             }
@@ -157,9 +144,7 @@ impl ReceivedOctets {
     pub(crate) fn cut(&mut self, count: u64) {
         self.count = count;
         self.pieces.clear();
-        self.awaited.clear();
-        self.agreed = 0;
-        self.front = FrontOwner::Own;
+        self.overlap.clear();
         if let Some(part) = &self.part {
             if let Err(error) = part.cut(count) {
                 self.fault = Some(error);
@@ -167,41 +152,53 @@ impl ReceivedOctets {
         }
     }
 
-    /// How many octets came.
-    pub fn count(&self) -> u64 {
+    /// How many octets came, with those that the part has of an earlier run.
+    pub fn count(&self) -> u64
+        ensures { result ≡ self.now.count }
+    {
         self.count
     }
 
-    /// From which octet of the file on the next ones are asked for: from those that are awaited once more.
-    pub(crate) fn start(&self) -> u64 {
-        self.count.saturating_sub(self.rest().len() as u64)
+    /// From which octet of the file on, counted from 0, the next ones are asked for: from those that are awaited once more.
+    pub(crate) fn start(&self) -> u64
+        // Witness: an equation; `edits/the_last_octets_of_a_part_are_not_asked_for_again`.
+        ensures { result ≡ start_of self.now.count (awaited self.now.overlap) }
+    {
+        self.count.saturating_sub(self.overlap.awaited())
     }
 
     /// How many octets are seen to be the file's: none of a part of an earlier run, until its last ones came once more.
-    pub(crate) fn seen(&self) -> u64 {
-        if self.rest().is_empty() {
+    pub(crate) fn seen(&self) -> u64
+        // Witness: an equation; `edits/a_part_counts_before_its_last_octets_came_again`.
+        ensures { result ≡ seen_of self.now.count (awaited self.now.overlap) }
+    {
+        if self.overlap.awaited() == 0 {
             self.count
         } else {
             0
         }
     }
 
-    /// Whether the part is seen to be of another file.
-    pub(crate) fn is_other(&self) -> bool {
-        matches!(self.front, FrontOwner::Other)
+    /// Whose the part is, as far as the octets that are awaited once more came.
+    pub(crate) fn owner(&self) -> FrontOwner
+        ensures { result ≡ self.now.overlap.owner }
+    {
+        self.overlap.owner()
     }
 
-    /// The part that they are in, where they are in one.
+    /// The part that they are in, where they are in one, lent until more come.
     pub fn part(&self) -> Option<&OpenPart> {
         self.part.as_ref()
     }
 
     /// Why the part could not be written, where it could not.
-    pub fn fault(&self) -> Option<Error> {
+    pub fn fault(&self) -> Option<Error>
+        ensures { result ≡ self.now.fault }
+    {
         self.fault
     }
 
-    /// The part can't be written.
+    /// The part can't be written, for this reason.
     pub(crate) fn fail(&mut self, error: Error) {
         self.fault = Some(error);
     }
@@ -219,7 +216,7 @@ impl ReceivedOctets {
         rest.is_empty()
     }
 
-    /// The octets in memory, piece by piece.
+    /// The octets in memory, piece by piece, lent until more come; none where there is a part.
     pub fn pieces(&self) -> &[Text<Global>] {
         self.pieces.as_slice()
     }

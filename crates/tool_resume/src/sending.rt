@@ -1,4 +1,5 @@
 // An upload that is asked ahead of its turn.
+use crate::source::STAND_IN;
 use crate::trying::{is_counted, size_request};
 use ftp_client_stream::{ReaderSource, SourceTransfer};
 use ftp_facts::Text;
@@ -9,9 +10,6 @@ use std::time::SystemTime;
 use tool_files::{LocalFiles, OpenSource};
 use tool_session::{ClientSession, Openings, Request, Ticket};
 use tool_terminal::Span;
-
-/// What stands for the octets of a file in an operation of which others go.
-const STAND_IN: &[u8] = b"-";
 
 /// A file of this end, and where it goes.
 #[derive(Clone, Copy)]
@@ -29,7 +27,7 @@ pub struct Sending<'a> {
 impl<'a> Sending<'a> {
     /// Asks ahead of its turn what the first try of an upload (`Uploading`) asks behind the size of what stands there, where a control connection is free for
     /// that: that all octets of the file go, and then their size. Nothing is asked where the file has changed. Gives by which
-    /// ticket its upload is answered (`Uploading::go_by`), where it was asked.
+    /// ticket its upload is answered (`Uploading::go_by`), where it was asked. Fails where the file can't be opened, or memory is refused.
     pub fn foresee<R, S>(&self, rt: &R, alloc: Global, slot: &mut S) -> io::Result<Option<Ticket>>
     where
         R: LocalFiles,
@@ -66,7 +64,7 @@ impl<'a> Sending<'a> {
         Ok(if is_same { Some(opened) } else { None })
     }
 
-    /// What is asked, in this order.
+    /// What is asked, in this order: the upload, and the size of what stands there behind it.
     fn row(&self, alloc: Global) -> io::Result<Vec<Request, Global>> {
         let path = Text::copy_of(alloc, self.path.as_bytes())?;
         let stand_in = Text::copy_of(alloc, STAND_IN)?;

@@ -8,6 +8,9 @@ use std::io::{Error, ErrorKind, Read};
 use std::time::SystemTime;
 use tool_files::{LocalFiles, OpenSource};
 
+/// What stands for the octets of a file in an operation of which others go: some, so that their end is awaited.
+pub(crate) const STAND_IN: &[u8] = b"-";
+
 /// What a data connection of an upload carries: octets of a file, as they are read.
 pub(crate) type FileUploadStream = SourceTransfer<ReaderSource<File>, Global>;
 

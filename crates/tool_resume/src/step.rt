@@ -1,6 +1,7 @@
 // What follows a try of an upload, by values alone.
 ghost use Rattle.std.specs.Prelude.{◌≡◌};
-ghost use Rattle.tool_resume.specs.Steps.{behind_broken, behind_done, behind_failed, behind_front, behind_unended, follows, front_from, is_own, joins, part_owner};
+ghost use Rattle.tool_resume.specs.Steps.{behind_broken, behind_done, behind_failed, behind_unended, follows, is_own, is_size_asked_after};
+ghost use Rattle.tool_resume.specs.Steps.{behind_front, front_from, joins, part_owner};
 
 /// What is there of a file: what a server tells by SIZE (RFC 3659, section 4), or what came to this end.
 #[derive(Clone, Copy)]
@@ -75,8 +76,9 @@ pub enum FrontOwner {
     Lost,
 }
 
-/// From which octet on a front of so many octets is read back.
+/// From which octet on, counted from 0, a front of so many octets is read back.
 pub fn front_from(count: u64) -> u64
+    // Witness: an equation; `edits/all_of_a_front_is_read_back`.
     ensures { result ≡ front_from count }
 {
     count.saturating_sub(READ_BACK)
@@ -128,6 +130,7 @@ pub fn joins(front: FrontOwner, awaited: u64, came: u64) -> u64
 /// A 226 is believed only where the size is the file's, or is not told. A try goes on behind the octets that are there only where these are known to
 /// be of this transfer, and else begins anew.
 pub fn follows(transfer: TransferState, ended: Ended, there: There) -> NextStep
+    // Witness: an equation; `edits/an_upload_of_which_no_size_is_told_begins_anew`, `a_226_is_believed_in_spite_of_the_size`.
     ensures { result ≡ follows transfer ended there }
 {
     match ended {
@@ -142,6 +145,18 @@ pub fn follows(transfer: TransferState, ended: Ended, there: There) -> NextStep
             }
         }
         Ended::Unended => behind_unended(transfer, there),
+    }
+}
+
+/// Whether the size of what stands there is asked for behind a try of an upload that ended so, where so many tries may still begin.
+pub(crate) fn is_size_asked_after(ended: Ended, left: u64) -> bool
+    // Witness: an equation; `edits/the_size_is_asked_for_after_the_last_break`.
+    ensures { result ≡ is_size_asked_after ended left }
+{
+    match ended {
+        Ended::Done => true,
+        Ended::Broken | Ended::Failed => left > 0,
+        Ended::Unopened | Ended::Unended => false,
     }
 }
 

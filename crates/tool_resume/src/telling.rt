@@ -1,46 +1,64 @@
 // What an answer that is none of those wished for tells, in a sentence and an exit status.
+ghost use Rattle.std.specs.Prelude.{◌≡◌, ◌≢◌, IfOk};
+ghost use Rattle.tool_resume.specs.Telling.{told_status};
+
 use ftp_operation::Answer;
 use std::alloc::Global;
 use std::fmt::{Display, Formatter};
 use std::io::Eprint;
 use std::{fmt, io};
-use tool_session::{LastReply, ServerRefusal, Stranger, told};
+use tool_session::{LastReply, ServerRefusal, Stranger, say};
 use tool_terminal::{Shown, Status};
 
 /// Tells on standard error why an operation at a path was not done, and gives the exit status; `stranger` is how another host may have come to be at the
-/// other end of its data connection.
+/// other end of its data connection, `last_reply` what the server said last. Fails where standard error can't be written.
 pub fn tell<R: Eprint>(
     rt: &R,
     path: &str,
     stranger: Stranger,
     answer: &Answer<Global>,
     last_reply: &LastReply,
-) -> io::Result<Status> {
-    let status = status(answer);
+) -> io::Result<Status>
+    // Witness of status: an equation; `edits/a_lost_control_connection_is_a_refusal`.
+    ensures status { IfOk result (λ status. status ≡ told_status answer.now) }
+    // Witness of fails: `leave` of `tool_job` needs it.
+    ensures fails { IfOk result (λ status. status ≢ Status.Done) }
+{
+    let status = status_of(answer);
+    tell_why(rt, path, stranger, answer, last_reply)?;
+    Ok(status)
+}
+
+/// Tells on standard error why it was not done.
+fn tell_why<R: Eprint>(
+    rt: &R,
+    path: &str,
+    stranger: Stranger,
+    answer: &Answer<Global>,
+    last_reply: &LastReply,
+) -> io::Result<()> {
     match answer {
         Answer::Refused(code) => {
             let why = Refused {
                 path: Shown(path.as_bytes()),
                 refusal: last_reply.refusal(*code),
             };
-            told(rt, "error: ", &why, "", status)
+            say(rt, "error: ", &why, "")
         }
-        Answer::Lost => told(
+        Answer::Lost => say(
             rt,
             "error: the control connection ended",
             &last_reply.farewell(),
             extent_of(last_reply.is_mute()),
-            status,
         ),
-        Answer::Foreign => told(rt, "error: ", &stranger.sentence(), "", status),
-        Answer::Strange => told(
+        Answer::Foreign => say(rt, "error: ", &stranger.sentence(), ""),
+        Answer::Strange => say(
             rt,
             "error: the server says what has no place",
             &last_reply.said(),
             "",
-            status,
         ),
-        other => told(rt, "error: ", &sentence(other), "", status),
+        other => say(rt, "error: ", &sentence(other), ""),
     }
 }
 
@@ -67,6 +85,7 @@ fn extent_of(is_mute: bool) -> &'static str {
     }
 }
 
+/// Why an operation was not done of which the server says nothing more.
 fn sentence(answer: &Answer<Global>) -> &'static str {
     match answer {
         Answer::BadOperation => "the path is no path that can be sent",
@@ -77,7 +96,11 @@ fn sentence(answer: &Answer<Global>) -> &'static str {
     }
 }
 
-fn status(answer: &Answer<Global>) -> Status {
+/// The exit status of an answer that is told.
+fn status_of(answer: &Answer<Global>) -> Status
+    ensures status { result ≡ told_status answer.now }
+    ensures fails { result ≢ Status.Done }
+{
     match answer {
         Answer::BadOperation => Status::BadWords,
         Answer::Refused(_) | Answer::Broken { got: _, mark: _ } => Status::Refused,
@@ -86,8 +109,11 @@ fn status(answer: &Answer<Global>) -> Status {
     }
 }
 
-/// Tells that a file has too many octets to be held in memory, and gives the exit status.
-pub fn tell_too_large<R: Eprint>(rt: &R, name: &str, size: u64, limit: u64) -> io::Result<Status> {
+/// Tells that a file of `size` octets has more than `limit`, and gives the exit status. Fails where standard error can't be written.
+pub fn tell_too_large<R: Eprint>(rt: &R, name: &str, size: u64, limit: u64) -> io::Result<Status>
+    // Witness: `edits/a_file_that_is_too_large_is_a_failure`.
+    ensures { IfOk result (λ status. status ≡ Status.Refused) }
+{
     let part = TooLarge {
         name: Shown(name.as_bytes()),
         part: ToldPart {
@@ -96,13 +122,8 @@ pub fn tell_too_large<R: Eprint>(rt: &R, name: &str, size: u64, limit: u64) -> i
             total: limit,
         },
     };
-    told(
-        rt,
-        "error: ",
-        &part,
-        ", which --limit sets",
-        Status::Refused,
-    )
+    say(rt, "error: ", &part, ", which --limit sets")?;
+    Ok(Status::Refused)
 }
 
 /// A file that has too many octets.

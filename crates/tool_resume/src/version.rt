@@ -1,6 +1,7 @@
 // Which file a server has, and how a download of it stands, by values alone.
 ghost use Rattle.std.specs.Prelude.{◌≡◌};
-ghost use Rattle.tool_resume.specs.Version.{arrived, has_so_many, is_as_before, is_seen_again, is_settled, is_told_again, is_too_large, last_change, moment_told, resumes, settled_moment, size_told, stays};
+ghost use Rattle.tool_resume.specs.Version.{arrived, has_so_many, is_as_before, is_seen_again, is_told_again, is_too_large, resumes, size_told, stays};
+ghost use Rattle.tool_resume.specs.Version.{is_settled, last_change, moment_told, settled_moment};
 
 /// How many seconds behind a moment no other change of a file has the same moment: servers tell whole seconds, and some file systems even ones alone.
 const SETTLING: u64 = 2;
@@ -112,6 +113,7 @@ pub fn resumes(before: FileVersion, now: FileVersion, came: u64) -> u64
 
 /// Whether the server has the file of before, as far as it tells.
 pub fn stays(before: FileVersion, now: FileVersion) -> bool
+    // Witness: an equation; `edits/a_file_of_another_moment_stays`.
     ensures { result ≡ stays before now }
 {
     is_as_before(size_told(before.size), size_told(now.size))
@@ -168,6 +170,7 @@ fn is_told_again(before: Option<u64>, now: Option<u64>) -> bool
 
 /// Whether a server tells that a file has more octets than the limit.
 pub fn is_too_large(limit: u64, size: Size) -> bool
+    // Witness: an equation; `edits/a_file_as_large_as_the_limit_is_too_large`.
     ensures { result ≡ is_too_large limit size }
 {
     match size {
@@ -179,6 +182,7 @@ pub fn is_too_large(limit: u64, size: Size) -> bool
 /// How a download stands that the server says is done, of which so many octets came, where a file may have `limit` octets, and the server told
 /// `before` of it before they came, and `now` after the last of them.
 pub fn arrived(limit: u64, before: FileVersion, now: FileVersion, count: u64) -> Arrival
+    // Witness: an equation; `edits/what_came_of_another_file_is_whole`.
     ensures { result ≡ arrived limit before now count }
 {
     let same = stays(before, now);

@@ -2,9 +2,10 @@
 ghost use Rattle.std.specs.Prelude.{◌≡◌};
 ghost use Rattle.tool_resume.specs.Ahead.{is_foreseen};
 
-use crate::downloading::{Downloading, KnownMoment, VersionCheck};
+use crate::download_tries::VersionCheck;
+use crate::downloading::Downloading;
+use crate::known_file::{asks_moment, asks_size};
 use crate::trying::{moment_request, size_request};
-use crate::version::Size;
 use ftp_operation::Answer;
 use std::alloc::{AllocError, Global};
 use std::cell::Cell;
@@ -28,6 +29,7 @@ impl<'a, R: LocalFiles + Eprint> Downloading<'a, R> {
         }
     }
 
+    /// Asks these in a row over a control connection that is free for the first of them.
     fn ask_ahead<S: ClientSession>(&mut self, slot: &mut S, row: Vec<Request, Global>) {
         let is_taken = match row.first() {
             Some(first) => slot.takes(first),
@@ -40,7 +42,7 @@ impl<'a, R: LocalFiles + Eprint> Downloading<'a, R> {
             .came
             .sink_transfer(self.alloc, self.how.representation)
         {
-            self.asked_at = self.rt.present();
+            self.file.asked_at = self.rt.present();
             self.ahead = slot.foresee_carried(row, sink_transfer);
         }
     }
@@ -60,20 +62,20 @@ impl<'a, R: LocalFiles + Eprint> Downloading<'a, R> {
     /// What its first try asks, in this order, where all comes.
     fn row(&self) -> Result<Vec<Request, Global>, AllocError> {
         let mut row = Vec::new(self.alloc);
-        if matches!(self.sight, VersionCheck::Asked) {
-            self.put_facts(&mut row)?;
+        if matches!(self.check, VersionCheck::Asked) {
+            self.put_questions(&mut row)?;
         }
         row.push(self.request()?)?;
-        self.put_facts(&mut row)?;
+        self.put_questions(&mut row)?;
         Ok(row)
     }
 
     /// The questions by which it knows which file the server has.
-    fn put_facts(&self, row: &mut Vec<Request, Global>) -> Result<(), AllocError> {
-        if matches!(self.size, Size::Untold | Size::Told(_)) {
+    fn put_questions(&self, row: &mut Vec<Request, Global>) -> Result<(), AllocError> {
+        if asks_size(self.file.size) {
             row.push(size_request(self.alloc, self.path.as_str(), self.how)?)?;
         }
-        if matches!(self.stamp, KnownMoment::Untold | KnownMoment::Told(_)) {
+        if asks_moment(self.file.moment) {
             row.push(moment_request(self.alloc, self.path.as_str())?)?;
         }
         Ok(())
@@ -103,6 +105,7 @@ impl<'a, R: LocalFiles + Eprint> Downloading<'a, R> {
 
 /// Whether a download is asked ahead that was asked so before or not, with a part to which it goes or without, and of which so many octets came.
 fn is_foreseen(is_ahead: bool, has_part: bool, came: u64) -> bool
+    // Witness: an equation; `edits/what_came_before_is_asked_for_again_ahead`.
     ensures { result ≡ is_foreseen is_ahead has_part came }
 {
     !is_ahead && has_part && came == 0

@@ -1,7 +1,8 @@
 // Which file the server has: its size and its moment, asked before and after a try.
-use crate::downloading::{Downloading, KnownMoment};
+use crate::downloading::Downloading;
+use crate::known_file::{answers_more, asks_moment, asks_size, is_moment_told, moment_by, size_by};
 use crate::trying::{moment_request, size_request};
-use crate::version::Size;
+use crate::version::size_told;
 use ftp_operation::Answer;
 use std::alloc::{AllocError, Global};
 use std::io::Eprint;
@@ -12,54 +13,31 @@ impl<'a, R: LocalFiles + Eprint> Downloading<'a, R> {
     /// Asks which file the server has: for its size and its moment. Says whether anything more is answered over this control connection.
     pub(crate) fn look<S: ClientSession>(&mut self, slot: &mut S) -> bool {
         if !self.is_ahead() {
-            self.asked_at = self.rt.present();
+            self.file.asked_at = self.rt.present();
         }
-        self.look_at_size(slot) && self.look_at_moment(slot)
+        (!asks_size(self.file.size) || self.look_at_size(slot))
+            && (!asks_moment(self.file.moment) || self.look_at_moment(slot))
     }
 
     /// The same after a try; what the server did not tell before it is not asked for.
     pub(crate) fn look_again<S: ClientSession>(&mut self, slot: &mut S) -> bool {
-        (!matches!(self.size, Size::Told(_)) || self.see(slot))
-            && (!matches!(self.stamp, KnownMoment::Told(_)) || self.look_at_moment(slot))
+        (size_told(self.file.size).is_none() || self.look_at_size(slot))
+            && (!is_moment_told(self.file.moment) || self.look_at_moment(slot))
     }
 
     /// Asks for the size; says whether anything more is answered over this control connection.
     fn look_at_size<S: ClientSession>(&mut self, slot: &mut S) -> bool {
-        match self.size {
-            Size::Uncounted | Size::Strange | Size::Past => true,
-            Size::Told(_) | Size::Untold => self.see(slot),
-        }
-    }
-
-    /// Takes in what the server tells of the size; says whether anything more is answered over this control connection.
-    fn see<S: ClientSession>(&mut self, slot: &mut S) -> bool {
-        match &self.size_answer(slot) {
-            Answer::Number(count) => self.size = Size::Told(*count),
-            Answer::Strange => self.size = Size::Strange,
-            Answer::Lost => return false,
-            _ => self.size = Size::Untold,
-        }
-        !matches!(self.size, Size::Strange)
+        let request = size_request(self.alloc, self.path.as_str(), self.how);
+        let answer = answer_to(slot, request);
+        self.file.size = size_by(&answer, self.file.size);
+        answers_more(&answer)
     }
 
     /// Asks for the moment; says whether anything more is answered over this control connection.
     fn look_at_moment<S: ClientSession>(&mut self, slot: &mut S) -> bool {
-        match self.stamp {
-            KnownMoment::Unasked | KnownMoment::Strange => return true,
-            KnownMoment::Untold | KnownMoment::Told(_) => {}
-        }
-        match &answer_to(slot, moment_request(self.alloc, self.path.as_str())) {
-            Answer::Stamp(moment) => self.stamp = KnownMoment::Told(*moment),
-            Answer::Strange => self.stamp = KnownMoment::Strange,
-            Answer::Lost => return false,
-            _ => self.stamp = KnownMoment::Untold,
-        }
-        !matches!(self.stamp, KnownMoment::Strange)
-    }
-
-    /// What the server answers to the question for the size.
-    fn size_answer<S: ClientSession>(&self, slot: &mut S) -> Answer<Global> {
-        answer_to(slot, size_request(self.alloc, self.path.as_str(), self.how))
+        let answer = answer_to(slot, moment_request(self.alloc, self.path.as_str()));
+        self.file.moment = moment_by(&answer, self.file.moment);
+        answers_more(&answer)
     }
 }
 
