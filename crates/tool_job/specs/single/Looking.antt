@@ -1,5 +1,5 @@
 -- When a listing that was asked for may be of a file, and what is made of the facts of what stands there (RFC 959, section 4.2.2; RFC 3659, section 7).
-use Rattle.std.specs.Prelude.{ℕ, ◌==◌, ◌||◌, ◌&&◌, Bool, true, false, length, Option, Some, None}
+use Rattle.std.specs.Prelude.{ℕ, ◌==◌, ◌||◌, ◌&&◌, Bool, true, false, length, Option, Some}
 use Rattle.ftp_facts.specs.declared.entry.EntryKind.{EntryKind}
 use Rattle.ftp_facts.specs.declared.entry.EntryKind.TheVariants as Kinds
 use Rattle.ftp_operation.specs.declared.answer.Answer.{Answer}

@@ -1,10 +1,15 @@
 -- What the words ask of a server that need no data connection (RFC 959, section 4.1.3; RFC 3659, section 4).
 use Rattle.std.specs.Prelude.{ℕ, List}
+use Rattle.ftp_operation.specs.declared.answer.Answer.{Answer}
+use Rattle.ftp_operation.specs.declared.answer.Answer.TheVariants as Answers
 use Rattle.ftp_operation.specs.declared.op.How.{How}
 use Rattle.ftp_operation.specs.declared.op.Op.{Op}
 use Rattle.ftp_operation.specs.declared.op.Op.TheVariants as Ops
 use Rattle.tool_job.specs.declared.single.simple.Simple.{Simple}
 use Rattle.tool_job.specs.declared.single.simple.Simple.TheVariants as Words
+use Rattle.tool_resume.specs.Telling.{told_status}
+use Rattle.tool_terminal.specs.declared.status.Status.{Status}
+use Rattle.tool_terminal.specs.declared.status.Status.TheVariants as Statuses
 
 -- the operation of a word at a path
 abbrev pub op_of : Simple → List ℕ → How → Op (List ℕ)
@@ -13,3 +18,10 @@ op_of Words.MakeDirectory path how = Ops.MakeDir path
 op_of Words.RemoveDirectory path how = Ops.RemoveDir path
 op_of (Words.Move to) path how = Ops.Rename path to.now
 op_of Words.Size path how = Ops.Size path how
+
+-- the exit status of an answer: a change is done, or a size is told, and else that of what is told
+abbrev pub reported_status : {A : Type 0} → Answer A → Status
+reported_status Answers.Done = Statuses.Done
+reported_status (Answers.Path text) = Statuses.Done
+reported_status (Answers.Number count) = Statuses.Done
+reported_status answer = told_status answer

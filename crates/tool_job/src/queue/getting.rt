@@ -1,15 +1,18 @@
 // A file that is one of several which are fetched.
-use crate::queue::job_queue::QueuedJob;
+ghost use Rattle.std.specs.Prelude.{◌≡◌};
+ghost use Rattle.tool_job.specs.queue.Fetching.{can_go_on, is_told_in_full};
+
+use crate::queue::queued_job::QueuedJob;
 use crate::single::{
-    DownloadJob, Job, OUTPUT, PartHandling, Target, Targets, discard, keep_part, leave, place_text,
-    prepare, stamp_of, tell_unwritten,
+    DownloadJob, Job, PartHandling, Target, Targets, discard, keep_part, leave, limit_of,
+    place_text, prepare, stamp_of, tell_unwritten,
 };
 use ftp_operation::Answer;
 use std::alloc::Global;
 use std::io;
 use std::io::{Eprint, Error, Print};
 use tool_files::LocalFiles;
-use tool_resume::{Downloading, limit_held};
+use tool_resume::Downloading;
 use tool_session::{ClientSession, LastReply, SessionFault};
 use tool_terminal::Status;
 
@@ -27,7 +30,7 @@ pub struct Getting<'a> {
 }
 
 impl<'a> Getting<'a> {
-    /// The download of the file at a path of the server into one here.
+    /// The download of the file at a path of the server into one here. Fails where memory is refused.
     fn job<'b>(&self, path: &str, file: &'b str) -> io::Result<Job<'b>>
     where
         'a: 'b,
@@ -45,6 +48,26 @@ impl<'a> Getting<'a> {
     }
 }
 
+/// How far a file is that is fetched.
+#[derive(Clone, Copy)]
+enum FetchState {
+    /// Nothing was made of it here yet.
+    New,
+    /// Its part is made or taken up, where it has one.
+    Prepared,
+    /// It can't be written here, for this reason.
+    Unwritable(Error),
+}
+
+/// What is told of a server that refuses a file.
+#[derive(Clone, Copy)]
+enum RefusalDetail {
+    /// The line of its reply.
+    Line,
+    /// Its code alone: the file is one of a pattern, whose notes name it.
+    Code,
+}
+
 /// A file that is one of several which are fetched.
 pub struct Fetched<'a, R> {
     rt: &'a R,
@@ -52,12 +75,8 @@ pub struct Fetched<'a, R> {
     path: String<Global>,
     file: String<Global>,
     downloading: Downloading<'a, R>,
-    /// Whether it is one of a pattern, whose notes name it: of a refusal its code alone is told.
-    is_named: bool,
-    /// Whether nothing was made of it here yet.
-    is_new: bool,
-    /// Why it can't be written here, if it can't.
-    fault: Option<Error>,
+    detail: RefusalDetail,
+    state: FetchState,
 }
 
 /// By hand: a derived drop is proved again, part by part, wherever one is let go.
@@ -69,15 +88,15 @@ impl<'a, R> Drop for Fetched<'a, R> {
             path: _,
             file: _,
             downloading: _,
-            is_named: _,
-            is_new: _,
-            fault: _,
+            detail: _,
+            state: _,
         } = self;
     }
 }
 
 impl<'a, R: LocalFiles + Print + Eprint> Fetched<'a, R> {
     /// The file at a path of the server, which goes into one here; nothing was asked of it yet. Its notes name it, where a name is given.
+    /// Fails where memory is refused.
     pub fn new(
         rt: &'a R,
         getting: Getting<'a>,
@@ -93,42 +112,40 @@ impl<'a, R: LocalFiles + Print + Eprint> Fetched<'a, R> {
             how,
             getting.asked.openings,
         )?;
-        let limit = if file.as_str() == OUTPUT {
-            limit_held(getting.asked.limit)
-        } else {
-            getting.asked.limit
-        };
+        let limit = limit_of(file.as_str(), getting.asked.limit);
         downloading.put_terms(limit, stamp_of(how, getting.moment));
-        if let Some(name) = name {
-            downloading.name_as(name)?;
-        }
+        let detail = match name {
+            Some(name) => {
+                downloading.name_as(name)?;
+                RefusalDetail::Code
+            }
+            None => RefusalDetail::Line,
+        };
         Ok(Fetched {
             rt,
             getting,
             path,
             file,
             downloading,
-            is_named: name.is_some(),
-            is_new: true,
-            fault: None,
+            detail,
+            state: FetchState::New,
         })
     }
 
     /// It can't be written here, since another file of the command line goes there.
     pub fn refuse(&mut self, error: Error) {
-        self.is_new = false;
-        self.fault = Some(error);
+        self.state = FetchState::Unwritable(error);
     }
 
-    /// Makes the part of a file of which nothing was asked yet, or takes up one that is kept.
-    fn take_up(&mut self) {
-        if !self.is_new {
-            return;
+    /// Makes the part of a file of which nothing was asked yet, or takes up one that is kept; gives how far it is then.
+    fn take_up(&mut self) -> FetchState {
+        if let FetchState::New = self.state {
+            self.state = match self.prepared() {
+                Ok(()) => FetchState::Prepared,
+                Err(error) => FetchState::Unwritable(error),
+            };
         }
-        self.is_new = false;
-        if let Err(error) = self.prepared() {
-            self.fault = Some(error);
-        }
+        self.state
     }
 
     fn prepared(&mut self) -> io::Result<()> {
@@ -152,8 +169,8 @@ impl<'a, R: LocalFiles + Print + Eprint> QueuedJob for Fetched<'a, R> {
         if matches!(self.getting.parts, PartHandling::Continued) {
             return;
         }
-        self.take_up();
-        if self.fault.is_none() {
+        let state = self.take_up();
+        if can_go_on(state) {
             self.downloading.foresee(slot);
         }
     }
@@ -167,11 +184,12 @@ impl<'a, R: LocalFiles + Print + Eprint> QueuedJob for Fetched<'a, R> {
     }
 
     fn ask<S: ClientSession>(&mut self, slot: &mut S) -> Result<Answer<Global>, SessionFault> {
-        self.take_up();
-        if self.fault.is_some() {
-            return Ok(Answer::Done);
+        let state = self.take_up();
+        if can_go_on(state) {
+            Ok(self.downloading.answer(slot))
+        } else {
+            Ok(Answer::Done)
         }
-        Ok(self.downloading.answer(slot))
     }
 
     fn reach(&self) -> u64 {
@@ -179,43 +197,41 @@ impl<'a, R: LocalFiles + Print + Eprint> QueuedJob for Fetched<'a, R> {
     }
 
     fn goes_on(&self) -> bool {
-        self.fault.is_none() && !self.downloading.is_spent()
+        can_go_on(self.state) && !self.downloading.is_spent()
     }
 
     fn leave(&mut self, answer: &Answer<Global>, last_reply: &LastReply) -> io::Result<Status> {
-        self.take_up();
-        let rt = self.rt;
-        if let Some(error) = self.fault {
-            return tell_unwritten(rt, &self.asked(), self.file.as_str(), error);
+        let state = self.take_up();
+        if let FetchState::Unwritable(error) = state {
+            return tell_unwritten(self.rt, &self.asked(), self.file.as_str(), error);
         }
         let job = self.job()?;
         let nothing = LastReply::new();
-        let last_reply = if self.is_named && !matches!(answer, Answer::Lost) {
-            &nothing
-        } else {
+        let told = if is_told_in_full(self.detail, answer) {
             last_reply
+        } else {
+            &nothing
         };
         leave(
-            rt,
+            self.rt,
             &self.asked(),
             &job,
             answer,
             &self.downloading,
-            last_reply,
+            told,
         )
     }
 
     fn stop(&mut self, stop: SessionFault) -> io::Result<Status> {
-        self.take_up();
-        let rt = self.rt;
-        if let Some(error) = self.fault {
-            return tell_unwritten(rt, &self.asked(), self.file.as_str(), error);
+        let state = self.take_up();
+        if let FetchState::Unwritable(error) = state {
+            return tell_unwritten(self.rt, &self.asked(), self.file.as_str(), error);
         }
         let job = self.job()?;
-        keep_part(rt, &job, &self.downloading, Status::Failed)?;
+        keep_part(self.rt, &job, &self.downloading, Status::Failed)?;
         let asked = self.asked();
         let subject = asked.subject(self.file.as_str());
-        stop.tell(rt, subject)
+        stop.tell(self.rt, subject)
     }
 
     fn abandon(&mut self) {
@@ -226,5 +242,30 @@ impl<'a, R: LocalFiles + Print + Eprint> QueuedJob for Fetched<'a, R> {
 
     fn name(&self) -> &str {
         self.path.as_str()
+    }
+}
+
+/// Whether a file is asked for that is so far: it can be written here, as far as that was tried.
+fn can_go_on(state: FetchState) -> bool
+    // Witness: an equation; `edits/what_cant_be_written_is_fetched`.
+    ensures { result ≡ can_go_on state }
+{
+    match state {
+        FetchState::New | FetchState::Prepared => true,
+        FetchState::Unwritable(_) => false,
+    }
+}
+
+/// Whether the line that the server said last is told of this answer.
+fn is_told_in_full(detail: RefusalDetail, answer: &Answer<Global>) -> bool
+    // Witness: an equation; `edits/the_end_of_a_control_connection_is_not_told_of_a_pattern`.
+    ensures { result ≡ is_told_in_full detail answer.now }
+{
+    match detail {
+        RefusalDetail::Line => true,
+        RefusalDetail::Code => match answer {
+            Answer::Lost => true,
+            _ => false,
+        },
     }
 }

@@ -1,85 +1,38 @@
 // Several things of one kind that are asked of a server, one after another: over several control connections what comes next is asked ahead.
-use crate::single::Target;
+ghost use Rattle.std.specs.Prelude.{◌≡◌, is_some};
+ghost use Rattle.tool_job.specs.queue.Order.{GivesFirst, GivesNext};
+ghost use Rattle.tool_job.specs.queue.QueueStatus.{counted};
+
+use crate::queue::ahead_jobs::AheadJobs;
+use crate::queue::decisions::{
+    AfterRound, AnswerEffect, JobSupply, RoundState, after_round, effect_of, takes_up, waits,
+};
+use crate::queue::queue_status::QueueStatus;
+use crate::queue::queued_job::{Often, QueuedJob, WaitingJobs};
 use ftp_operation::Answer;
 use std::alloc::Global;
 use std::io;
-use std::io::{Eprint, Error};
-use tool_connect::{Converses, Logins, ask, converse_as};
+use std::io::Eprint;
 use tool_session::{ClientSession, LastReply, Phase, SessionFault, SessionTask, at};
 use tool_terminal::{Shown, Status};
 
-/// How often it goes on that got further over the control connections before.
-const ROUNDS: u32 = 1_000_000;
-
 /// How often a thing is taken up that may be asked ahead, for each that is done.
 const MOST_AHEAD: usize = 8;
-
-/// One of several things that are asked of a server.
-pub trait QueuedJob {
-    /// Asks ahead of its turn what will be asked, if it was not and may be.
-    fn foresee<S: ClientSession>(&mut self, slot: &mut S);
-
-    /// Whether it was asked ahead, over control connections that are still there.
-    fn is_ahead(&self) -> bool;
-
-    /// The control connections over which it was asked ahead are gone.
-    fn forget(&mut self);
-
-    /// Asks in its turn, and gives what the server answered.
-    fn ask<S: ClientSession>(&mut self, slot: &mut S) -> Result<Answer<Global>, SessionFault>;
-
-    /// How many octets came of it so far.
-    fn reach(&self) -> u64;
-
-    /// Whether it is asked on over another control connection where that of its turn ended.
-    fn goes_on(&self) -> bool;
-
-    /// Leaves at this end what came of it, as the server answered; tells why it is not done, if it is not, and gives the exit status.
-    fn leave(&mut self, answer: &Answer<Global>, last_reply: &LastReply) -> io::Result<Status>;
-
-    /// The same where it was stopped.
-    fn stop(&mut self, stop: SessionFault) -> io::Result<Status>;
-
-    /// Its turn never comes: nothing of it is left at this end.
-    fn abandon(&mut self);
-
-    /// What it is called, where it is not done.
-    fn name(&self) -> &str;
-}
-
-/// What waits until it is taken up.
-pub trait WaitingJobs<E> {
-    /// The next one; of it nothing was asked yet.
-    fn next(&mut self) -> io::Result<Option<E>>;
-}
-
-/// How often a thing is asked.
-#[derive(Clone, Copy)]
-pub enum Often {
-    /// Once: where its control connection ended, it may be done.
-    Once,
-    /// On and on, over further control connections, as long as that gets further.
-    On,
-}
 
 /// Things that are asked of a server one after another.
 pub struct JobQueue<'a, R, E, W> {
     rt: &'a R,
     waiting: W,
-    /// What was taken up ahead of its turn, in the order of the turns.
-    coming: Vec<E, Global>,
+    /// Whether more can be taken up of what waits.
+    supply: JobSupply,
+    ahead: AheadJobs<E>,
     /// What was in its turn when a control connection ended.
     cut: Option<E>,
-    /// Why no more can be taken up behind these, where none can.
-    fault: Option<Error>,
-    /// How many had their turn.
-    taken: u64,
-    worst: Status,
+    status: QueueStatus,
     /// What is not done where one is not done, as `copied`.
     done: &'static str,
     often: Often,
-    /// Whether a control connection ended: what was asked ahead over others is still given, and nothing else is asked.
-    is_over: bool,
+    round: RoundState,
 }
 
 /// By hand: a derived drop is proved again, part by part, wherever one is let go.
@@ -88,14 +41,13 @@ impl<'a, R, E: Drop, W: Drop> Drop for JobQueue<'a, R, E, W> {
         let Self {
             rt: _,
             waiting: _,
-            coming: _,
+            supply: _,
+            ahead: _,
             cut: _,
-            fault: _,
-            taken: _,
-            worst: _,
+            status: _,
             done: _,
             often: _,
-            is_over: _,
+            round: _,
         } = self;
     }
 }
@@ -112,14 +64,13 @@ impl<'a, R: Eprint, E: QueuedJob + Drop, W: WaitingJobs<E> + Drop> JobQueue<'a, 
         JobQueue {
             rt,
             waiting,
-            coming: Vec::new(alloc),
+            supply: JobSupply::Open,
+            ahead: AheadJobs::new(alloc),
             cut: None,
-            fault: None,
-            taken: 0,
-            worst: Status::Done,
+            status: QueueStatus::new(),
             done,
             often,
-            is_over: false,
+            round: RoundState::Asking,
         }
     }
 
@@ -129,64 +80,93 @@ impl<'a, R: Eprint, E: QueuedJob + Drop, W: WaitingJobs<E> + Drop> JobQueue<'a, 
             Some(queued_job) => queued_job.reach(),
             None => 0,
         };
-        (self.taken, came)
+        (self.status.turns, came)
     }
 
     /// The worst status so far.
-    pub fn worst(&self) -> Status {
-        self.worst
+    pub fn worst(&self) -> Status
+        ensures { result ≡ self.now.status.worst }
+    {
+        self.status.worst
     }
 
     /// Whether one was in its turn when a control connection ended.
-    pub fn is_cut(&self) -> bool {
+    pub fn is_cut(&self) -> bool
+        ensures { result ≡ is_some self.now.cut }
+    {
         self.cut.is_some()
+    }
+
+    /// What follows a round of control connections that was answered so last.
+    pub(crate) fn after_round(&self, answer: &Answer<Global>) -> AfterRound {
+        after_round(answer, self.often)
+    }
+
+    /// How often its jobs are asked.
+    pub(crate) fn often(&self) -> Often
+        ensures { result ≡ self.now.often }
+    {
+        self.often
     }
 
     /// Takes up as many ahead as there are control connections that ask ahead, and asks what may be asked ahead.
     fn foresee<S: ClientSession>(&mut self, slot: &mut S) -> io::Result<()> {
-        if self.is_over {
+        if let RoundState::Draining = self.round {
             return Ok(());
         }
+        self.take_up(slot.ahead())?;
+        self.ahead.foresee(slot);
+        Ok(())
+    }
+
+    /// Takes up jobs until so many are ahead, or none can be taken up any more.
+    fn take_up(&mut self, most: usize) -> io::Result<()> {
         for _ in 0..MOST_AHEAD {
-            if self.coming.len() >= slot.ahead() || self.fault.is_some() {
+            if !takes_up(self.ahead.len(), most, self.supply) {
                 break;
             }
             match self.waiting.next() {
-                Ok(Some(queued_job)) => self.coming.push(queued_job)?,
+                Ok(Some(queued_job)) => self.ahead.push(queued_job)?,
                 Ok(None) => break,
-                Err(error) => self.fault = Some(error),
+                Err(error) => self.supply = JobSupply::Failed(error),
             }
-        }
-        for queued_job in self.coming.iter_mut() {
-            queued_job.foresee(slot);
         }
         Ok(())
     }
 
-    /// The next one that has its turn.
-    fn next(&mut self) -> io::Result<Option<E>> {
+    /// The next one that has its turn: the one that had it when a control connection ended, and else the first behind it.
+    fn next(&mut self) -> io::Result<Option<E>>
+        // Witness: `edits/a_job_that_was_cut_off_comes_last`.
+        ensures { GivesNext self.old.cut self.old.ahead.jobs.items self.new.ahead.jobs.items self.old.supply result }
+    {
         if let Some(queued_job) = self.cut.take() {
             return Ok(Some(queued_job));
         }
-        let next = if !self.coming.is_empty() {
-            Some(self.coming.remove(0))
-        } else if let Some(error) = self.fault {
-            return Err(error);
-        } else {
-            self.waiting.next()?
-        };
+        let next = self.next_behind()?;
         if next.is_some() {
-            self.taken = self.taken.saturating_add(1);
+            self.status.begin_turn();
         }
         Ok(next)
     }
 
+    /// The first one that was taken up ahead, and else the next that waits. Fails where none can be taken up, for the reason of that.
+    fn next_behind(&mut self) -> io::Result<Option<E>>
+        // Witness: `edits/what_waits_overtakes_what_was_taken_up`.
+        ensures { GivesFirst self.old.ahead.jobs.items self.new.ahead.jobs.items self.old.supply result }
+    {
+        if let Some(queued_job) = self.ahead.take_first() {
+            return Ok(Some(queued_job));
+        }
+        match self.supply {
+            JobSupply::Open => self.waiting.next(),
+            JobSupply::Failed(error) => Err(error),
+        }
+    }
+
     /// Control connections begin, over which nothing was asked ahead.
     fn begin(&mut self) {
-        self.is_over = false;
-        for queued_job in self.coming.iter_mut() {
-            queued_job.forget();
-        }
+        self.round = RoundState::Asking;
+        self.ahead.forget();
         if let Some(queued_job) = &mut self.cut {
             queued_job.forget();
         }
@@ -201,14 +181,14 @@ impl<'a, R: Eprint, E: QueuedJob + Drop, W: WaitingJobs<E> + Drop> JobQueue<'a, 
         let Some(queued_job) = at(Phase::Asking, self.next())? else {
             return Ok(Some(Answer::Done));
         };
-        if self.is_over && !queued_job.is_ahead() {
+        if waits(self.round, queued_job.is_ahead()) {
             self.cut = Some(queued_job);
             return Ok(Some(Answer::Lost));
         }
         self.asked(slot, queued_job)
     }
 
-    /// Asks one in its turn.
+    /// Asks one in its turn; gives the answer where that ends the round.
     fn asked<S: ClientSession>(
         &mut self,
         slot: &mut S,
@@ -222,12 +202,13 @@ impl<'a, R: Eprint, E: QueuedJob + Drop, W: WaitingJobs<E> + Drop> JobQueue<'a, 
                 return Ok(None);
             }
         };
-        if matches!(&answer, Answer::Lost) {
-            if queued_job.goes_on() {
+        match effect_of(&answer, queued_job.goes_on()) {
+            AnswerEffect::CutOff => {
                 self.cut = Some(queued_job);
                 return Ok(Some(answer));
             }
-            self.is_over = true;
+            AnswerEffect::LeftLast => self.round = RoundState::Draining,
+            AnswerEffect::Left => {}
         }
         let last_reply = slot.take_noticed();
         at(Phase::Report, self.left(queued_job, &answer, &last_reply))?;
@@ -253,9 +234,12 @@ impl<'a, R: Eprint, E: QueuedJob + Drop, W: WaitingJobs<E> + Drop> JobQueue<'a, 
         self.count(&queued_job, status)
     }
 
-    /// Tells which one was not done, as its sentence does not say.
-    fn count(&mut self, queued_job: &E, status: Status) -> io::Result<()> {
-        self.worst = self.worst.worse(status);
+    /// Counts the status of one, and tells which one was not done, as its sentence does not say.
+    fn count(&mut self, queued_job: &E, status: Status) -> io::Result<()>
+        // Witness: an equation; `edits/what_is_not_told_does_not_count`.
+        ensures { self.new.status ≡ counted self.old.status status }
+    {
+        self.status.count(status);
         if status != Status::Done {
             let name = Shown(queued_job.name().as_bytes());
             eprintln!(self.rt; "note: not {}: {name}", self.done)?;
@@ -264,6 +248,7 @@ impl<'a, R: Eprint, E: QueuedJob + Drop, W: WaitingJobs<E> + Drop> JobQueue<'a, 
     }
 
     /// The one that has its turn is left as the server answered, over no control connection any more; says whether there was one.
+    /// Fails where none can be taken up, or standard error can't be written.
     pub fn give_up(&mut self, answer: &Answer<Global>, last_reply: &LastReply) -> io::Result<bool> {
         match self.next()? {
             Some(queued_job) => {
@@ -275,7 +260,7 @@ impl<'a, R: Eprint, E: QueuedJob + Drop, W: WaitingJobs<E> + Drop> JobQueue<'a, 
     }
 
     /// The one that has its turn is stopped, where there is one; says whether there was.
-    fn stop_next(&mut self, stop: SessionFault) -> io::Result<bool> {
+    pub(crate) fn stop_next(&mut self, stop: SessionFault) -> io::Result<bool> {
         match self.next()? {
             Some(queued_job) => {
                 self.stopped(queued_job, stop)?;
@@ -287,9 +272,7 @@ impl<'a, R: Eprint, E: QueuedJob + Drop, W: WaitingJobs<E> + Drop> JobQueue<'a, 
 
     /// What was taken up and has no turn any more leaves nothing at this end.
     pub fn abandon(&mut self) {
-        for queued_job in self.coming.iter_mut() {
-            queued_job.abandon();
-        }
+        self.ahead.abandon();
     }
 }
 
@@ -308,78 +291,4 @@ where
         }
         Ok(Answer::Lost)
     }
-}
-
-/// Does all of them: one that fails does not stop the others. Gives the worst status.
-pub fn done_all<R, E, W>(
-    rt: &R,
-    asked: &Target<'_>,
-    job_queue: &mut JobQueue<'_, R, E, W>,
-    last_reply: &mut LastReply,
-) -> Result<Status, SessionFault>
-where
-    R: Converses + Logins + Eprint,
-    E: QueuedJob + Drop,
-    W: WaitingJobs<E> + Drop,
-{
-    for _ in 0..ROUNDS {
-        let goes_on = match walked(rt, asked, job_queue, last_reply) {
-            Ok(answer) => {
-                let left = went(job_queue, &answer, last_reply);
-                drop(answer);
-                left
-            }
-            Err(stop) => job_queue.stop_next(stop),
-        };
-        if !at(Phase::Report, goes_on)? {
-            break;
-        }
-        *last_reply = LastReply::new();
-    }
-    Ok(job_queue.worst())
-}
-
-/// What follows where the server answered so last; says whether anything does.
-fn went<R, E, W>(
-    job_queue: &mut JobQueue<'_, R, E, W>,
-    answer: &Answer<Global>,
-    last_reply: &LastReply,
-) -> io::Result<bool>
-where
-    R: Eprint,
-    E: QueuedJob + Drop,
-    W: WaitingJobs<E> + Drop,
-{
-    match (answer, job_queue.often) {
-        (Answer::Done, _) => Ok(false),
-        (Answer::Lost, Often::Once) => Ok(true),
-        _ => job_queue.give_up(answer, last_reply),
-    }
-}
-
-/// Goes on as long as each round of control connections gets further; what is asked once has one.
-fn walked<R, E, W>(
-    rt: &R,
-    asked: &Target<'_>,
-    job_queue: &mut JobQueue<'_, R, E, W>,
-    last_reply: &mut LastReply,
-) -> Result<Answer<Global>, SessionFault>
-where
-    R: Converses + Logins + Eprint,
-    E: QueuedJob + Drop,
-    W: WaitingJobs<E> + Drop,
-{
-    if let Often::Once = job_queue.often {
-        return converse_as(rt, asked.server(), asked.user, last_reply, job_queue);
-    }
-    for _ in 0..ROUNDS {
-        let before = job_queue.reach();
-        let answered = ask(rt, asked.server(), asked.user, last_reply, job_queue);
-        let is_lost = matches!(&answered, Ok(Answer::Lost));
-        if !is_lost || job_queue.reach() == before {
-            return answered;
-        }
-        drop(answered);
-    }
-    Ok(Answer::Lost)
 }

@@ -1,6 +1,6 @@
 // A file that is one of several which are sent.
-use crate::queue::job_queue::QueuedJob;
-use crate::single::{Loaded, Target, UploadTooLarge, load};
+use crate::queue::queued_job::QueuedJob;
+use crate::single::{FileSeen, Loaded, Target, UploadTooLarge, load};
 use ftp_operation::Answer;
 use std::alloc::Global;
 use std::io;
@@ -39,6 +39,35 @@ impl<'a, R> Drop for Hand<'a, R> {
     }
 }
 
+/// Whether the first try of an upload is asked ahead of its turn.
+#[derive(Clone, Copy)]
+enum Prefetch<'a> {
+    /// It is not: the file is not open yet, is held in memory, or had its turn.
+    Off,
+    /// It may be, of the file as it was opened.
+    Due(Sending<'a>),
+    /// It was, and is answered by this ticket.
+    Asked(Sending<'a>, Ticket),
+}
+
+impl<'a> Prefetch<'a> {
+    /// The same, where the control connections are gone over which it was asked.
+    fn forgotten(self) -> Prefetch<'a> {
+        match self {
+            Prefetch::Asked(sending, _) => Prefetch::Due(sending),
+            Prefetch::Off | Prefetch::Due(_) => self,
+        }
+    }
+
+    /// By which its upload is answered, where it was asked.
+    fn ticket(self) -> Option<Ticket> {
+        match self {
+            Prefetch::Asked(_, ticket) => Some(ticket),
+            Prefetch::Off | Prefetch::Due(_) => None,
+        }
+    }
+}
+
 /// A file that is one of several which are sent.
 pub struct QueuedUpload<'a, R> {
     rt: &'a R,
@@ -46,10 +75,7 @@ pub struct QueuedUpload<'a, R> {
     file: &'a str,
     path: &'a str,
     hand: Hand<'a, R>,
-    /// The file as it was opened, where it is asked ahead.
-    sending: Option<Sending<'a>>,
-    /// By which its upload is answered, where it was asked ahead.
-    ahead: Option<Ticket>,
+    prefetch: Prefetch<'a>,
 }
 
 /// By hand, as above.
@@ -61,8 +87,7 @@ impl<'a, R> Drop for QueuedUpload<'a, R> {
             file: _,
             path: _,
             hand: _,
-            sending: _,
-            ahead: _,
+            prefetch: _,
         } = self;
     }
 }
@@ -81,8 +106,7 @@ impl<'a, R: LocalFiles + Input + Eprint> QueuedUpload<'a, R> {
             file,
             path,
             hand: Hand::Nothing,
-            sending: None,
-            ahead: None,
+            prefetch: Prefetch::Off,
         }
     }
 
@@ -99,12 +123,12 @@ impl<'a, R: LocalFiles + Input + Eprint> QueuedUpload<'a, R> {
         };
     }
 
-    /// The upload of a file that is at hand.
+    /// The upload of a file that is at hand; a file of a known size may be asked ahead.
     fn uploading(&mut self, loaded: Loaded<'a>) -> Hand<'a, R> {
         let UploadSettings { alloc, asked } = self.putting;
         let mut loaded = loaded;
-        self.sending = match loaded.seen {
-            Some((total, changed)) => Some(Sending {
+        self.prefetch = match loaded.seen {
+            Some(FileSeen { total, changed }) => Prefetch::Due(Sending {
                 file: self.file,
                 total,
                 changed,
@@ -112,7 +136,7 @@ impl<'a, R: LocalFiles + Input + Eprint> QueuedUpload<'a, R> {
                 how: asked.how,
                 openings: asked.openings,
             }),
-            None => None,
+            None => Prefetch::Off,
         };
         match loaded.take_source() {
             Some(source) => Hand::Upload(Uploading::new(
@@ -138,24 +162,26 @@ impl<'a, R: LocalFiles + Input + Eprint> QueuedJob for QueuedUpload<'a, R> {
             return;
         }
         self.take_up();
-        if let Some(sending) = self.sending {
+        if let Prefetch::Due(sending) = self.prefetch {
             let foreseen = sending.foresee(self.rt, self.putting.alloc, slot);
-            self.ahead = foreseen.unwrap_or(None);
+            if let Ok(Some(ticket)) = foreseen {
+                self.prefetch = Prefetch::Asked(sending, ticket);
+            }
         }
     }
 
     fn is_ahead(&self) -> bool {
-        self.ahead.is_some()
+        matches!(self.prefetch, Prefetch::Asked(_, _))
     }
 
     fn forget(&mut self) {
-        self.ahead = None;
+        self.prefetch = self.prefetch.forgotten();
     }
 
     fn ask<S: ClientSession>(&mut self, slot: &mut S) -> Result<Answer<Global>, SessionFault> {
         self.take_up();
-        let ahead = self.ahead.take();
-        self.sending = None;
+        let ahead = self.prefetch.ticket();
+        self.prefetch = Prefetch::Off;
         match &mut self.hand {
             Hand::Upload(uploading) => {
                 uploading.go_by(ahead);

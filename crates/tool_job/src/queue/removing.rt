@@ -1,5 +1,8 @@
 // A file that is one of several which are removed.
-use crate::queue::job_queue::QueuedJob;
+ghost use Rattle.std.specs.Prelude.{◌≡◌, IfOk};
+ghost use Rattle.tool_job.specs.queue.Removing.{removal};
+
+use crate::queue::queued_job::QueuedJob;
 use crate::single::{Target, report};
 use ftp_facts::Text;
 use ftp_operation::{Answer, Op};
@@ -15,6 +18,7 @@ pub struct Removed<'a, R> {
     alloc: Global,
     /// What is asked, with the path of the file.
     asked: Target<'a>,
+    /// Whether it was asked ahead, over control connections that are still there.
     is_ahead: bool,
 }
 
@@ -41,10 +45,19 @@ impl<'a, R: Print + Eprint> Removed<'a, R> {
         }
     }
 
+    /// What is asked. Fails where memory is refused.
     fn request(&self) -> Result<Request, AllocError> {
-        let path = Text::copy_of(self.alloc, self.asked.place.path.as_bytes())?;
-        Ok(Request::One(Some(Op::Delete(path))))
+        removal(self.alloc, self.asked.place.path)
     }
+}
+
+/// The request that a file at a path is removed (DELE, RFC 959, section 4.1.3).
+fn removal(alloc: Global, path: &str) -> Result<Request, AllocError>
+    // Witness: an equation; `edits/a_directory_is_removed_for_a_file`.
+    ensures { IfOk result (λ request. request ≡ removal path.now) }
+{
+    let path = Text::copy_of(alloc, path.as_bytes())?;
+    Ok(Request::One(Some(Op::Delete(path))))
 }
 
 impl<'a, R: Print + Eprint> QueuedJob for Removed<'a, R> {

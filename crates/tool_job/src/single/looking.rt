@@ -11,6 +11,7 @@ use std::alloc::{AllocError, Global};
 
 /// Whether a file may stand at a path of which the entries were asked for, and this was answered.
 pub(crate) fn may_be_file(answer: &Answer<Global>) -> bool
+    // Witness: an equation; `edits/a_listing_with_entries_may_be_of_a_file`.
     ensures { result ≡ may_be_file answer.now }
 {
     match answer {
@@ -29,11 +30,13 @@ fn means_no_directory(code: u16) -> bool
 
 /// Whether the facts that were asked for then are the answer, and not the listing, which was refused, or has no entries.
 pub(crate) fn settles(is_refused: bool, facts: &Answer<Global>) -> bool
+    // Witness: an equation; `edits/the_facts_of_a_directory_are_its_listing`.
     ensures { result ≡ settles is_refused facts.now }
 {
     is_file(facts) || (is_refused && says_more(facts))
 }
 
+/// Whether they are those of a file.
 fn is_file(facts: &Answer<Global>) -> bool
     ensures { result ≡ is_file facts.now }
 {
@@ -43,6 +46,7 @@ fn is_file(facts: &Answer<Global>) -> bool
     }
 }
 
+/// Whether this is the type of a file (RFC 3659, section 7.5.1).
 fn is_file_kind(kind: &Option<EntryKind<Global>>) -> bool
     ensures { result ≡ is_file_kind kind.now }
 {
@@ -52,6 +56,7 @@ fn is_file_kind(kind: &Option<EntryKind<Global>>) -> bool
     }
 }
 
+/// Whether the answer says more of why a listing is refused than its refusal.
 fn says_more(facts: &Answer<Global>) -> bool
     ensures { result ≡ says_more facts.now }
 {
@@ -63,7 +68,7 @@ fn says_more(facts: &Answer<Global>) -> bool
 }
 
 /// The facts of a file as a listing of it alone, by this name, where that may be one; none of another answer. A server names a file by its path (RFC 3659,
-/// section 7.2).
+/// section 7.2). Fails where memory is refused.
 pub(crate) fn listing_of_file(
     alloc: Global,
     name: &str,

@@ -1,6 +1,6 @@
 // A directory of a server, and those above it that are missing.
 ghost use Rattle.std.specs.Prelude.{◌≡◌};
-ghost use Rattle.tool_job.specs.single.Parents.{is_passed};
+ghost use Rattle.tool_job.specs.single.Parents.{is_made, is_passed, is_refused};
 
 use crate::single::simple::report;
 use crate::single::target::Target;
@@ -13,7 +13,7 @@ use tool_session::{ClientSession, LastReply, Phase, Request, SessionFault, Sessi
 use tool_terminal::Status;
 
 /// Makes the directory at a path and those above it, over one control connection, and gives the exit status. One that stands is as well; whether the
-/// last does is asked first, and why it can't be made is told.
+/// last does is asked first, and why it can't be made is told on standard error. Fails where nothing could be asked, or a report can't be written.
 pub fn make_all<R>(
     rt: &R,
     alloc: Global,
@@ -73,19 +73,27 @@ fn make_above<S: ClientSession>(
 
 /// Whether a path that is cut so has a directory as its first part.
 fn is_passed(front: &[u8], rest: &[u8]) -> bool
+    // Witness: an equation; `edits/a_directory_is_made_twice_where_two_slashes_stand`.
     ensures { result ≡ is_passed front.now rest.now }
 {
     !front.is_empty() && !front.ends_with(b"/") && (rest.is_empty() || rest.starts_with(b"/"))
 }
 
-fn is_refused(answer: &Answer<Global>) -> bool {
+/// Whether the server refuses it.
+fn is_refused(answer: &Answer<Global>) -> bool
+    ensures { result ≡ is_refused answer.now }
+{
     matches!(answer, Answer::Refused(_))
 }
 
-fn is_made(answer: &Answer<Global>) -> bool {
+/// Whether the server made it: MKD is answered by the path (RFC 959, section 5.4).
+fn is_made(answer: &Answer<Global>) -> bool
+    ensures { result ≡ is_made answer.now }
+{
     matches!(answer, Answer::Done | Answer::Path(_))
 }
 
+/// Goes into a directory, to see that it stands.
 fn enter<S: ClientSession>(slot: &mut S, alloc: Global, path: &[u8]) -> Answer<Global> {
     match Text::copy_of(alloc, path) {
         Ok(path) => slot.answer(Request::One(Some(Op::ChangeDir(path)))),
@@ -93,6 +101,7 @@ fn enter<S: ClientSession>(slot: &mut S, alloc: Global, path: &[u8]) -> Answer<G
     }
 }
 
+/// Makes a directory.
 fn make<S: ClientSession>(slot: &mut S, alloc: Global, path: &[u8]) -> Answer<Global> {
     match Text::copy_of(alloc, path) {
         Ok(path) => slot.answer(Request::One(Some(Op::MakeDir(path)))),

@@ -1,6 +1,6 @@
 // Operations that need no data connection: a table, and what is told of their answers.
 ghost use Rattle.std.specs.Prelude.{◌≡◌, IfOk};
-ghost use Rattle.tool_job.specs.single.Simple.{op_of};
+ghost use Rattle.tool_job.specs.single.Simple.{op_of, reported_status};
 
 use crate::single::single::ask_once;
 use crate::single::target::Target;
@@ -19,7 +19,9 @@ use tool_terminal::Status;
 pub enum Simple<'a> {
     /// A file is removed.
     Remove,
+    /// A directory is made.
     MakeDirectory,
+    /// An empty directory is removed.
     RemoveDirectory,
     /// A file or a directory has this path from then on.
     Move(&'a str),
@@ -27,13 +29,14 @@ pub enum Simple<'a> {
     Size,
 }
 
-/// The operation of a word at a path.
+/// The operation of a word at a path. Fails where memory is refused.
 pub(crate) fn op_of(
     alloc: Global,
     simple: Simple<'_>,
     path: Text<Global>,
     how: How,
 ) -> Result<Op<Text<Global>>, AllocError>
+    // Witness: an equation; `edits/a_directory_is_removed_by_dele`.
     ensures { IfOk result (λ op. op ≡ op_of simple.entry path how) }
 {
     Ok(match simple {
@@ -45,7 +48,8 @@ pub(crate) fn op_of(
     })
 }
 
-/// Does what a word says, over one control connection, and gives the exit status; a size goes to standard output.
+/// Does what a word says, once, over one control connection, and gives the exit status; a size goes to standard output, and why it is not done to standard
+/// error. Fails where nothing could be asked, or a report can't be written.
 pub fn do_simple<R>(
     rt: &R,
     alloc: Global,
@@ -60,19 +64,26 @@ where
     at(Phase::Report, report(rt, asked, &answer, last_reply))
 }
 
-/// Tells an answer at a path: a size on standard output, what was done not at all, and anything else as `tell` does.
+/// Tells an answer at a path: a size on standard output, what was done not at all, and anything else as `tell` does. `last_reply` is what the server said
+/// last. Fails where the report can't be written.
 pub fn report<R: Print + Eprint>(
     rt: &R,
     asked: &Target<'_>,
     answer: &Answer<Global>,
     last_reply: &LastReply,
-) -> io::Result<Status> {
+) -> io::Result<Status>
+    // Witness: `edits/a_directory_that_was_made_is_a_failure`.
+    ensures { IfOk result (λ status. status ≡ reported_status answer.now) }
+{
     match answer {
         Answer::Done | Answer::Path(_) => Ok(Status::Done),
         Answer::Number(count) => {
             println!(rt; "{count}")?;
             Ok(Status::Done)
         }
-        _ => tell(rt, asked.place.path, asked.stranger(), answer, last_reply),
+        _ => {
+            let status = tell(rt, asked.place.path, asked.stranger(), answer, last_reply)?;
+            Ok(status)
+        }
     }
 }

@@ -19,7 +19,9 @@ use tool_session::{
 pub enum Wish<'a> {
     /// The entries, as text: by MLSD with their facts, or by LIST where the server does not know that.
     Entries,
+    /// The names of the files alone, by NLST.
     Names,
+    /// What needs no data connection.
     Simple(Simple<'a>),
 }
 
@@ -51,7 +53,8 @@ where
     converse_as(rt, asked.server(), asked.user, last_reply, &mut single)
 }
 
-/// Asks for one thing. Where its control connection ends, it is asked anew over another one.
+/// Asks for one thing, and gives what the server answered; `last_reply` is what it said last. Where its control connection ends, it is asked anew over another
+/// one. Fails where nothing could be asked, or a listing has more than 1,000,000 entries.
 pub fn ask_for<R>(
     rt: &R,
     alloc: Global,
@@ -100,10 +103,13 @@ impl<'a> Single<'a> {
     /// What the server answers. Where entries are asked for and a file may stand there, it is asked for the facts of that (MLST, RFC 3659, section 7): they
     /// are the listing of a file. Where they say nothing of why a listing is refused, it is asked for once more, so that its refusal is what the server says
     /// last.
-    fn looked<S: ClientSession>(&self, slot: &mut S) -> Result<Answer<Global>, AllocError> {
+    fn listing_or_file<S: ClientSession>(
+        &self,
+        slot: &mut S,
+    ) -> Result<Answer<Global>, AllocError> {
         let listed = self.asked(slot)?;
-        if !self.looks_on() || !self.may_be_file(&listed)? {
-            return self.stands(slot, listed);
+        if !self.asks_facts(&listed)? {
+            return self.listing_that_stands(slot, listed);
         }
         let is_refused = matches!(&listed, Answer::Refused(_));
         let path = Text::copy_of(self.alloc, self.path.as_bytes())?;
@@ -115,29 +121,30 @@ impl<'a> Single<'a> {
         if is_refused {
             self.asked(slot)
         } else {
-            self.stands(slot, listed)
+            self.listing_that_stands(slot, listed)
         }
     }
 
-    /// A listing. LIST may list nothing of a directory that does not stand: then it is gone into (CWD, RFC 959, section 4.1.1), and who says 550 to that has none.
-    fn stands<S: ClientSession>(
+    /// A listing. LIST may list nothing of a directory that does not stand: then it is gone into (CWD, RFC 959, section 4.1.1), and who says 550 to that has
+    /// none.
+    fn listing_that_stands<S: ClientSession>(
         &self,
         slot: &mut S,
         listed: Answer<Global>,
     ) -> Result<Answer<Global>, AllocError> {
-        if !self.is_doubtful(&listed)? {
+        if !self.may_stand_nowhere(&listed)? {
             return Ok(listed);
         }
         let path = Text::copy_of(self.alloc, self.path.as_bytes())?;
-        let gone = slot.answer(Request::One(Some(Op::ChangeDir(path))));
-        if matches!(&gone, Answer::Refused(UNAVAILABLE) | Answer::Lost) {
-            return Ok(gone);
+        let entered = slot.answer(Request::One(Some(Op::ChangeDir(path))));
+        if matches!(&entered, Answer::Refused(UNAVAILABLE) | Answer::Lost) {
+            return Ok(entered);
         }
         Ok(listed)
     }
 
     /// Whether a directory that is named was listed so by LIST that it may not stand.
-    fn is_doubtful(&self, listed: &Answer<Global>) -> Result<bool, AllocError> {
+    fn may_stand_nowhere(&self, listed: &Answer<Global>) -> Result<bool, AllocError> {
         let is_list = matches!(self.openings.list_verb(), ListVerb::List);
         if self.path.is_empty() || !self.is_listing() || !is_list {
             return Ok(false);
@@ -148,35 +155,32 @@ impl<'a> Single<'a> {
         }
     }
 
-    /// Whether a file may stand there, of which the entries were asked for, and this was answered.
-    fn may_be_file(&self, listed: &Answer<Global>) -> Result<bool, AllocError> {
+    /// Whether the facts of a file are asked for behind a listing that was answered so: its path may be a file's, and a file may stand there.
+    fn asks_facts(&self, listed: &Answer<Global>) -> Result<bool, AllocError> {
+        if !self.is_listing() || says_directory(self.path) {
+            return Ok(false);
+        }
         match listed {
             Answer::Octets(text) => lists_nothing(self.alloc, text.as_slice()),
             _ => Ok(may_be_file(listed)),
         }
     }
 
-    /// Whether entries are asked for at a path that may be a file's.
-    fn looks_on(&self) -> bool {
-        matches!(self.wish, Wish::Entries) && !says_directory(self.path)
-    }
-
-    /// What the server answers; where it does not know the command of a listing, to the same asked for by another one.
+    /// What the server answers; where it does not know the command of a listing, to the same asked for by another one. Fails where memory is refused.
     pub fn asked<S: ClientSession>(&self, slot: &mut S) -> Result<Answer<Global>, AllocError> {
-        let answer = self.opened(slot)?;
+        let answer = self.asked_by_opening(slot)?;
         if !self.is_listing() || !self.openings.hear_listing(&answer) {
             return Ok(answer);
         }
         drop(answer);
-        self.opened(slot)
-    }
-
-    fn is_listing(&self) -> bool {
-        matches!(self.wish, Wish::Entries)
+        self.asked_by_opening(slot)
     }
 
     /// What the server answers; where it does not know how the data connection of a listing is asked for, to the same asked for otherwise.
-    fn opened<S: ClientSession>(&self, slot: &mut S) -> Result<Answer<Global>, AllocError> {
+    fn asked_by_opening<S: ClientSession>(
+        &self,
+        slot: &mut S,
+    ) -> Result<Answer<Global>, AllocError> {
         let opened = slot.opened();
         let answer = slot.answer(self.request()?);
         if self.wish.is_simple() || !self.openings.hear(&answer, slot.opened() > opened) {
@@ -184,6 +188,10 @@ impl<'a> Single<'a> {
         }
         drop(answer);
         Ok(slot.answer(self.request()?))
+    }
+
+    fn is_listing(&self) -> bool {
+        matches!(self.wish, Wish::Entries)
     }
 
     /// The request of a wish.
@@ -201,7 +209,7 @@ impl<'a> Single<'a> {
 
 impl<'a> SessionTask<Result<Answer<Global>, SessionFault>> for Single<'a> {
     fn play<S: ClientSession>(&mut self, slot: &mut S) -> Result<Answer<Global>, SessionFault> {
-        let Ok(answer) = self.looked(slot) else {
+        let Ok(answer) = self.listing_or_file(slot) else {
             return Ok(Answer::Memory);
         };
         if slot.ending() != DataEnding::PastLimit {

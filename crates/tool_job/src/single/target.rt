@@ -1,4 +1,7 @@
 // Which file of which server is meant, and who asks.
+ghost use Rattle.std.specs.Prelude.{◌≡◌};
+ghost use Rattle.tool_job.specs.single.Target.{first_until};
+
 use ftp_operation::How;
 use tool_location::Location;
 use tool_login::User;
@@ -40,8 +43,13 @@ impl<'a> Target<'a> {
         }
     }
 
-    /// The same, of several that are asked one after another: all are to be done until the moment of the first, which is noted here.
-    pub fn within(self, until: &mut Option<u64>) -> Target<'a> {
+    /// The same, of several that are asked one after another: all are to be done until the moment of the first, which is noted in `until`, in milliseconds as
+    /// above.
+    pub fn within(self, until: &mut Option<u64>) -> Target<'a>
+        // Witness of first: an equation; `edits/each_of_several_has_its_own_time`.
+        ensures first { result.until ≡ first_until until.old self.entry.until }
+        ensures noted { until.new ≡ first_until until.old self.entry.until }
+    {
         let first = match *until {
             Some(first) => Some(first),
             None => self.until,
@@ -57,6 +65,8 @@ impl<'a> Target<'a> {
     pub fn at<'b>(&self, path: &'b str) -> Target<'b>
     where
         'a: 'b,
+        // Witness: an equation; `edits/another_path_is_asked_than_was_said`.
+        ensures { result.place.path.now ≡ path.now }
     {
         Target {
             place: Location { path, ..self.place },
@@ -69,7 +79,7 @@ impl<'a> Target<'a> {
         self.openings.stranger(self.how)
     }
 
-    /// What a fault may be of, where this is the file of this end.
+    /// What a fault may be of, where `file` is the file of this end.
     pub fn subject(&self, file: &'a str) -> Subject<'a> {
         Subject {
             server: self.server(),

@@ -38,7 +38,7 @@ impl Targets {
         }
     }
 
-    /// The file of this place is to go under a name. Says whether it may: no other file goes under it.
+    /// The file of this place is to go under a name. Says whether it may: no other file goes under it. Fails where memory is refused; then it goes under none.
     pub fn claim(&self, name: &str, source: &str) -> Result<bool, AllocError> {
         let mut sources = self.taken();
         let claimed = claimed(self.alloc, &mut sources, name.as_bytes(), source.as_bytes());
@@ -46,7 +46,7 @@ impl Targets {
         claimed
     }
 
-    /// The numbers of the parts beside a file whose names are those of files of the command line.
+    /// The numbers of the parts beside a file whose names are those of files of the command line. Fails where memory is refused.
     pub fn parts(&self, file: &str) -> Result<Vec<u32, Global>, AllocError> {
         let sources = self.taken();
         let found = parts_among(self.alloc, &sources, file);
@@ -63,7 +63,7 @@ impl Targets {
     }
 }
 
-/// The file of a server that a user gets, as a text: for no other user and no other file it is the same.
+/// The file of a server that a user gets, as a text: for no other user and no other file it is the same. Fails where memory is refused.
 pub fn source_of(alloc: Global, asked: &Target<'_>) -> io::Result<String<Global>> {
     let place = place_text(alloc, asked)?;
     let user = asked.user.name.unwrap_or("");
@@ -95,6 +95,7 @@ fn claimed(
 /// Whether the file of a place may go under a name, where one of the other place goes under it, if one does: no other file may.
 fn is_free(held: Option<&[u8]>, source: &[u8]) -> bool
     ensures none { IfNone held.entry (result ≡ true) }
+    // Witness of some: an equation; `edits/another_file_goes_under_the_name`.
     ensures some { IfSome held.entry (λ held. result ≡ pointwise nat_eq held.now source.now) }
 {
     match held {
@@ -103,6 +104,7 @@ fn is_free(held: Option<&[u8]>, source: &[u8]) -> bool
     }
 }
 
+/// The numbers of the parts beside a file whose names are taken.
 fn parts_among(
     alloc: Global,
     sources: &Sources,

@@ -1,4 +1,6 @@
-// An upload: what goes, and what is told of it.
+// An upload over a control connection of its own: what goes, and what is told of it.
+ghost use Rattle.std.specs.Prelude.{◌≡◌, ◌<◌, ◌≤◌, IfErr, IfOk, IfSome};
+
 use crate::single::single::ask_at;
 use crate::single::target::Target;
 use std::alloc::Global;
@@ -6,7 +8,7 @@ use std::io;
 use std::io::Eprint;
 use std::time::SystemTime;
 use tool_connect::{Converses, Logins};
-use tool_files::{LimitedContent, LocalFiles, read_most};
+use tool_files::{LimitedContent, LocalFiles, OpenSource, read_most};
 use tool_resume::{UploadSource, Uploading, limit_held, tell_too_large};
 use tool_session::{LastReply, Phase, SessionFault, at};
 use tool_terminal::Status;
@@ -14,7 +16,8 @@ use tool_terminal::Status;
 /// The file that stands for standard input.
 const INPUT: &str = "-";
 
-/// Uploads a file, or standard input, and gives the exit status.
+/// Uploads a file, or standard input, and gives the exit status; why it is not done is told on standard error, and `last_reply` is what the server said last.
+/// Fails where the file can't be read, nothing could be asked, or a report can't be written.
 pub fn put<R>(
     rt: &R,
     alloc: Global,
@@ -43,15 +46,25 @@ where
 /// What is not uploaded: it has more octets than may be.
 #[derive(Clone, Copy)]
 pub struct UploadTooLarge {
+    /// How many octets it has; of what is held in memory, as far as it was read.
     pub size: u64,
     pub limit: u64,
+}
+
+/// A file as it was opened.
+#[derive(Clone, Copy)]
+pub struct FileSeen {
+    /// How many octets it has.
+    pub total: u64,
+    /// When it was changed last, where that is known.
+    pub changed: Option<SystemTime>,
 }
 
 /// What is uploaded.
 pub struct Loaded<'a> {
     source: Option<UploadSource<'a>>,
-    /// How many octets a file has, and when it was changed last, where that is known; nothing of what is held in memory.
-    pub seen: Option<(u64, Option<SystemTime>)>,
+    /// The file; none of what is held in memory.
+    pub seen: Option<FileSeen>,
 }
 
 /// By hand: a derived drop is proved again, part by part, wherever octets are let go.
@@ -68,7 +81,8 @@ impl<'a> Loaded<'a> {
     }
 }
 
-/// What is to be uploaded: a file is read as it goes; what comes of standard input, or is no file of a known size, is held in memory.
+/// What is to be uploaded, of at most `limit` octets: a file is read as it goes; what comes of standard input, or is no file of a known size, is held in
+/// memory. Fails where it can't be read, or memory is refused.
 pub fn load<'a, R: LocalFiles + Input>(
     rt: &R,
     alloc: Global,
@@ -77,18 +91,40 @@ pub fn load<'a, R: LocalFiles + Input>(
 ) -> io::Result<Result<Loaded<'a>, UploadTooLarge>> {
     if file != INPUT {
         if let Some(opened) = rt.open_source(file, 0)? {
-            let size = opened.total;
-            return Ok(if size > limit {
-                Err(UploadTooLarge { size, limit })
-            } else {
-                Ok(Loaded {
-                    seen: Some((size, opened.changed)),
-                    source: Some(UploadSource::file(file, opened)),
-                })
-            });
+            return Ok(streamed(file, opened, limit));
         }
     }
-    let limit = limit_held(limit);
+    held(rt, alloc, file, limit_held(limit))
+}
+
+/// A file that is read as it goes.
+fn streamed<'a>(file: &'a str, opened: OpenSource, limit: u64) -> Result<Loaded<'a>, UploadTooLarge>
+    // Witness of fits: `edits/a_file_past_the_limit_is_sent`.
+    ensures fits { IfOk result (λ loaded. IfSome loaded.seen (λ seen. seen.total ≤ limit)) }
+    // Witness of large: `edits/a_file_as_large_as_the_limit_is_not_sent`.
+    ensures large { IfErr result (λ large. limit < large.size) }
+    ensures limit { IfErr result (λ large. large.limit ≡ limit) }
+{
+    let size = opened.total;
+    if size > limit {
+        return Err(UploadTooLarge { size, limit });
+    }
+    Ok(Loaded {
+        seen: Some(FileSeen {
+            total: size,
+            changed: opened.changed,
+        }),
+        source: Some(UploadSource::file(file, opened)),
+    })
+}
+
+/// What is held in memory.
+fn held<'a, R: LocalFiles + Input>(
+    rt: &R,
+    alloc: Global,
+    file: &str,
+    limit: u64,
+) -> io::Result<Result<Loaded<'a>, UploadTooLarge>> {
     match read(rt, alloc, file, limit)? {
         LimitedContent::Content(content) => Ok(Ok(Loaded {
             source: Some(UploadSource::Kept(content.octets)),

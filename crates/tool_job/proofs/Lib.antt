@@ -1,0 +1,2 @@
+pub mod AheadLemmas
+pub mod StatusLemmas
