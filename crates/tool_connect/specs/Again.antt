@@ -1,5 +1,6 @@
 -- When a further control connection may bring an answer (own choice: RFC 959, section 3.5, leaves recovery to the user).
-use Rattle.std.specs.Prelude.{ℕ, ◌-◌, ◌*◌, ◌+◌, ◌/◌, ◌==◌, ◌&&◌, ◌||◌, max, min, nat_lt, Bool, true, false, not, Option, Some, None, Result, Ok, Err, if◌then◌else◌}
+use Rattle.std.specs.Prelude.{ℕ, ◌-◌, ◌*◌, ◌+◌, ◌/◌, ◌==◌, ◌&&◌, ◌||◌, max, min, nat_lt, if◌then◌else◌}
+use Rattle.std.specs.Prelude.{Bool, true, false, not, Option, Some, None, Result, Ok, Err}
 use Rattle.ftp_operation.specs.declared.answer.Answer.{Answer}
 use Rattle.ftp_operation.specs.declared.answer.Answer.TheVariants as Answers
 use Rattle.tool_connect.specs.declared.again.Loss.{Loss}
@@ -35,6 +36,10 @@ abbrev pub silence_left : (seconds spent : ℕ) → (is_heard : Bool) → Option
 silence_left seconds spent true = Some seconds
 silence_left seconds spent false =
     if seconds == 0 then Some 0 else if nat_lt spent seconds then Some (seconds - spent) else None
+
+-- the whole seconds of so many milliseconds, and no more than a number of 32 bits is
+abbrev pub full_seconds : ℕ → ℕ
+full_seconds millis = min (millis / 1000) 4294967295
 
 -- the seconds of so many milliseconds, rounded up, one at least, and no more than a number of 32 bits is
 abbrev pub whole_seconds : ℕ → ℕ

@@ -5,7 +5,9 @@ ghost use Rattle.tool_session.specs.Talking.{Conversed, SessionExchange};
 ghost use Rattle.tool_connect.specs.Answering.{CanHear};
 
 use crate::health::Health;
-use crate::talking;
+use crate::server::{connected, leave, seconds_since};
+use crate::several::play_over_several;
+use crate::single::play_over_one;
 use ftp_operation::Login;
 use std::alloc::Global;
 use std::env::Env;
@@ -16,14 +18,18 @@ use std::net::{Net, TcpListener, TcpStream};
 use std::time::Clock;
 use tool_login::{User, login_of};
 use tool_session::{LastReply, Phase, ServerAddress, SessionFault, SessionTask, at};
+use tool_sockets::monotonic_millis;
 
 /// Who can open control connections.
 pub trait Converses {
     /// What can be heard over so many control connections at once.
     ghost hears: { Self → (at_once : ℕ) → List SessionExchange → Type 0 };
 
-    /// Opens a control connection, plays over it by a client, says goodbye and closes it. Notices whether it failed; of several that is not known.
-    fn converse_noticing<T, P>(
+    /// Opens the control connections that `server` wants, plays over them by a client at each, says QUIT and closes them (RFC 959, section 4.1.1).
+    ///
+    /// `last_reply` learns the line that was said last, and what ended the connection; `health` whether a single one failed, of several that is not known.
+    /// A fault at `Phase::Connection`: none was opened. At `Phase::Talking`: the system refused what a client needs beside it. At `Phase::Asking`: memory.
+    fn converse<T, P>(
         &self,
         server: ServerAddress<'_>,
         login: Login<Global>,
@@ -36,23 +42,6 @@ pub trait Converses {
         P: SessionTask<Result<T, SessionFault>>,
         // Witness: `run_orders` of `tool_get_put` needs it, and its edits, as `nothing_is_asked`.
         ensures { Conversed P.tells (hears self.now server.entry.at_once) P.plays play.old play.new result };
-
-    /// The same, where nobody asks whether it failed.
-    fn converse<T, P>(
-        &self,
-        server: ServerAddress<'_>,
-        login: Login<Global>,
-        last_reply: &mut LastReply,
-        play: &mut P,
-    ) -> Result<T, SessionFault>
-    where
-        T: Drop,
-        P: SessionTask<Result<T, SessionFault>>,
-        // Witness: as `converse_noticing`.
-        ensures { Conversed P.tells (hears self.now server.entry.at_once) P.plays play.old play.new result }
-    {
-        self.converse_noticing(server, login, last_reply, &Health::new(), play)
-    }
 }
 
 /// Who knows the logins of users.
@@ -65,9 +54,10 @@ impl<R> Converses for R
 where
     R: Net<Listener = TcpListener, Stream = TcpStream> + Eprint + Clock + AllocGlobal,
 {
-    ghost hears = { λ rt at_once heard. CanHear at_once heard };
+    ghost hears = { λ rt. CanHear };
 
-    fn converse_noticing<T, P>(
+    #[tactic(auto, using(crate::proofs::ConversingLemmas::heard_of_one, crate::proofs::ConversingLemmas::heard_of_several))]
+    fn converse<T, P>(
         &self,
         server: ServerAddress<'_>,
         login: Login<Global>,
@@ -79,7 +69,13 @@ where
         T: Drop,
         P: SessionTask<Result<T, SessionFault>>,
     {
-        talking::converse(self, server, login, (last_reply, health), play)
+        if server.at_once > 1 {
+            return play_over_several(self, server, &login, last_reply, play);
+        }
+        let stream = at(Phase::Connection, connected(self, server))?;
+        let done = play_over_one(self, server, login, &stream, (last_reply, health), play);
+        let _gone = leave(&stream);
+        done
     }
 }
 
@@ -89,7 +85,8 @@ impl<R: Files + Env + AllocGlobal> Logins for R {
     }
 }
 
-/// Opens a control connection for a user whose password is still to be had, plays over it, and closes it.
+/// Converses for a user whose password is still to be had, and tells `last_reply` how many seconds the control connections took. A fault at `Phase::Login`:
+/// there is no password, and no control connection was opened; else as of `Converses::converse`.
 pub fn converse_as<R, T, P>(
     rt: &R,
     server: ServerAddress<'_>,
@@ -101,11 +98,12 @@ where
     R: Converses + Logins,
     T: Drop,
     P: SessionTask<Result<T, SessionFault>>,
-    // Witness: as `converse_noticing`.
+    // Witness: as `converse`.
     ensures { Conversed P.tells (R.hears rt.now server.entry.at_once) P.plays play.old play.new result }
 {
-    match at(Phase::Login, rt.login(server.host, user)) {
-        Ok(login) => rt.converse(server, login, last_reply, play),
-        Err(stop) => Err(stop),
-    }
+    let login = at(Phase::Login, rt.login(server.host, user))?;
+    let begun = monotonic_millis();
+    let done = rt.converse(server, login, last_reply, &Health::new(), play);
+    last_reply.add_spent(seconds_since(begun));
+    done
 }

@@ -35,20 +35,21 @@ impl Health {
     }
 }
 
-/// The reader or the writer of a control connection, whose failures are noticed.
+/// The reader or the writer of a control connection, whose failures its `Health` learns.
 #[derive(Drop)]
-pub(crate) struct Noticed<'a, S> {
+pub(crate) struct Monitored<'a, S> {
     stream: S,
     health: &'a Health,
 }
 
-impl<'a, S> Noticed<'a, S> {
-    pub(crate) fn new(stream: S, health: &'a Health) -> Noticed<'a, S> {
-        Noticed { stream, health }
+impl<'a, S> Monitored<'a, S> {
+    /// This stream, whose octets pass as they are.
+    pub(crate) fn new(stream: S, health: &'a Health) -> Monitored<'a, S> {
+        Monitored { stream, health }
     }
 }
 
-impl<'a, S: Read> Read for Noticed<'a, S> {
+impl<'a, S: Read> Read for Monitored<'a, S> {
     fn read(&mut self, room: &mut [u8]) -> io::Result<usize> {
         match self.stream.read(room) {
             Ok(count) => Ok(count),
@@ -60,7 +61,7 @@ impl<'a, S: Read> Read for Noticed<'a, S> {
     }
 }
 
-impl<'a, S: Write> Write for Noticed<'a, S> {
+impl<'a, S: Write> Write for Monitored<'a, S> {
     fn write(&mut self, octets: &[u8]) -> io::Result<usize> {
         match self.stream.write(octets) {
             Ok(count) => Ok(count),

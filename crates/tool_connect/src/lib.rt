@@ -9,7 +9,7 @@ mod live;
 mod progress;
 mod server;
 mod several;
-mod talking;
+mod single;
 
 pub use again::ask;
 pub use conversing::{Converses, Logins, converse_as};

@@ -29,18 +29,19 @@ pub(crate) trait Opens: Ports {
     fn finish(&mut self);
 }
 
-/// A client, its control connection, and its data connections.
+/// A client, its control connection, and its data connections, of which none stands behind an answer.
 #[derive(Drop)]
-pub(crate) struct LiveSession<'a, 'b, 'c, N, C, W, P, S> {
+pub(crate) struct LiveSession<'a, 'b, 'c, 'd, N, C, W, P, S> {
     pub(crate) client: N,
     pub(crate) control: &'a mut Control<C, W>,
     pub(crate) ports: &'b mut P,
     /// Room for its data connections.
     pub(crate) data: &'c mut Data<S>,
-    pub(crate) course: &'b RequestState,
+    /// What its data connections know of the request under way.
+    pub(crate) request_state: &'d RequestState,
 }
 
-impl<'a, 'b, 'c, N, C, W, P, S> ClientSession for LiveSession<'a, 'b, 'c, N, C, W, P, S>
+impl<'a, 'b, 'c, 'd, N, C, W, P, S> ClientSession for LiveSession<'a, 'b, 'c, 'd, N, C, W, P, S>
 where
     N: Near<Global>,
     C: Read + Drop,
@@ -62,7 +63,7 @@ where
 
     fn answer(&mut self, request: Request) -> Answer<Global> {
         let mut request = request;
-        self.course.begin(&request);
+        self.request_state.begin(&request);
         begin(&mut self.client, &mut request);
         let Driven { report, off: _ } = drive_client(
             &mut self.client,
@@ -70,7 +71,8 @@ where
             self.ports,
             self.data,
         );
-        self.course.reported(&report, self.client.last_reply());
+        self.request_state
+            .reported(&report, self.client.last_reply());
         match report {
             Some(answer) => answer,
             None => Answer::Lost,
@@ -83,7 +85,7 @@ where
         home: &Cell<Option<T>>,
     ) -> Answer<Global> {
         let mut request = request;
-        self.course.begin(&request);
+        self.request_state.begin(&request);
         begin(&mut self.client, &mut request);
         let mut ports = CarriedPorts::new(self.ports, home);
         let mut data = Data::new();
@@ -94,7 +96,8 @@ where
             &mut data,
         );
         data.finish(&mut ports);
-        self.course.reported(&report, self.client.last_reply());
+        self.request_state
+            .reported(&report, self.client.last_reply());
         match report {
             Some(answer) => answer,
             None => Answer::Lost,
@@ -110,6 +113,6 @@ where
     }
 
     fn ending(&self) -> DataEnding {
-        self.course.ending()
+        self.request_state.ending()
     }
 }

@@ -28,7 +28,8 @@ struct ProgressTimes {
 pub(crate) struct MeteredPorts<'a, R: Net<Listener = TcpListener, Stream = TcpStream>> {
     rt: &'a R,
     ports: SocketPorts<'a, R>,
-    course: &'a RequestState,
+    request_state: &'a RequestState,
+    /// Whether it is told how far they are.
     is_told: bool,
     /// The most octets a second; 0: without a limit.
     rate: u64,
@@ -39,7 +40,7 @@ pub(crate) struct MeteredPorts<'a, R: Net<Listener = TcpListener, Stream = TcpSt
 pub(crate) struct MeteredLink<'a, R> {
     rt: &'a R,
     link: DataSocket<'a>,
-    course: &'a RequestState,
+    request_state: &'a RequestState,
     /// The most octets a second; 0: without a limit.
     rate: u64,
     /// When it was opened, where the system tells the time.
@@ -56,24 +57,25 @@ impl<'a, R> MeteredPorts<'a, R>
 where
     R: Net<Listener = TcpListener, Stream = TcpStream> + Clock,
 {
-    /// Data connections of a client, beside its control connection to this server.
-    pub(crate) fn hearing(
+    /// Data connections beside a control connection to this server. Fails where the system does not tell the address of this end.
+    pub(crate) fn beside(
         rt: &'a R,
         control: &'a TcpStream,
         timeouts: &'a ClientTimeouts,
-        course: &'a RequestState,
+        request_state: &'a RequestState,
         server: ServerAddress<'_>,
     ) -> io::Result<MeteredPorts<'a, R>> {
         let ports = SocketPorts::new(rt, control, timeouts)?;
         Ok(MeteredPorts {
             rt,
             ports,
-            course,
+            request_state,
             is_told: server.progress,
             rate: server.rate,
         })
     }
 
+    /// A data connection that was opened now, of which nothing moved.
     fn metered(&self, link: DataSocket<'a>) -> MeteredLink<'a, R> {
         let begun = Instant::now(self.rt).ok();
         let told = match begun {
@@ -83,7 +85,7 @@ where
         MeteredLink {
             rt: self.rt,
             link,
-            course: self.course,
+            request_state: self.request_state,
             rate: self.rate,
             begun,
             moved: 0,
@@ -118,7 +120,7 @@ where
 
     fn wait(&mut self, stream: &mut MeteredLink<'a, R>, what: For, hears: bool) -> Ready {
         let ready = self.ports.wait(&mut stream.link, what, hears);
-        self.course.waited(ready);
+        self.request_state.waited(ready);
         ready
     }
 
@@ -157,7 +159,7 @@ impl<'a, R: Clock + Eprint> MeteredLink<'a, R> {
     /// So many octets more were moved.
     fn add(&mut self, count: usize) {
         self.moved = self.moved.saturating_add(count as u64);
-        self.course.moved(count);
+        self.request_state.moved(count);
         let (Some(told), Ok(now)) = (self.told, Instant::now(self.rt)) else {
             return;
         };
@@ -173,7 +175,11 @@ impl<'a, R: Clock + Eprint> MeteredLink<'a, R> {
 
     /// Tells how far it is, and what stands behind that.
     fn tell(&self, begun: Instant, now: Instant, behind: &str) {
-        let pace = pace_of(self.course.span(), self.moved, millis_between(begun, now));
+        let pace = pace_of(
+            self.request_state.span(),
+            self.moved,
+            millis_between(begun, now),
+        );
         let _told = eprint!(self.rt; "\r{pace}{behind}");
     }
 
@@ -195,7 +201,7 @@ impl<'a, R: Clock + Eprint> MeteredLink<'a, R> {
 
     /// The lines that end in octets that came, where they are counted.
     fn add_lines(&mut self, octets: &[u8]) {
-        if self.course.counts_lines() {
+        if self.request_state.counts_lines() {
             let ends = octets.iter().filter(|octet| **octet == b'\n').count();
             self.lines = self.lines.saturating_add(ends as u64);
         }
@@ -217,7 +223,7 @@ impl<'a, R: Clock + Eprint> MeteredLink<'a, R> {
         let MeteredLink {
             rt: _,
             link,
-            course: _,
+            request_state: _,
             rate: _,
             begun: _,
             moved: _,
@@ -240,7 +246,7 @@ impl<'a, R: Clock + Eprint> Read for MeteredLink<'a, R> {
         let count = self.link.read(front)?;
         self.add(count);
         self.add_lines(room.get(..count).unwrap_or(&[]));
-        if self.course.cuts_off(self.moved, self.lines) {
+        if self.request_state.cuts_off(self.moved, self.lines) {
             return Err(Error::from(ErrorKind::ConnectionAborted));
         }
         Ok(count)

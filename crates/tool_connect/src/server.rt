@@ -1,15 +1,17 @@
 // A control connection to a server: how it is opened, and how it ends.
 ghost use Rattle.std.specs.Prelude.{◌≡◌};
-ghost use Rattle.tool_connect.specs.Again.{seconds_left, share_of, whole_seconds};
+ghost use Rattle.tool_connect.specs.Again.{full_seconds, seconds_left, share_of, whole_seconds};
 
+use ftp_endpoint::Host;
 use std::io;
 use std::io::{Error, ErrorKind, Write};
 use std::net::{Net, SocketAddr, TcpListener, TcpStream, ToSocketAddrs};
 use std::time::Duration;
 use tool_session::ServerAddress;
-use tool_sockets::{keep_alive, monotonic_millis, say_goodbye};
+use tool_sockets::{host_of, keep_alive, monotonic_millis, say_goodbye};
 
-/// A control connection.
+/// A control connection to a server: to the first of its addresses that answers in time. Its octets go at once, and the system looks whether its peer is
+/// there. Fails where no address answers, `--max-time` is over, or the system refuses.
 pub(crate) fn connected<R>(rt: &R, server: ServerAddress<'_>) -> io::Result<TcpStream>
 where
     R: Net<Listener = TcpListener, Stream = TcpStream>,
@@ -20,7 +22,7 @@ where
     Ok(stream)
 }
 
-/// A further control connection, to the address of the first one.
+/// A further control connection, to the address of the first one. Fails as `connected`.
 pub(crate) fn connected_to<R>(
     rt: &R,
     address: SocketAddr,
@@ -32,7 +34,7 @@ where
     open(rt, address, seconds_for(server)?)
 }
 
-/// A connection to the first address of a server that answers in time; all of them together have the seconds of the server.
+/// A connection to the first address that answers in time; all of them together have the seconds of the server. The error is that of the last address.
 fn opened<R>(rt: &R, server: ServerAddress<'_>) -> io::Result<TcpStream>
 where
     R: Net<Listener = TcpListener, Stream = TcpStream>,
@@ -57,6 +59,18 @@ fn seconds_for(server: ServerAddress<'_>) -> io::Result<u32> {
         return Err(Error::new(ErrorKind::TimedOut, "the time of --max-time is over"));
     }
     Ok(seconds_left(server.timeout, left))
+}
+
+/// How many whole seconds went by since a moment of the monotonic clock, in milliseconds.
+pub(crate) fn seconds_since(begun: u64) -> u32 {
+    full_seconds(monotonic_millis().saturating_sub(begun))
+}
+
+/// The whole seconds of so many milliseconds.
+fn full_seconds(millis: u64) -> u32
+    ensures { result ≡ full_seconds millis }
+{
+    (millis / 1_000).min(4_294_967_295) as u32
 }
 
 /// How many milliseconds are left until a moment of the monotonic clock, where there is one.
@@ -112,7 +126,14 @@ where
     }
 }
 
-/// Says that no more commands come, and waits a moment for the server's last reply.
+/// The hosts at this end of a connection and at the other. Fails where the system does not tell them.
+pub(crate) fn hosts_of(stream: &TcpStream) -> io::Result<(Host, Host)> {
+    let here = host_of(stream.local_addr()?);
+    let peer = host_of(stream.peer_addr()?);
+    Ok((here, peer))
+}
+
+/// Says QUIT, and waits a second at most for the server's last reply (RFC 959, section 4.1.1). Fails where the connection does.
 pub(crate) fn leave(stream: &TcpStream) -> io::Result<()> {
     let mut writer = stream;
     writer.write_all(b"QUIT\r\n")?;

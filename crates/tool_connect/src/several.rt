@@ -1,14 +1,15 @@
-// Several control connections from their beginning to their end, with a client at each.
+// Several control connections from their opening to their last replies, with a client at each.
 ghost use Rattle.std.specs.Prelude.{◌≡◌, ⊤};
 ghost use Rattle.tool_session.specs.Talking.{Conversed};
-ghost use Rattle.tool_connect.specs.Several.{channels_of, part_of};
+ghost use Rattle.tool_connect.specs.Several.{connections_of, part_of};
 
-use crate::server::{connected, connected_to, left_until, seconds_left};
+use crate::server::{connected, connected_to, hosts_of, left_until, seconds_left};
 use ftp_client::Client;
 use ftp_client_driver::Control;
 use ftp_client_model::Near;
 use ftp_client_steps::ClientTransfer;
 use ftp_client_transfer::OperationTransfer;
+use ftp_endpoint::Host;
 use ftp_facts::Text;
 use ftp_operation::Login;
 use std::alloc::Global;
@@ -18,17 +19,64 @@ use std::io::{Eprint, Error, ErrorKind};
 use std::net::{Net, TcpListener, TcpStream};
 use std::rc::Rc;
 use tool_parallel::{
-    Channel, ChannelPorts, Channels, MOST_CHANNELS, PoolSlot, Reliability, TakesTurns,
+    ConnectionPool, MOST_CONNECTIONS, PoolSlot, PooledClient, PooledPorts, Reliability, TakesTurns,
 };
 use tool_polling::{ControlLine, LinePorts, LineReader, LineWriter, PassivePorts, TimeLimits};
 use tool_session::{
     LastReply, Phase, RequestState, ServerAddress, SessionFault, SessionTask, at, say,
 };
-use tool_sockets::{Sockets, host_of};
+use tool_sockets::Sockets;
 
-/// Opens control connections, plays over them by a client at each, says goodbye and closes them. Of those behind the first as many are used as the server
-/// gives.
-pub(crate) fn converse_by_several<R, T, P>(
+/// What the connections of a pool have in common.
+#[derive(Drop)]
+struct PoolSettings<'a, R> {
+    rt: &'a R,
+    alloc: Global,
+    login: &'a Login<Global>,
+    passive: &'a PassivePorts,
+    server: ServerAddress<'a>,
+}
+
+/// A control connection that is open, until a client is at it.
+struct PooledLine<'a, R: Sockets> {
+    /// Those of this end and of the other.
+    hosts: (Host, Host),
+    line: Rc<ControlLine, Global>,
+    control: Control<LineReader, LineWriter>,
+    ports: PooledPorts<'a, R>,
+    request_state: &'a RequestState,
+}
+
+/// By hand: a derived drop is proved again, part by part, wherever one is let go.
+impl<'a, R: Sockets> Drop for PooledLine<'a, R> {
+    fn drop(self) {
+        let Self {
+            hosts: _,
+            line: _,
+            control: _,
+            ports: _,
+            request_state: _,
+        } = self;
+    }
+}
+
+impl<'a, R: Sockets> PooledLine<'a, R> {
+    /// A client at it.
+    fn client_at<N: Near<Global>>(self, client: N) -> PooledClient<'a, R, N> {
+        let PooledLine {
+            hosts: _,
+            line,
+            control,
+            ports,
+            request_state,
+        } = self;
+        PooledClient::new(client, line, control, ports, request_state)
+    }
+}
+
+/// Opens control connections, plays over them by a client at each, says QUIT and closes them. Of those behind the first as many are used as the server
+/// gives. Faults as of `Converses::converse`.
+pub(crate) fn play_over_several<R, T, P>(
     rt: &R,
     server: ServerAddress<'_>,
     login: &Login<Global>,
@@ -42,44 +90,32 @@ where
     ensures { Conversed P.tells (λ heard. ⊤) P.plays play.old play.new result }
 {
     let streams = at(Phase::Connection, streams_of(rt, rt.alloc(), server))?;
-    let courses = at(Phase::Talking, courses_of(rt.alloc()))?;
+    let request_states = at(Phase::Talking, request_states_of(rt.alloc()))?;
     let passive = PassivePorts::new(rt.alloc(), 0, 0);
-    let channel_settings = ChannelSettings {
+    let settings = PoolSettings {
         rt,
         alloc: rt.alloc(),
         login,
         passive: &passive,
         server,
     };
-    let done = play_over::<OperationTransfer<Global>, R, T, P>(
-        &channel_settings,
-        streams,
-        courses.as_slice(),
-        last_reply,
-        play,
+    let lines = lines_of(&settings, streams, request_states.as_slice());
+    let lines = at(Phase::Talking, lines)?;
+    let done = play_by_several::<OperationTransfer<Global>, R, T, P>(
+        &settings, lines, last_reply, play,
     );
-    note_moved(courses.as_slice(), last_reply);
+    note_moved(request_states.as_slice(), last_reply);
     done
 }
 
-/// Notes whether octets moved over a data connection of any channel.
-fn note_moved(courses: &[RequestState], last_reply: &mut LastReply) {
-    if courses.iter().any(|course| course.has_moved()) {
+/// Notes whether octets moved over a data connection beside any control connection.
+fn note_moved(request_states: &[RequestState], last_reply: &mut LastReply) {
+    if request_states.iter().any(|one| one.has_moved()) {
         last_reply.octets_moved();
     }
 }
 
-/// What the channels have in common.
-#[derive(Drop)]
-struct ChannelSettings<'a, R> {
-    rt: &'a R,
-    alloc: Global,
-    login: &'a Login<Global>,
-    passive: &'a PassivePorts,
-    server: ServerAddress<'a>,
-}
-
-/// One control connection, and further ones as far as the server takes them.
+/// One control connection, and further ones as far as the server takes them; that it takes no more is told.
 fn streams_of<R>(
     rt: &R,
     alloc: Global,
@@ -92,7 +128,7 @@ where
     let address = first.peer_addr()?;
     let mut streams = Vec::new(alloc);
     streams.push(first)?;
-    for _ in 1..channels_of(server.at_once) {
+    for _ in 1..connections_of(server.at_once) {
         match connected_to(rt, address, server) {
             Ok(stream) => streams.push(stream)?,
             Err(error) => {
@@ -104,27 +140,69 @@ where
     Ok(streams)
 }
 
-/// How many control connections are wanted.
-fn channels_of(at_once: u32) -> u32
-    ensures { result ≡ channels_of at_once }
+/// How many control connections are wanted: 8 at most.
+fn connections_of(at_once: u32) -> u32
+    ensures { result ≡ connections_of at_once }
 {
-    at_once.min(MOST_CHANNELS as u32)
+    at_once.min(MOST_CONNECTIONS as u32)
 }
 
-/// What each channel asks.
-fn courses_of(alloc: Global) -> io::Result<Vec<RequestState, Global>> {
-    let mut courses = Vec::new(alloc);
-    for _ in 0..MOST_CHANNELS {
-        courses.push(RequestState::around(Cell::new(None)))?;
+/// What is asked over each control connection: nothing yet.
+fn request_states_of(alloc: Global) -> io::Result<Vec<RequestState, Global>> {
+    let mut request_states = Vec::new(alloc);
+    for _ in 0..MOST_CONNECTIONS {
+        request_states.push(RequestState::around(Cell::new(None)))?;
     }
-    Ok(courses)
+    Ok(request_states)
 }
 
-/// Plays over these control connections; what is transferred by is a parameter, since a named one costs the proof more.
-fn play_over<'a, F, R, T, P>(
-    channel_settings: &ChannelSettings<'a, R>,
+/// These control connections, each with what a client at it needs.
+fn lines_of<'a, R: Sockets>(
+    settings: &PoolSettings<'a, R>,
     streams: Vec<TcpStream, Global>,
-    courses: &'a [RequestState],
+    request_states: &'a [RequestState],
+) -> io::Result<Vec<PooledLine<'a, R>, Global>> {
+    let mut lines = Vec::new(settings.alloc);
+    for (stream, request_state) in streams.into_iter().zip(request_states.iter()) {
+        lines.push(line_of(settings, stream, request_state)?)?;
+    }
+    Ok(lines)
+}
+
+/// A control connection with what a client at it needs.
+fn line_of<'a, R: Sockets>(
+    settings: &PoolSettings<'a, R>,
+    stream: TcpStream,
+    request_state: &'a RequestState,
+) -> io::Result<PooledLine<'a, R>> {
+    let hosts = hosts_of(&stream)?;
+    let line = Rc::new(
+        settings.alloc,
+        ControlLine::new(stream, limits_of(settings.server))?,
+    )?;
+    let ports = LinePorts::new(settings.rt, line.clone()?, settings.passive)?;
+    let control = Control::new(
+        LineReader::new(line.clone()?),
+        LineWriter::new(line.clone()?),
+    );
+    let rate = part_of(
+        settings.server.rate,
+        connections_of(settings.server.at_once),
+    );
+    Ok(PooledLine {
+        hosts,
+        line,
+        control,
+        ports: PooledPorts::new(ports, request_state, rate),
+        request_state,
+    })
+}
+
+/// Plays by a client at each of these control connections. No other function here passes it on, and what it transfers by is a parameter, since a named one
+/// costs the proof more.
+fn play_by_several<'a, F, R, T, P>(
+    settings: &PoolSettings<'a, R>,
+    lines: Vec<PooledLine<'a, R>, Global>,
     last_reply: &mut LastReply,
     play: &mut P,
 ) -> Result<T, SessionFault>
@@ -135,49 +213,38 @@ where
     P: SessionTask<Result<T, SessionFault>>,
     ensures { Conversed P.tells (λ heard. ⊤) P.plays play.old play.new result }
 {
-    let clients = at(
+    match at(
         Phase::Talking,
-        clients_of::<F, R>(channel_settings, streams.as_slice()),
-    )?;
-    play_between(
-        channel_settings,
-        streams,
-        clients,
-        courses,
-        last_reply,
-        play,
-    )
+        clients_of::<F, R>(settings, lines.as_slice()),
+    ) {
+        Ok(clients) => play_between(settings, lines, clients, last_reply, play),
+        Err(fault) => Err(fault),
+    }
 }
 
 /// A client for each control connection.
 fn clients_of<F, R>(
-    channel_settings: &ChannelSettings<'_, R>,
-    streams: &[TcpStream],
+    settings: &PoolSettings<'_, R>,
+    lines: &[PooledLine<'_, R>],
 ) -> io::Result<Vec<Client<Global, F>, Global>>
 where
     F: ClientTransfer<Global>,
     R: Sockets,
 {
-    let mut clients = Vec::new(channel_settings.alloc);
-    for stream in streams {
-        clients.push(client_of::<F, R>(channel_settings, stream)?)?;
+    let mut clients = Vec::new(settings.alloc);
+    for line in lines {
+        clients.push(client_of::<F>(settings.alloc, settings.login, line.hosts)?)?;
     }
     Ok(clients)
 }
 
-/// A client between the hosts of a control connection.
-fn client_of<F, R>(
-    channel_settings: &ChannelSettings<'_, R>,
-    stream: &TcpStream,
-) -> io::Result<Client<Global, F>>
-where
-    F: ClientTransfer<Global>,
-    R: Sockets,
-{
-    let here = host_of(stream.local_addr()?);
-    let peer = host_of(stream.peer_addr()?);
-    let login = login_copy(channel_settings.alloc, channel_settings.login)?;
-    match Client::new(channel_settings.alloc, login, here, peer) {
+/// A client between two hosts, with a copy of the login. Fails where memory is refused.
+fn client_of<F: ClientTransfer<Global>>(
+    alloc: Global,
+    login: &Login<Global>,
+    (here, peer): (Host, Host),
+) -> io::Result<Client<Global, F>> {
+    match Client::new(alloc, login_copy(alloc, login)?, here, peer) {
         Ok(client) => Ok(client),
         Err(_) => Err(Error::from(ErrorKind::OutOfMemory)),
     }
@@ -185,10 +252,9 @@ where
 
 /// Plays by these clients, each at its control connection.
 fn play_between<'a, N, R, T, P>(
-    channel_settings: &ChannelSettings<'a, R>,
-    streams: Vec<TcpStream, Global>,
+    settings: &PoolSettings<'a, R>,
+    lines: Vec<PooledLine<'a, R>, Global>,
     clients: Vec<N, Global>,
-    courses: &'a [RequestState],
     last_reply: &mut LastReply,
     play: &mut P,
 ) -> Result<T, SessionFault>
@@ -199,24 +265,38 @@ where
     P: SessionTask<Result<T, SessionFault>>,
     ensures { Conversed P.tells (λ heard. ⊤) P.plays play.old play.new result }
 {
-    let mut channels = Vec::new(channel_settings.alloc);
-    let ends = streams.into_iter().zip(clients.into_iter());
-    for ((stream, client), course) in ends.zip(courses.iter()) {
-        let channel = at(
-            Phase::Talking,
-            channel_of(channel_settings, stream, client, course),
-        )?;
-        if channels.push(channel).is_err() {
-            return Err(SessionFault::of_memory());
-        }
+    match slots_of(settings.alloc, lines, clients) {
+        Ok(slots) => play_in_pool(settings, slots, last_reply, play),
+        Err(fault) => Err(fault),
     }
-    play_by_channels(channel_settings, channels, last_reply, play)
 }
 
-/// Plays over these channels, says goodbye over each, and closes them.
-fn play_by_channels<L, R, T, P>(
-    channel_settings: &ChannelSettings<'_, R>,
-    channels: Vec<L, Global>,
+/// These clients, each at its control connection, of which the first is relied on. Fails where memory is refused.
+fn slots_of<'a, N, R>(
+    alloc: Global,
+    lines: Vec<PooledLine<'a, R>, Global>,
+    clients: Vec<N, Global>,
+) -> Result<Vec<PoolSlot<PooledClient<'a, R, N>>, Global>, SessionFault>
+where
+    N: Near<Global>,
+    R: Sockets,
+{
+    let mut slots = Vec::new(alloc);
+    let mut reliability = Reliability::Tried;
+    for (line, client) in lines.into_iter().zip(clients.into_iter()) {
+        let slot = PoolSlot::new(line.client_at(client), reliability);
+        if slots.push(slot).is_err() {
+            return Err(SessionFault::of_memory());
+        }
+        reliability = Reliability::Untried;
+    }
+    Ok(slots)
+}
+
+/// Plays over a pool of these, says QUIT over each, and waits a moment for their ends.
+fn play_in_pool<L, R, T, P>(
+    settings: &PoolSettings<'_, R>,
+    slots: Vec<PoolSlot<L>, Global>,
     last_reply: &mut LastReply,
     play: &mut P,
 ) -> Result<T, SessionFault>
@@ -227,56 +307,11 @@ where
     P: SessionTask<Result<T, SessionFault>>,
     ensures { Conversed P.tells (λ heard. ⊤) P.plays play.old play.new result }
 {
-    let mut slots = Vec::new(channel_settings.alloc);
-    let mut stand = Reliability::Tried;
-    for channel in channels {
-        if slots.push(PoolSlot::new(channel, stand)).is_err() {
-            return Err(SessionFault::of_memory());
-        }
-        stand = Reliability::Untried;
-    }
-    let timeouts = (
-        channel_settings.server.timeout,
-        channel_settings.server.until,
-    );
-    let mut channels = Channels::new(
-        channel_settings.rt,
-        channel_settings.alloc,
-        slots,
-        last_reply,
-        timeouts,
-    );
-    let done = play.play(&mut channels);
-    channels.leave();
+    let limits = (settings.server.timeout, settings.server.until);
+    let mut pool = ConnectionPool::new(settings.rt, settings.alloc, slots, last_reply, limits);
+    let done = play.play(&mut pool);
+    pool.leave();
     done
-}
-
-/// A client at a control connection.
-fn channel_of<'a, N, R>(
-    channel_settings: &ChannelSettings<'a, R>,
-    stream: TcpStream,
-    client: N,
-    course: &'a RequestState,
-) -> io::Result<Channel<'a, R, N>>
-where
-    N: Near<Global>,
-    R: Sockets,
-{
-    let line = Rc::new(
-        channel_settings.alloc,
-        ControlLine::new(stream, limits_of(channel_settings.server))?,
-    )?;
-    let ports = LinePorts::new(channel_settings.rt, line.clone()?, channel_settings.passive)?;
-    let control = Control::new(
-        LineReader::new(line.clone()?),
-        LineWriter::new(line.clone()?),
-    );
-    let rate = part_of(
-        channel_settings.server.rate,
-        channels_of(channel_settings.server.at_once),
-    );
-    let ports = ChannelPorts::new(ports, course, rate);
-    Ok(Channel::new(client, line, control, ports, course))
 }
 
 /// How long the server is waited for: nobody is told to log in here, so that what is left of the time for all is a limit that nothing puts off.
@@ -290,18 +325,18 @@ fn limits_of(server: ServerAddress<'_>) -> TimeLimits {
     }
 }
 
-/// The part that each of so many has of the octets that may go in a second; 0: without a limit.
-fn part_of(rate: u64, channels: u32) -> u64
-    ensures { result ≡ part_of rate channels }
+/// The part that each of so many connections has of the octets that may go in a second; 0: without a limit.
+fn part_of(rate: u64, connections: u32) -> u64
+    ensures { result ≡ part_of rate connections }
 {
     if rate == 0 {
         0
     } else {
-        (rate / u64::from(channels.max(1))).max(1)
+        (rate / u64::from(connections.max(1))).max(1)
     }
 }
 
-/// The same login once more.
+/// The same login once more. Fails where memory is refused.
 fn login_copy(alloc: Global, login: &Login<Global>) -> io::Result<Login<Global>> {
     let user = Text::copy_of(alloc, login.user())?;
     let pass = Text::copy_of(alloc, login.pass())?;

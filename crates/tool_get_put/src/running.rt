@@ -167,7 +167,7 @@ where
         at_once: 1,
         ..server
     };
-    let done = rt.converse_noticing(server, login, &mut LastReply::new(), &health, &mut all);
+    let done = rt.converse(server, login, &mut LastReply::new(), &health, &mut all);
     (result_by(done, health.has_failed()), all.into_out())
 }
 

@@ -1,2 +1,4 @@
--- What is asked ahead of its turn.
+-- What is prefetched, and which of its answers is given.
 pub mod Ahead
+-- What may be asked over one control connection.
+pub mod Slot

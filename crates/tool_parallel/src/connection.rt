@@ -1,8 +1,8 @@
 // One control connection of several in one thread: a client that takes turns between those of others, and whose data connections are never waited for
 // (RFC 959, section 2.3).
 
-mod channel;
-mod ports;
+mod pooled_client;
+mod pooled_ports;
 
-pub use channel::{Channel, TakesTurns};
-pub use ports::{ChannelLink, ChannelPorts};
+pub use pooled_client::{PooledClient, TakesTurns};
+pub use pooled_ports::{PooledLink, PooledPorts};

@@ -1,9 +1,11 @@
-// Several control connections of which each has its turn: what will be asked is asked ahead over those that are free, and given in its turn (own choice).
+// Several control connections of which each has its turn: what will be asked is prefetched over those that are idle, and given in its turn (own choice).
 
 mod ahead;
-mod channels;
-mod row;
+mod batch;
+mod connection_pool;
+mod poll;
 mod slot;
+mod slots;
 
-pub use channels::{Channels, MOST_CHANNELS};
+pub use connection_pool::{ConnectionPool, MOST_CONNECTIONS};
 pub use slot::{PoolSlot, Reliability};

@@ -1,7 +1,8 @@
-// What is asked ahead of its turn, and how it is known again.
+// What is prefetched, how it is known again, and which of its answers is given.
 ghost use Rattle.std.specs.Prelude.{◌≡◌, IfSome, IsTrue, Some};
 ghost use Rattle.std.specs.Option.{option_map};
-ghost use Rattle.tool_parallel.specs.pool.Ahead.{asked_ahead, is_done, is_fact, is_for, is_given, is_removed, is_told, leaves_all, says_none, wants_login};
+ghost use Rattle.tool_parallel.specs.pool.Ahead.{asked_ahead, changes_none, is_fact, leaves_all, moves_file, wants_login, wants_login_of};
+ghost use Rattle.tool_parallel.specs.pool.Ahead.{is_done, is_for, is_given, is_removed, is_told, says_none};
 
 use ftp_facts::Text;
 use ftp_operation::{Answer, Op};
@@ -9,7 +10,7 @@ use ftp_reply::code::{NOT_IMPLEMENTED, UNAVAILABLE, UNKNOWN};
 use std::alloc::Global;
 use tool_session::{DataEnding, Request, StreamBody, Ticket};
 
-/// What can be asked ahead of a path.
+/// What can be prefetched of a path.
 #[derive(Clone, Copy)]
 pub(crate) enum PrefetchKind {
     Download,
@@ -20,29 +21,32 @@ pub(crate) enum PrefetchKind {
     Moment,
 }
 
-/// What is asked, and of which path.
-pub(crate) struct Key {
-    what: PrefetchKind,
+/// By which a request is known again: what it asks, and of which path.
+pub(crate) struct RequestKey {
+    kind: PrefetchKind,
     path: Text<Global>,
 }
 
 /// By hand: a derived drop is proved again, part by part, wherever a key is let go.
-impl Drop for Key {
+impl Drop for RequestKey {
     fn drop(self) {
-        let Self { what: _, path: _ } = self;
+        let Self { kind: _, path: _ } = self;
     }
 }
 
-/// What was answered ahead, how its data connection ended, how many were opened, and what went over it.
-pub(crate) struct Done {
+/// What was answered ahead of its turn.
+pub(crate) struct PrefetchedAnswer {
     pub(crate) answer: Answer<Global>,
+    /// How its data connection ended.
     pub(crate) ending: DataEnding,
+    /// How many data connections were opened for it.
     pub(crate) opened: u32,
+    /// What went over its data connection.
     pub(crate) stream_body: StreamBody,
 }
 
 /// By hand, as above.
-impl Drop for Done {
+impl Drop for PrefetchedAnswer {
     fn drop(self) {
         let Self {
             answer: _,
@@ -53,29 +57,31 @@ impl Drop for Done {
     }
 }
 
-impl Key {
-    /// That of a request; none where it is not asked ahead, or memory is refused.
-    pub(crate) fn of(alloc: Global, request: &Request) -> Option<Key>
-        ensures { IfSome result (λ key. asked_ahead request.now ≡ Some (key.what, key.path)) }
+impl RequestKey {
+    /// That of a request; none where it is never prefetched, or memory is refused.
+    pub(crate) fn of(alloc: Global, request: &Request) -> Option<RequestKey>
+        ensures { IfSome result (λ key. asked_ahead request.now ≡ Some (key.kind, key.path)) }
     {
-        let Some((what, path)) = parts_of(request) else {
+        let Some((kind, path)) = parts_of(request) else {
             return None;
         };
         match Text::copy_of(alloc, path) {
-            Ok(path) => Some(Key { what, path }),
+            Ok(path) => Some(RequestKey { kind, path }),
             Err(_) => None,
         }
     }
 
     /// What is asked.
-    pub(crate) fn what(&self) -> PrefetchKind
-        ensures { result ≡ self.now.what }
+    pub(crate) fn kind(&self) -> PrefetchKind
+        ensures { result ≡ self.now.kind }
     {
-        self.what
+        self.kind
     }
 
     /// Whether this asks something of the same path.
-    pub(crate) fn is_at(&self, request: &Request) -> bool {
+    pub(crate) fn is_at(&self, request: &Request) -> bool
+        ensures { IsTrue result → option_map (λ asked. asked.1) (asked_ahead request.now) ≡ Some self.now.path }
+    {
         match parts_of(request) {
             Some((_, path)) => path == self.path.as_slice(),
             None => false,
@@ -84,15 +90,16 @@ impl Key {
 
     /// Whether this asks for the same.
     pub(crate) fn is_of(&self, request: &Request) -> bool
-        ensures { IsTrue result → asked_ahead request.now ≡ Some (self.now.what, self.now.path) }
+        ensures { IsTrue result → asked_ahead request.now ≡ Some (self.now.kind, self.now.path) }
     {
         match parts_of(request) {
-            Some((what, path)) if is_same(what, self.what) => path == self.path.as_slice(),
+            Some((kind, path)) if is_same(kind, self.kind) => path == self.path.as_slice(),
             _ => false,
         }
     }
 }
 
+/// Whether both are the same.
 fn is_same(one: PrefetchKind, other: PrefetchKind) -> bool
     ensures { IsTrue result → one ≡ other }
 {
@@ -130,8 +137,8 @@ fn parts_of(request: &Request) -> Option<(PrefetchKind, &[u8])>
     }
 }
 
-/// Whether what was asked ahead by this ticket, or by none, is the answer to what is asked by one or none: what went over its data connection is of whoever
-/// has its ticket, and of nobody else.
+/// Whether what was prefetched by this ticket, or by none, is the answer to what is asked by one or none: what went over its data connection is of whoever has
+/// its ticket, and of nobody else.
 pub(crate) fn is_for(held: Option<Ticket>, asked: Option<Ticket>) -> bool
     ensures { result ≡ is_for held asked }
 {
@@ -143,52 +150,58 @@ pub(crate) fn is_for(held: Option<Ticket>, asked: Option<Ticket>) -> bool
 }
 
 /// Whether this is a fact of a file, which a reply alone tells.
-pub(crate) fn is_fact(what: PrefetchKind) -> bool
-    ensures { result ≡ is_fact what }
+pub(crate) fn is_fact(kind: PrefetchKind) -> bool
+    ensures { result ≡ is_fact kind }
 {
-    matches!(what, PrefetchKind::Size | PrefetchKind::Moment)
+    matches!(kind, PrefetchKind::Size | PrefetchKind::Moment)
 }
 
 /// Whether octets of a file go over its data connection.
-pub(crate) fn is_transfer(what: PrefetchKind) -> bool {
-    matches!(what, PrefetchKind::Download | PrefetchKind::Upload)
+pub(crate) fn moves_file(kind: PrefetchKind) -> bool
+    ensures { result ≡ moves_file kind }
+{
+    matches!(kind, PrefetchKind::Download | PrefetchKind::Upload)
 }
 
-/// Whether a request that is asked in its turn leaves the files of the server as they are; of what is not asked ahead that is not known.
-pub(crate) fn changes_none(request: &Request) -> bool {
+/// Whether a request that is asked in its turn leaves the files of the server as they are. Of what is never prefetched that is known of a download alone.
+pub(crate) fn changes_none(request: &Request) -> bool
+    ensures { result ≡ changes_none (asked_ahead request.now) request.now }
+{
     match parts_of(request) {
-        Some((what, _)) => leaves_all(what),
+        Some((kind, _)) => leaves_all(kind),
         None => matches!(request, Request::Download(_, _)),
     }
 }
 
 /// Whether this leaves the files of the server as they are.
-fn leaves_all(what: PrefetchKind) -> bool
-    ensures { result ≡ leaves_all what }
+fn leaves_all(kind: PrefetchKind) -> bool
+    ensures { result ≡ leaves_all kind }
 {
-    !matches!(what, PrefetchKind::Upload | PrefetchKind::Removal)
+    !matches!(kind, PrefetchKind::Upload | PrefetchKind::Removal)
 }
 
-/// Whether a request is asked ahead only over a control connection whose login was accepted.
-pub(crate) fn wants_login_of(request: &Request) -> bool {
+/// Whether a request is prefetched only over a control connection whose login was accepted.
+pub(crate) fn wants_login_of(request: &Request) -> bool
+    ensures { result ≡ wants_login_of (asked_ahead request.now) }
+{
     match parts_of(request) {
-        Some((what, _)) => wants_login(what),
+        Some((kind, _)) => wants_login(kind),
         None => false,
     }
 }
 
 /// The same of what is asked.
-fn wants_login(what: PrefetchKind) -> bool
-    ensures { result ≡ wants_login what }
+fn wants_login(kind: PrefetchKind) -> bool
+    ensures { result ≡ wants_login kind }
 {
-    matches!(what, PrefetchKind::Removal)
+    matches!(kind, PrefetchKind::Removal)
 }
 
 /// Whether an answer that came ahead is given: another one is asked for once more in its turn, so that what is told of it is of that.
-pub(crate) fn is_given(what: PrefetchKind, answer: &Answer<Global>) -> bool
-    ensures { result ≡ is_given what answer.now }
+pub(crate) fn is_given(kind: PrefetchKind, answer: &Answer<Global>) -> bool
+    ensures { result ≡ is_given kind answer.now }
 {
-    match what {
+    match kind {
         PrefetchKind::Size | PrefetchKind::Moment => is_told(answer),
         PrefetchKind::Removal => is_removed(answer),
         PrefetchKind::Download | PrefetchKind::Upload | PrefetchKind::Listing => is_done(answer),

@@ -1,7 +1,10 @@
-// One of several control connections, and what is asked over it: in its turn, or ahead.
+// One of several control connections, and what is asked over it: in its turn, or ahead of it.
+ghost use Rattle.std.specs.Prelude.{◌≡◌, None};
+ghost use Rattle.tool_parallel.specs.pool.Slot.{has_no_login, is_login_refused, is_relied_on, is_slot_busy, is_unusable, may_ask, relied_after, tried_after};
+
 use crate::connection::TakesTurns;
-use crate::pool::ahead::Done;
-use crate::pool::row::RequestBatch;
+use crate::pool::ahead::PrefetchedAnswer;
+use crate::pool::batch::RequestBatch;
 use ftp_operation::{Answer, Op};
 use ftp_reply::code::NOT_LOGGED_IN;
 use std::alloc::Global;
@@ -9,25 +12,26 @@ use std::mem;
 use tool_polling::Awaits;
 use tool_session::{Request, StreamBody, Ticket};
 
-/// What a channel does now.
+/// What a connection does now.
 #[derive(Clone, Copy)]
 pub(crate) enum Activity {
     Nothing,
     /// What is asked in its turn.
     Asked,
-    /// What is asked ahead.
+    /// What is prefetched.
     Ahead,
     /// What nobody asked for: whether its login is accepted.
     Trial,
 }
 
-/// How far a channel is relied on.
+/// How far a connection is relied on.
 #[derive(Clone, Copy)]
 pub enum Reliability {
-    /// Nothing was answered over it yet that is given: only what is asked ahead goes over it.
+    /// Nothing was answered over it yet that is given: only what is prefetched goes over it.
     Untried,
+    /// What is asked in its turn goes over it, too.
     Tried,
-    /// Its login was refused.
+    /// Its login was refused: nothing goes over it.
     Refused,
 }
 
@@ -49,7 +53,9 @@ impl Drop for ReceivedAnswer {
 
 impl ReceivedAnswer {
     /// The answer, of which nothing went over a data connection that is wanted.
-    pub(crate) fn into_answer(self) -> Answer<Global> {
+    pub(crate) fn into_answer(self) -> Answer<Global>
+        ensures { result ≡ self.answer }
+    {
         let ReceivedAnswer {
             answer,
             stream_body: _,
@@ -58,13 +64,14 @@ impl ReceivedAnswer {
     }
 }
 
-/// A channel, and what it does.
+/// A control connection of a pool, and what it does.
 pub struct PoolSlot<L> {
-    pub(crate) channel: L,
-    stand: Reliability,
-    doing: Activity,
-    /// What is asked ahead over it, and not given yet.
+    pub(crate) client: L,
+    reliability: Reliability,
+    activity: Activity,
+    /// What is prefetched over it, and not given yet.
     ahead: Option<RequestBatch>,
+    /// What was answered to what was asked in its turn, until that is taken.
     pub(crate) answer: Option<ReceivedAnswer>,
     /// How many data connections were opened when it began what it does.
     opened: u32,
@@ -74,9 +81,9 @@ pub struct PoolSlot<L> {
 impl<L: Drop> Drop for PoolSlot<L> {
     fn drop(self) {
         let Self {
-            channel: _,
-            stand: _,
-            doing: _,
+            client: _,
+            reliability: _,
+            activity: _,
             ahead: _,
             answer: _,
             opened: _,
@@ -85,59 +92,68 @@ impl<L: Drop> Drop for PoolSlot<L> {
 }
 
 impl<L: TakesTurns + Drop> PoolSlot<L> {
-    /// A channel of which nothing is asked.
-    pub fn new(channel: L, stand: Reliability) -> PoolSlot<L> {
+    /// A control connection that is open, and over which nothing is asked.
+    pub fn new(client: L, reliability: Reliability) -> PoolSlot<L>
+        ensures { result ≡ record { client = client; reliability = reliability; activity = Activity.Nothing; ahead = None; answer = None; opened = 0 } }
+    {
         PoolSlot {
-            channel,
-            stand,
-            doing: Activity::Nothing,
+            client,
+            reliability,
+            activity: Activity::Nothing,
             ahead: None,
             answer: None,
             opened: 0,
         }
     }
 
-    pub(crate) fn is_busy(&self) -> bool {
-        !matches!(self.doing, Activity::Nothing)
+    /// Whether something is under way.
+    pub(crate) fn is_busy(&self) -> bool
+        ensures { result ≡ is_slot_busy self.now.activity }
+    {
+        !matches!(self.activity, Activity::Nothing)
     }
 
     /// Whether nothing is asked over it any more.
-    pub(crate) fn is_over(&self) -> bool {
-        self.channel.is_gone() || matches!(self.stand, Reliability::Refused)
+    pub(crate) fn is_over(&self) -> bool
+        ensures { result ≡ is_unusable (L.gone self.now.client) self.now.reliability }
+    {
+        self.client.is_gone() || has_no_login(self.reliability)
     }
 
     /// Whether something may be asked over it in its turn now.
-    pub(crate) fn is_free(&self) -> bool {
-        !self.is_busy() && !self.channel.is_gone() && matches!(self.stand, Reliability::Tried)
+    pub(crate) fn is_free(&self) -> bool
+        ensures { result ≡ may_ask self.now.activity (L.gone self.now.client) self.now.reliability }
+    {
+        !self.is_busy() && !self.client.is_gone() && is_relied_on(self.reliability)
     }
 
-    /// Whether something may be asked over it ahead now.
-    pub(crate) fn is_idle(&self) -> bool {
+    /// Whether something may be prefetched over it now.
+    fn is_idle(&self) -> bool {
         !self.is_busy() && !self.is_over() && self.ahead.is_none()
     }
 
-    /// The same, of what is asked ahead only where the login was accepted, or of anything else.
+    /// The same, of what is prefetched only where the login was accepted, or of anything else.
     pub(crate) fn is_idle_for(&self, wants_login: bool) -> bool {
-        self.is_idle() && (!wants_login || matches!(self.stand, Reliability::Tried))
+        self.is_idle() && (!wants_login || is_relied_on(self.reliability))
     }
 
     /// Whether nothing is known of its login yet, and nothing is asked.
     pub(crate) fn is_new(&self) -> bool {
-        self.is_idle() && matches!(self.stand, Reliability::Untried)
+        self.is_idle() && matches!(self.reliability, Reliability::Untried)
     }
 
-    /// Whether this, by this ticket or by none, is given next of what is asked ahead over it.
+    /// Whether this, by this ticket or by none, is given next of what is prefetched over it.
     pub(crate) fn has_ahead(&self, request: &Request, ticket: Option<Ticket>) -> bool {
         match &self.ahead {
-            Some(row) => row.is_of(request, ticket),
+            Some(batch) => batch.is_of(request, ticket),
             None => false,
         }
     }
 
-    /// Whether something of the same path is asked ahead over it.
+    /// Whether something of the same path is prefetched over it.
     pub(crate) fn is_at(&self, request: &Request) -> bool {
         match &self.ahead {
-            Some(row) => row.is_at(request),
+            Some(batch) => batch.is_at(request),
             None => false,
         }
     }
@@ -145,52 +161,53 @@ impl<L: TakesTurns + Drop> PoolSlot<L> {
     /// Whether what is given next is still under way.
     pub(crate) fn is_awaited(&self) -> bool {
         match &self.ahead {
-            Some(row) => self.is_busy() && row.is_awaited(),
+            Some(batch) => self.is_busy() && batch.is_awaited(),
             None => false,
         }
     }
 
-    /// What is asked ahead is given no more.
+    /// What is prefetched is given no more.
     pub(crate) fn forget(&mut self) {
         self.ahead = None;
     }
 
     /// The same, where it would be given as a fact of a file.
     pub(crate) fn forget_fact(&mut self) {
-        if let Some(row) = &self.ahead {
-            if row.is_of_fact() {
+        if let Some(batch) = &self.ahead {
+            if batch.is_of_fact() {
                 self.ahead = None;
             }
         }
     }
 
-    /// Begins what is asked ahead.
-    pub(crate) fn begin_row(&mut self, row: RequestBatch) {
-        self.ahead = Some(row);
-        self.go_on();
+    /// Prefetches these.
+    pub(crate) fn begin_batch(&mut self, batch: RequestBatch) {
+        self.ahead = Some(batch);
+        self.begin_next();
     }
 
-    /// Asks what is next of what is asked ahead, where something is.
-    fn go_on(&mut self) {
+    /// Asks what is next of what is prefetched, where something is.
+    fn begin_next(&mut self) {
         if self.is_over() {
             return;
         }
-        let Some(row) = &mut self.ahead else {
+        let Some(batch) = &mut self.ahead else {
             return;
         };
-        if let Some((request, stream_body)) = row.next() {
+        if let Some((request, stream_body)) = batch.next() {
             self.begin(Activity::Ahead, request, stream_body);
         }
     }
 
-    pub(crate) fn begin(&mut self, doing: Activity, request: Request, stream_body: StreamBody) {
-        self.opened = self.channel.opened();
-        self.doing = doing;
-        self.channel.begin(request, stream_body);
+    /// Begins what is requested, with what goes over its data connection. Nothing else is under way.
+    pub(crate) fn begin(&mut self, activity: Activity, request: Request, stream_body: StreamBody) {
+        self.opened = self.client.opened();
+        self.activity = activity;
+        self.client.begin(request, stream_body);
     }
 
     /// Asks for the current directory, so that its login is known to be accepted or refused.
-    pub(crate) fn try_out(&mut self) {
+    pub(crate) fn try_login(&mut self) {
         self.begin(
             Activity::Trial,
             Request::One(Some(Op::Where)),
@@ -200,28 +217,29 @@ impl<L: TakesTurns + Drop> PoolSlot<L> {
 
     /// How many data connections were opened for what it did last.
     pub(crate) fn opened_since(&self) -> u32 {
-        self.channel.opened().saturating_sub(self.opened)
+        self.client.opened().saturating_sub(self.opened)
     }
 
-    /// A turn, where something is under way; says whether nothing is asked over it any more, behind what was asked ahead. `told` is what the round's poll found.
-    pub(crate) fn turn(&mut self, told: Awaits) -> bool {
+    /// A turn, where something is under way. `found` is what the round's poll found. Says whether nothing is asked over it any more, behind what was
+    /// prefetched or a trial.
+    pub(crate) fn turn(&mut self, found: Awaits) -> bool {
         if !self.is_busy() {
             return false;
         }
-        let Some(answer) = self.channel.turn(told) else {
+        let Some(answer) = self.client.turn(found) else {
             return false;
         };
-        match mem::replace(&mut self.doing, Activity::Nothing) {
+        match mem::replace(&mut self.activity, Activity::Nothing) {
             Activity::Ahead => {
                 self.keep(answer);
                 self.is_over()
             }
             Activity::Trial => {
-                self.stand = stand_behind(&answer);
+                self.reliability = tried_after(&answer);
                 self.is_over()
             }
             Activity::Asked | Activity::Nothing => {
-                let stream_body = self.channel.unload();
+                let stream_body = self.client.unload();
                 self.answer = Some(ReceivedAnswer {
                     answer,
                     stream_body,
@@ -231,53 +249,90 @@ impl<L: TakesTurns + Drop> PoolSlot<L> {
         }
     }
 
-    /// What was asked ahead is answered so, and what comes behind it is asked.
+    /// What was prefetched is answered so, and what comes behind it is asked.
     fn keep(&mut self, answer: Answer<Global>) {
-        let done = Done {
+        let answered = PrefetchedAnswer {
             answer,
-            ending: self.channel.ending(),
+            ending: self.client.ending(),
             opened: self.opened_since(),
-            stream_body: self.channel.unload(),
+            stream_body: self.client.unload(),
         };
-        self.heed(&done.answer);
-        if let Some(row) = &mut self.ahead {
-            if row.keep(done) {
-                self.stand = Reliability::Tried;
+        self.reliability = relied_after(self.reliability, &answered.answer);
+        if let Some(batch) = &mut self.ahead {
+            if batch.keep(answered) {
+                self.reliability = Reliability::Tried;
             }
-            if row.is_empty() {
+            if batch.is_empty() {
                 self.ahead = None;
             }
         }
-        self.go_on();
+        self.begin_next();
     }
 
-    /// Where nothing was given over the channel before, a refused login is that of the channel.
-    fn heed(&mut self, answer: &Answer<Global>) {
-        if let (Reliability::Untried, Answer::Refused(NOT_LOGGED_IN)) = (self.stand, answer) {
-            self.stand = Reliability::Refused;
-        }
-    }
-
-    /// What is given next of what was asked ahead, if it is answered; else nothing of that is given any more.
-    pub(crate) fn take_done(&mut self) -> Option<Done> {
-        let row = self.ahead.as_mut()?;
-        let done = row.take();
-        if done.is_none() || row.is_empty() {
+    /// What is given next of what was prefetched, if it is answered; else nothing of that is given any more.
+    pub(crate) fn take_answered(&mut self) -> Option<PrefetchedAnswer> {
+        let batch = self.ahead.as_mut()?;
+        let answered = batch.take();
+        if answered.is_none() || batch.is_empty() {
             self.ahead = None;
         }
-        done
+        answered
     }
 
-    /// Whether more of what was asked ahead is to be given.
+    /// Whether more of what was prefetched is to be given.
     pub(crate) fn has_more(&self) -> bool {
         self.ahead.is_some()
     }
 }
 
-/// How far a channel is relied on whose trial was answered so.
-fn stand_behind(answer: &Answer<Global>) -> Reliability {
+/// Whether nothing goes over a connection since its login was refused.
+fn has_no_login(reliability: Reliability) -> bool
+    ensures { result ≡ has_no_login reliability }
+{
+    matches!(reliability, Reliability::Refused)
+}
+
+/// Whether what is asked in its turn may go over a connection.
+fn is_relied_on(reliability: Reliability) -> bool
+    ensures { result ≡ is_relied_on reliability }
+{
+    matches!(reliability, Reliability::Tried)
+}
+
+/// Whether a server refuses a login by this answer (RFC 959, section 4.2.2: 530).
+fn is_login_refused(answer: &Answer<Global>) -> bool
+    ensures { result ≡ is_login_refused answer.now }
+{
     match answer {
-        Answer::Refused(NOT_LOGGED_IN) => Reliability::Refused,
-        _ => Reliability::Tried,
+        Answer::Refused(code) => *code == NOT_LOGGED_IN,
+        _ => false,
+    }
+}
+
+/// How far a connection is relied on whose trial was answered so.
+fn tried_after(answer: &Answer<Global>) -> Reliability
+    ensures { result ≡ tried_after answer.now }
+{
+    if !is_login_refused(answer) {
+        return Reliability::Tried;
+    }
+    Reliability::Refused
+}
+
+/// How far a connection is relied on over which something prefetched is answered so, before it is known whether that is given: where nothing was given over
+/// it before, a refused login is its own.
+fn relied_after(before: Reliability, answer: &Answer<Global>) -> Reliability
+    ensures { result ≡ relied_after before answer.now }
+{
+    match before {
+        Reliability::Untried => {
+            if is_login_refused(answer) {
+                Reliability::Refused
+            } else {
+                Reliability::Untried
+            }
+        }
+        Reliability::Tried => Reliability::Tried,
+        Reliability::Refused => Reliability::Refused,
     }
 }

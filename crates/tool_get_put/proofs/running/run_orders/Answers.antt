@@ -8,7 +8,7 @@ returns g c =
     let contents = g.W.Write.contents in
     let hears = g.R.Converses.hears c.args.rt.now 1 in
     let orders = c.args.orders in
-    let done = c.converse_noticing-done in
+    let done = c.converse-done in
     subst (λ said. DoesOrders hears orders.items (contents c.args.out) (contents c.into_out.result) said) (sym c.result_by.ensures)
     (subst (λ out. DoesOrders hears orders.items (contents c.args.out) (contents out) (result_by done.result c.has_failed.result)) (sym c.into_out.ensures)
     (orders_done (λ all. contents all.out) (λ all. all.orders) hears orders done.result c.has_failed.result _ done.new.play refl done.ensures))

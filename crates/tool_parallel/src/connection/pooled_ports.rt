@@ -1,4 +1,4 @@
-// The data connections of one of several control connections: they are looked at, bring no more than they may, and are no faster than they may be.
+// The data connections beside one control connection of a pool: they are looked at, bring no more than they may, and are no faster than they may be.
 ghost use Rattle.std.specs.Prelude.{◌≡◌, ◌≤◌, None};
 ghost use Rattle.ftp_ports.specs.Asking.{Closes};
 
@@ -12,22 +12,23 @@ use tool_sockets::{Sockets, monotonic_millis};
 
 /// Data connections of which none is waited for.
 #[derive(Drop)]
-pub struct ChannelPorts<'a, R: Sockets> {
+pub struct PooledPorts<'a, R: Sockets> {
     ports: LinePorts<'a, R>,
-    course: &'a RequestState,
+    request_state: &'a RequestState,
     /// The most octets a second; 0: without a limit.
     rate: u64,
-    /// How many were opened.
+    /// How many were opened, by either end.
     opened: u32,
-    /// Until when nothing moves, where the last look was at a data connection that is too fast.
-    held: Option<u64>,
+    /// Until when nothing moves, in milliseconds of the monotonic clock, where the last look was at a data connection that is too fast.
+    paused_until: Option<u64>,
 }
 
 /// A data connection of which nothing is waited for.
 #[derive(Drop)]
-pub struct ChannelLink<'a> {
+pub struct PooledLink<'a> {
     link: LineLink,
-    course: &'a RequestState,
+    request_state: &'a RequestState,
+    /// The most octets a second; 0: without a limit.
     rate: u64,
     /// When it was opened, in milliseconds of the monotonic clock.
     begun: u64,
@@ -37,19 +38,24 @@ pub struct ChannelLink<'a> {
     lines: u64,
 }
 
-impl<'a, R: Sockets> ChannelPorts<'a, R> {
-    /// None was opened yet.
+impl<'a, R: Sockets> PooledPorts<'a, R> {
+    /// Data connections of which none was opened yet, each for at most `rate` octets a second; 0: without a limit. `request_state` says how much one may
+    /// bring, and learns what moved.
     pub fn new(
         ports: LinePorts<'a, R>,
-        course: &'a RequestState,
+        request_state: &'a RequestState,
         rate: u64,
-    ) -> ChannelPorts<'a, R> {
-        ChannelPorts {
+    ) -> PooledPorts<'a, R>
+        // Witness: `edits/a_rate_is_without_a_limit`, `the_first_data_connection_is_the_second`.
+        ensures rate { result.rate ≡ rate }
+        ensures unopened { result.opened ≡ 0 }
+    {
+        PooledPorts {
             ports,
-            course,
+            request_state,
             rate,
             opened: 0,
-            held: None,
+            paused_until: None,
         }
     }
 
@@ -62,7 +68,7 @@ impl<'a, R: Sockets> ChannelPorts<'a, R> {
 
     /// What the last look that told of nothing waits for.
     pub(crate) fn awaits(&self) -> Awaits {
-        match self.held {
+        match self.paused_until {
             Some(until) => Awaits {
                 until,
                 ..Awaits::nothing()
@@ -76,11 +82,12 @@ impl<'a, R: Sockets> ChannelPorts<'a, R> {
         self.ports.take_leaving()
     }
 
-    fn counted(&mut self, link: LineLink) -> ChannelLink<'a> {
+    /// A data connection that was opened now, of which nothing moved.
+    fn counted(&mut self, link: LineLink) -> PooledLink<'a> {
         self.opened = self.opened.saturating_add(1);
-        ChannelLink {
+        PooledLink {
             link,
-            course: self.course,
+            request_state: self.request_state,
             rate: self.rate,
             begun: monotonic_millis(),
             moved: 0,
@@ -89,14 +96,14 @@ impl<'a, R: Sockets> ChannelPorts<'a, R> {
     }
 }
 
-impl<'a, R: Sockets> Ports for ChannelPorts<'a, R> {
-    type Stream = ChannelLink<'a>;
+impl<'a, R: Sockets> Ports for PooledPorts<'a, R> {
+    type Stream = PooledLink<'a>;
 
     fn listen(&mut self) -> Option<u16> {
         self.ports.listen()
     }
 
-    fn accept(&mut self, hears: bool) -> Accepted<ChannelLink<'a>> {
+    fn accept(&mut self, hears: bool) -> Accepted<PooledLink<'a>> {
         match self.ports.accept(hears) {
             Accepted::Came(link, host) => Accepted::Came(self.counted(link), host),
             Accepted::Spoken => Accepted::Spoken,
@@ -104,25 +111,25 @@ impl<'a, R: Sockets> Ports for ChannelPorts<'a, R> {
         }
     }
 
-    fn connect(&mut self, endpoint: Endpoint) -> Option<ChannelLink<'a>> {
+    fn connect(&mut self, endpoint: Endpoint) -> Option<PooledLink<'a>> {
         let link = self.ports.connect(endpoint)?;
         Some(self.counted(link))
     }
 
-    fn wait(&mut self, stream: &mut ChannelLink<'a>, what: For, hears: bool) -> Ready {
+    fn wait(&mut self, stream: &mut PooledLink<'a>, what: For, hears: bool) -> Ready {
         let ready = self.ports.wait(&mut stream.link, what, hears);
-        self.course.waited(ready);
+        self.request_state.waited(ready);
         ready
     }
 
     fn looks(&mut self, what: Awaited) -> bool {
-        self.held = None;
+        self.paused_until = None;
         self.ports.looks(what)
     }
 
-    fn looks_at(&mut self, stream: &mut ChannelLink<'a>, what: For, beside: Beside) -> bool {
-        self.held = stream.held();
-        if self.held.is_some() {
+    fn looks_at(&mut self, stream: &mut PooledLink<'a>, what: For, beside: Beside) -> bool {
+        self.paused_until = stream.paused_until();
+        if self.paused_until.is_some() {
             return false;
         }
         self.ports.looks_at(&mut stream.link, what, beside)
@@ -132,7 +139,7 @@ impl<'a, R: Sockets> Ports for ChannelPorts<'a, R> {
         self.ports.spoken()
     }
 
-    fn close(&mut self, stream: Option<Whole<ChannelLink<'a>>>)
+    fn close(&mut self, stream: Option<Whole<PooledLink<'a>>>)
         ensures { Closes (λ link. None) (λ link. None) stream.entry None None }
     {
         self.ports.close(match stream {
@@ -141,14 +148,14 @@ impl<'a, R: Sockets> Ports for ChannelPorts<'a, R> {
         });
     }
 
-    fn reset(&mut self, stream: ChannelLink<'a>) {
+    fn reset(&mut self, stream: PooledLink<'a>) {
         self.ports.reset(stream.ended());
     }
 }
 
-impl<'a> ChannelLink<'a> {
+impl<'a> PooledLink<'a> {
     /// Until when nothing moves, where octets went too fast so far.
-    fn held(&self) -> Option<u64> {
+    fn paused_until(&self) -> Option<u64> {
         if self.rate == 0 {
             return None;
         }
@@ -175,12 +182,12 @@ impl<'a> ChannelLink<'a> {
     /// So many octets more were moved.
     fn add(&mut self, count: usize) {
         self.moved = self.moved.saturating_add(count as u64);
-        self.course.moved(count);
+        self.request_state.moved(count);
     }
 
     /// The lines that end in octets that came, where they are counted.
     fn add_lines(&mut self, octets: &[u8]) {
-        if self.course.counts_lines() {
+        if self.request_state.counts_lines() {
             let ends = octets.iter().filter(|octet| **octet == b'\n').count();
             self.lines = self.lines.saturating_add(ends as u64);
         }
@@ -188,9 +195,9 @@ impl<'a> ChannelLink<'a> {
 
     /// The connection itself.
     fn ended(self) -> LineLink {
-        let ChannelLink {
+        let PooledLink {
             link,
-            course: _,
+            request_state: _,
             rate: _,
             begun: _,
             moved: _,
@@ -200,21 +207,21 @@ impl<'a> ChannelLink<'a> {
     }
 }
 
-impl<'a> Read for ChannelLink<'a> {
+impl<'a> Read for PooledLink<'a> {
     fn read(&mut self, room: &mut [u8]) -> io::Result<usize> {
         let most = self.most_of(room.len());
         let (front, _) = room.split_at_mut(most);
         let count = self.link.read(front)?;
         self.add(count);
         self.add_lines(room.get(..count).unwrap_or(&[]));
-        if self.course.cuts_off(self.moved, self.lines) {
+        if self.request_state.cuts_off(self.moved, self.lines) {
             return Err(Error::from(ErrorKind::ConnectionAborted));
         }
         Ok(count)
     }
 }
 
-impl<'a> Write for ChannelLink<'a> {
+impl<'a> Write for PooledLink<'a> {
     fn write(&mut self, octets: &[u8]) -> io::Result<usize> {
         let most = self.most_of(octets.len());
         let (front, _) = octets.split_at(most);
@@ -228,7 +235,7 @@ impl<'a> Write for ChannelLink<'a> {
     }
 }
 
-impl<'a> Duplex for ChannelLink<'a> {
+impl<'a> Duplex for PooledLink<'a> {
     fn receive(&mut self, room: &mut [u8]) -> io::Result<usize> {
         self.read(room)
     }

@@ -1,5 +1,8 @@
 // One of several control connections in one thread: a client between its connections, which takes turns and waits for nothing.
-use crate::connection::ports::{ChannelLink, ChannelPorts};
+ghost use Rattle.std.specs.Prelude.{◌≡◌, Bool};
+ghost use Rattle.tool_parallel.specs.connection.State.{is_connection_ended};
+
+use crate::connection::pooled_ports::{PooledLink, PooledPorts};
 use ftp_client_driver::{Control, Data, Driven, Turned, drive_some};
 use ftp_client_model::Near;
 use ftp_client_stream::{CarriedLink, CarriedPorts};
@@ -10,12 +13,12 @@ use tool_polling::{Awaits, ControlLine, Leaving, LineReader, LineWriter};
 use tool_session::{DataEnding, Request, RequestState, StreamBody, begin};
 use tool_sockets::Sockets;
 
-/// The most turns of a drive in one turn of a channel: as many octets of a line may be heard.
-const MOST: u64 = 1_024;
+/// The most steps of the client's driver in one turn: as many octets of a line may be heard.
+const MOST_STEPS: u64 = 1_024;
 
-/// How a channel stands.
+/// What a pooled client does.
 #[derive(Clone, Copy)]
-enum ChannelState {
+pub(crate) enum ClientState {
     /// Nothing is asked.
     Idle,
     /// Something is, and its next turn would wait.
@@ -26,24 +29,29 @@ enum ChannelState {
     Gone,
 }
 
-/// One over whom things are asked, one after another, in turns between those of others.
+/// A client at a control connection that answers one request after another, in turns between those of others. No call waits.
 pub trait TakesTurns {
     /// Whether its control connection ended.
-    fn is_gone(&self) -> bool;
+    ghost gone: { Self → Bool };
+
+    /// Whether its control connection ended: nothing more is asked over it.
+    fn is_gone(&self) -> bool
+        ensures { result ≡ gone self.now };
 
     /// Whether the next turn would not wait.
     fn is_due(&self) -> bool;
 
-    /// What the next turn waits for; nothing where it is due, or nothing is asked.
+    /// What the next turn waits for: sockets, and a moment of the monotonic clock in milliseconds. Nothing where it is due, or nothing is asked.
     fn awaits(&self) -> Awaits;
 
     /// Begins what is requested, with what goes over its data connection. Nothing else is under way.
     fn begin(&mut self, request: Request, stream_body: StreamBody);
 
-    /// A turn; gives the answer where that is there. `told` is what the round's poll found of what the last turn waited for.
-    fn turn(&mut self, told: Awaits) -> Option<Answer<Global>>;
+    /// A turn; gives the answer where that is there, and Lost where the control connection ended before. `found` is what the round's poll found of what the
+    /// last turn waited for.
+    fn turn(&mut self, found: Awaits) -> Option<Answer<Global>>;
 
-    /// What went over the data connection of what was answered last.
+    /// What went over the data connection of what was answered last; it is given once.
     fn unload(&mut self) -> StreamBody;
 
     /// How many data connections were opened so far.
@@ -55,29 +63,30 @@ pub trait TakesTurns {
     /// What came of the download that was asked for last, where its control connection ended in its middle; else nothing.
     fn came(&self) -> &[u8];
 
-    /// The line that was said last.
+    /// The line that the server said last, without its end.
     fn last_reply(&self) -> &[u8];
 
     /// Whether the server was silent for as long as it may be.
     fn is_late(&self) -> bool;
 
-    /// Says goodbye: what stays of its connections.
+    /// Says QUIT (RFC 959, section 4.1.1), and gives what stays of its connections until the server ends them.
     fn leave(&mut self) -> Leaving;
 }
 
 /// A client, beside its connections.
-pub struct Channel<'a, R: Sockets, N: Near<Global>> {
+pub struct PooledClient<'a, R: Sockets, N: Near<Global>> {
     client: N,
     line: Rc<ControlLine, Global>,
     control: Control<LineReader, LineWriter>,
-    ports: ChannelPorts<'a, R>,
-    data: Data<CarriedLink<'a, ChannelLink<'a>, StreamBody>>,
-    course: &'a RequestState,
-    stands: ChannelState,
+    ports: PooledPorts<'a, R>,
+    /// Room for its data connections.
+    data: Data<CarriedLink<'a, PooledLink<'a>, StreamBody>>,
+    request_state: &'a RequestState,
+    state: ClientState,
 }
 
 /// Its data connection is closed, if one stands.
-impl<'a, R: Sockets, N: Near<Global>> Drop for Channel<'a, R, N> {
+impl<'a, R: Sockets, N: Near<Global>> Drop for PooledClient<'a, R, N> {
     fn drop(self) {
         let Self {
             client: _,
@@ -85,100 +94,105 @@ impl<'a, R: Sockets, N: Near<Global>> Drop for Channel<'a, R, N> {
             control: _,
             ports,
             data,
-            course,
-            stands: _,
+            request_state,
+            state: _,
         } = self;
         let mut ports = ports;
-        data.finish(&mut CarriedPorts::new(&mut ports, &course.stream_body));
+        data.finish(&mut CarriedPorts::new(&mut ports, &request_state.stream_body));
     }
 }
 
-impl<'a, R: Sockets, N: Near<Global>> Channel<'a, R, N> {
-    /// A client at its control connection.
+impl<'a, R: Sockets, N: Near<Global>> PooledClient<'a, R, N> {
+    /// A client at its control connection, of which nothing is asked. `line`, and `control` over it, are that connection, and `ports` its data connections.
+    /// `request_state` is lent, and holds what goes over them.
     pub fn new(
         client: N,
         line: Rc<ControlLine, Global>,
         control: Control<LineReader, LineWriter>,
-        ports: ChannelPorts<'a, R>,
-        course: &'a RequestState,
-    ) -> Channel<'a, R, N> {
-        Channel {
+        ports: PooledPorts<'a, R>,
+        request_state: &'a RequestState,
+    ) -> PooledClient<'a, R, N> {
+        PooledClient {
             client,
             line,
             control,
             ports,
             data: Data::new(),
-            course,
-            stands: ChannelState::Idle,
+            request_state,
+            state: ClientState::Idle,
         }
     }
 
+    /// Some steps of its driver.
     fn drive(&mut self) -> Turned<Driven<Global>> {
-        let mut ports = CarriedPorts::new(&mut self.ports, &self.course.stream_body);
+        let mut ports = CarriedPorts::new(&mut self.ports, &self.request_state.stream_body);
         drive_some(
             &mut self.client,
             &mut self.control,
             &mut ports,
             &mut self.data,
-            MOST,
+            MOST_STEPS,
         )
     }
 
     /// The drive is over: its answer, and Lost where it has none.
     fn answered(&mut self, driven: Driven<Global>) -> Answer<Global> {
         let Driven { report, off: _ } = driven;
-        self.course.reported(&report, self.client.last_reply());
+        self.request_state
+            .reported(&report, self.client.last_reply());
         let answer = match report {
             Some(answer) => answer,
             None => Answer::Lost,
         };
-        self.stands = if matches!(&answer, Answer::Lost) {
-            ChannelState::Gone
+        self.state = if matches!(&answer, Answer::Lost) {
+            ClientState::Gone
         } else {
-            ChannelState::Idle
+            ClientState::Idle
         };
         answer
     }
 }
 
-impl<'a, R: Sockets, N: Near<Global>> TakesTurns for Channel<'a, R, N> {
+impl<'a, R: Sockets, N: Near<Global>> TakesTurns for PooledClient<'a, R, N> {
+    ghost gone = { λ pooled. is_connection_ended pooled.state };
+
     fn is_gone(&self) -> bool {
-        matches!(self.stands, ChannelState::Gone)
+        matches!(self.state, ClientState::Gone)
     }
 
     fn is_due(&self) -> bool {
-        match self.stands {
-            ChannelState::Due => true,
-            ChannelState::Waits => self.line.timeouts.left() == Some(0),
-            ChannelState::Idle | ChannelState::Gone => false,
+        match self.state {
+            ClientState::Due => true,
+            ClientState::Waits => self.line.timeouts.left() == Some(0),
+            ClientState::Idle | ClientState::Gone => false,
         }
     }
 
     fn awaits(&self) -> Awaits {
-        match self.stands {
-            ChannelState::Waits => self.ports.awaits(),
-            ChannelState::Due | ChannelState::Idle | ChannelState::Gone => Awaits::nothing(),
+        match self.state {
+            ClientState::Waits => self.ports.awaits(),
+            ClientState::Due | ClientState::Idle | ClientState::Gone => Awaits::nothing(),
         }
     }
 
     fn begin(&mut self, request: Request, stream_body: StreamBody) {
         let mut request = request;
         self.line.timeouts.touch();
-        self.course.begin(&request);
-        self.course.stream_body.set(Some(stream_body));
+        self.request_state.begin(&request);
+        self.request_state.stream_body.set(Some(stream_body));
         begin(&mut self.client, &mut request);
-        self.stands = ChannelState::Due;
+        self.state = ClientState::Due;
     }
 
-    fn turn(&mut self, told: Awaits) -> Option<Answer<Global>> {
-        self.line.begin_turn(told);
+    fn turn(&mut self, found: Awaits) -> Option<Answer<Global>> {
+        self.line.begin_turn(found);
         match self.drive() {
             Turned::Later => {
-                self.stands = ChannelState::Waits;
+                self.state = ClientState::Waits;
                 None
             }
             Turned::More => {
-                self.stands = ChannelState::Due;
+                self.state = ClientState::Due;
                 None
             }
             Turned::Over(driven) => Some(self.answered(driven)),
@@ -186,7 +200,7 @@ impl<'a, R: Sockets, N: Near<Global>> TakesTurns for Channel<'a, R, N> {
     }
 
     fn unload(&mut self) -> StreamBody {
-        self.course
+        self.request_state
             .stream_body
             .replace(None)
             .unwrap_or(StreamBody::Own)
@@ -197,7 +211,7 @@ impl<'a, R: Sockets, N: Near<Global>> TakesTurns for Channel<'a, R, N> {
     }
 
     fn ending(&self) -> DataEnding {
-        self.course.ending()
+        self.request_state.ending()
     }
 
     fn came(&self) -> &[u8] {

@@ -1,0 +1,2 @@
+-- What a client of a pool does.
+pub mod State
