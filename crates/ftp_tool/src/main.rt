@@ -23,26 +23,14 @@ use std::random::RandomSource;
 use std::time::Clock;
 use std::{env, io};
 use tool_command::{command, told_of};
-use tool_terminal::{QuietHandle, Status, Verbosity};
+use tool_terminal::{QuietHandle, Status};
 
 fn main(rt: HostRuntime) -> ExitCode {
     ExitCode::from(run(&rt, &mut rt.stderr()).unwrap_or(Status::Failed.number()))
 }
 
-/// Who does what a command line asks for.
-trait Machine: Env + Print + Eprint + AllocGlobal {
-    /// Does what these words ask for, and tells of it on standard error what is to be told.
-    fn obey_words<F>(
-        &self,
-        words: &ArgMatches<'_>,
-        told: Verbosity,
-        faults: &mut F,
-    ) -> io::Result<u8>
-    where
-        F: Write + IsTerminal;
-}
-
-impl<R> Machine for R
+/// Does what the command line asks for, and gives the exit status. The faults of a wire are told to `faults`.
+fn run<R, F>(rt: &R, faults: &mut F) -> io::Result<u8>
 where
     R: Input
         + Print
@@ -55,30 +43,15 @@ where
         + Net<Listener = TcpListener, Stream = TcpStream>
         + Clone
         + Drop,
-{
-    fn obey_words<F>(
-        &self,
-        words: &ArgMatches<'_>,
-        told: Verbosity,
-        faults: &mut F,
-    ) -> io::Result<u8>
-    where
-        F: Write + IsTerminal,
-    {
-        obey(&QuietHandle { rt: self, told }, self.alloc(), words, faults)
-    }
-}
-
-/// Does what the command line asks for, and tells the faults of a wire to `faults`.
-fn run<R, F>(rt: &R, faults: &mut F) -> io::Result<u8>
-where
-    R: Machine,
     F: Write + IsTerminal,
 {
     let alloc = rt.alloc();
     let words: Vec<String> = env::args(rt)?.collect(alloc)?;
     match matches_of(alloc, words.as_slice()) {
-        Ok(matches) => rt.obey_words(&matches, told_of(&matches), faults),
+        Ok(matches) => {
+            let told = told_of(&matches);
+            obey(&QuietHandle { rt, told }, alloc, &matches, faults)
+        }
         Err(error) => tell(rt, &error),
     }
 }

@@ -13,7 +13,6 @@ use tool_command::{
     script_user_of, serving_of, settings_of, task_of, url_in,
 };
 use tool_location::UrlPlace;
-use tool_session::Openings;
 use tool_terminal::Status;
 
 /// Does what the words of a command line ask for.
@@ -109,38 +108,37 @@ fn run_script<R: Programs + Eprint>(rt: &R, words: &ArgMatches<'_>) -> io::Resul
     }
 }
 
-/// Does what `mirror` asks for. A URL is let go where one call ends: each way out of a function that has one is proved anew.
-fn mirror<R: Programs + Eprint>(rt: &R, alloc: Global, words: &ArgMatches<'_>) -> io::Result<u8> {
-    match url_in(alloc, "<SOURCE>", words.get_str("source").unwrap_or("")) {
-        Ok(from) => mirror_from(rt, alloc, words, from.as_ref()),
-        Err(refusal) => refuse(rt, refusal),
+/// The URLs that the places of a mirror are; none where one is none.
+struct MirrorUrls {
+    from: Option<UrlPlace>,
+    to: Option<UrlPlace>,
+}
+
+/// By hand: a derived drop is proved again, part by part, wherever they are let go.
+impl Drop for MirrorUrls {
+    fn drop(self) {
+        let Self { from: _, to: _ } = self;
     }
 }
 
-/// The same, from this URL, if it is one.
-fn mirror_from<R: Programs + Eprint>(
-    rt: &R,
+/// Those of a command line. Fails where one is a URL by which no file is named, or memory is refused.
+fn mirror_urls_of<'a>(
     alloc: Global,
-    words: &ArgMatches<'_>,
-    from: Option<&UrlPlace>,
-) -> io::Result<u8> {
-    let openings = openings_of(words);
-    match url_in(alloc, "<TARGET>", words.get_str("target").unwrap_or("")) {
-        Ok(to) => mirror_between(rt, words, from, to.as_ref(), &openings),
-        Err(refusal) => refuse(rt, refusal),
-    }
+    words: &'a ArgMatches<'_>,
+) -> Result<MirrorUrls, UsageError<'a>> {
+    let from = url_in(alloc, "<SOURCE>", words.get_str("source").unwrap_or(""))?;
+    let to = url_in(alloc, "<TARGET>", words.get_str("target").unwrap_or(""))?;
+    Ok(MirrorUrls { from, to })
 }
 
-/// The same, between these URLs.
-fn mirror_between<'a, R: Programs + Eprint>(
-    rt: &R,
-    words: &'a ArgMatches<'_>,
-    from: Option<&'a UrlPlace>,
-    to: Option<&'a UrlPlace>,
-    openings: &'a Openings,
-) -> io::Result<u8> {
-    match mirror_of(words, from, to, openings) {
-        Ok(asked) => number_of(rt.mirror(asked)),
+/// Does what `mirror` asks for.
+fn mirror<R: Programs + Eprint>(rt: &R, alloc: Global, words: &ArgMatches<'_>) -> io::Result<u8> {
+    let openings = openings_of(words);
+    match mirror_urls_of(alloc, words) {
+        Ok(urls) => match mirror_of(words, urls.from.as_ref(), urls.to.as_ref(), &openings) {
+            Ok(asked) => number_of(rt.mirror(asked)),
+            Err(refusal) => refuse(rt, refusal),
+        },
         Err(refusal) => refuse(rt, refusal),
     }
 }
