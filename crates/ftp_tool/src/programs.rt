@@ -12,7 +12,7 @@ use tool_command::CommandTask;
 use tool_get_put::{Each, FilePair};
 use tool_job::Target;
 use tool_login::User;
-use tool_mirror_copy::MirrorRequest;
+use tool_mirror::MirrorRequest;
 use tool_pair::PairSettings;
 use tool_serve::Serving;
 use tool_session::ServerAddress;

@@ -10,7 +10,7 @@ use clap::ArgMatches;
 use tool_codec::representation_of;
 use tool_files::Flush;
 use tool_location::{Location, UrlPlace};
-use tool_mirror_copy::{ActionOutput, Doing, MirrorRequest};
+use tool_mirror::{ActionOutput, Doing, MirrorRequest};
 use tool_mirror_plan::{Check, CopyDirection, Extra, Rules};
 use tool_session::{Openings, ServerAddress};
 

@@ -1,5 +1,9 @@
 // A mirror from its first connection to its last line.
+ghost use Rattle.std.specs.Prelude.{◌≡◌};
+ghost use Rattle.tool_mirror.specs.Walk.{end_by};
+
 use crate::machine::LocalMachine;
+use crate::request::MirrorRequest;
 use crate::walk::MirrorWalk;
 use ftp_operation::Answer;
 use std::alloc::Global;
@@ -11,7 +15,6 @@ use std::net::{Net, TcpListener, TcpStream};
 use std::time::Clock;
 use tool_connect::{Converses, Logins, ask};
 use tool_files::LocalFiles;
-use tool_mirror_copy::MirrorRequest;
 use tool_session::{LastReply, SessionFault, Subject, say, told};
 use tool_terminal::Status;
 
@@ -42,21 +45,14 @@ where
         begun: rt.present(),
         ..asked
     };
-    mirrored(rt, rt.alloc(), &asked)
-}
-
-/// The same, of whoever can ask a server and has a folder.
-fn mirrored<R>(rt: &R, alloc: Global, asked: &MirrorRequest<'_>) -> io::Result<Status>
-where
-    R: Converses + Logins + LocalMachine,
-{
     let mut last_reply = LastReply::new();
-    let mut walk = MirrorWalk::new(rt, alloc, asked)?;
-    let answered = walked(rt, asked, &mut walk, &mut last_reply);
+    let mut walk = MirrorWalk::new(rt, rt.alloc(), &asked)?;
+    let answered = walked(rt, &asked, &mut walk, &mut last_reply);
     walk.give_up();
-    let told = tell_end(rt, asked, &answered, walk.tally.failed, &last_reply);
+    let end = end_of(&answered, walk.tally.failed);
+    let status = tell_end(rt, &asked, end, &last_reply);
     say(rt, "", &walk.tally, "")?;
-    told
+    status
 }
 
 /// Goes on as long as each round of control connections gets further.
@@ -81,41 +77,76 @@ where
     Ok(Answer::Lost)
 }
 
-/// What a fault may be of.
-fn subject_of<'a>(asked: &MirrorRequest<'a>) -> Subject<'a> {
-    Subject {
-        server: asked.server,
-        password_file: asked.user.password_file,
-        file: asked.folder,
+/// How a mirror ended.
+#[derive(Clone, Copy)]
+pub(crate) enum MirrorEnd {
+    /// All was done.
+    Whole,
+    /// All was tried, and something failed.
+    InPart,
+    /// The server lists nothing: the code of its reply.
+    Unlisted(u16),
+    /// The control connection ended.
+    Lost,
+    NoMemory,
+    /// There was no answer of the server.
+    Stopped(SessionFault),
+}
+
+/// How a mirror ended that was answered so, and in which so many things failed.
+fn end_of(answered: &Result<Answer<Global>, SessionFault>, failed: u64) -> MirrorEnd
+    // Witness: an equation; `edits/a_mirror_with_failures_is_whole`.
+    ensures { result ≡ end_by answered.now failed }
+{
+    match answered {
+        Ok(Answer::Done) => {
+            if failed == 0 {
+                MirrorEnd::Whole
+            } else {
+                MirrorEnd::InPart
+            }
+        }
+        Ok(Answer::Refused(code)) => MirrorEnd::Unlisted(*code),
+        Ok(Answer::Lost) => MirrorEnd::Lost,
+        Ok(_) => MirrorEnd::NoMemory,
+        Err(stop) => MirrorEnd::Stopped(*stop),
     }
 }
 
-/// Tells why a mirror came to no end, and gives the exit status; so many things failed.
+/// Tells why a mirror came to no end, and gives the exit status.
 fn tell_end<R: Eprint>(
     rt: &R,
     asked: &MirrorRequest<'_>,
-    answered: &Result<Answer<Global>, SessionFault>,
-    failed: u64,
+    end: MirrorEnd,
     last_reply: &LastReply,
 ) -> io::Result<Status> {
-    match answered {
-        Ok(Answer::Done) if failed == 0 => Ok(Status::Done),
-        Ok(Answer::Done) => Ok(Status::Refused),
-        Ok(Answer::Refused(code)) => told(
+    match end {
+        MirrorEnd::Whole => Ok(Status::Done),
+        MirrorEnd::InPart => Ok(Status::Refused),
+        MirrorEnd::Unlisted(code) => told(
             rt,
             NO_LISTING,
-            &last_reply.refusal(*code),
+            &last_reply.refusal(code),
             "",
             Status::Refused,
         ),
-        Ok(Answer::Lost) => told(
+        MirrorEnd::Lost => told(
             rt,
             ENDED,
             &last_reply.farewell(),
             "; another run goes on",
             Status::Failed,
         ),
-        Ok(_) => told(rt, "error: ", &"out of memory", "", Status::Failed),
-        Err(stop) => stop.tell(rt, subject_of(asked)),
+        MirrorEnd::NoMemory => told(rt, "error: ", &"out of memory", "", Status::Failed),
+        MirrorEnd::Stopped(stop) => stop.tell(rt, subject_of(asked)),
+    }
+}
+
+/// What a fault may be of.
+fn subject_of<'a>(asked: &MirrorRequest<'a>) -> Subject<'a> {
+    Subject {
+        server: asked.server,
+        password_file: asked.user.password_file,
+        file: asked.folder,
     }
 }
