@@ -3,7 +3,7 @@ ghost use Rattle.std.specs.Prelude.{◌≡◌, OnErr, OnOk};
 ghost use Rattle.ftp_disk_tree.specs.Asked.{asked, asked_move, place_of};
 ghost use Rattle.ftp_disk_tree.specs.declared.answer.Answer.{Answer};
 
-use crate::naming::{delete_noted, make_noted, remove_noted, rename_noted, rename_onto_noted};
+use crate::names::{delete_noted, make_noted, remove_noted, rename_noted, rename_onto_noted};
 use crate::putting::Old;
 use crate::record::Record;
 use ftp_disk_host::{Host, Look};

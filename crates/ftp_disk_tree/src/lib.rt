@@ -8,7 +8,7 @@ mod device;
 mod disk;
 mod draft;
 mod left;
-mod naming;
+mod names;
 mod opened;
 mod opening;
 mod parked;

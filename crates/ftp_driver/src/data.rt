@@ -11,12 +11,14 @@ ghost use Rattle.ftp_driver.specs.Standing.{HasEnded, HasNone, IsExchanged, IsOp
 use crate::calls::EndCalls;
 use crate::hand::fill_front;
 use ftp_ends::Wants;
-use ftp_ports::{Beside, DATA_PIECE, DataConnection, Duplex, Fate, For, Halt, Ports, Ready, Rest};
+use ftp_ports::{
+    Beside, DATA_PIECE_LIMIT, DataConnection, Duplex, Fate, For, Halt, Ports, Ready, Rest,
+};
 
 /// A data connection, if there is one, and room for its octets.
 pub struct Data<S> {
     pub(crate) connection: DataConnection<S>,
-    room: [u8; DATA_PIECE],
+    room: [u8; DATA_PIECE_LIMIT],
 }
 
 impl<S: Duplex> Data<S> {
@@ -27,7 +29,7 @@ impl<S: Duplex> Data<S> {
     {
         Data {
             connection: DataConnection::new(),
-            room: [0; DATA_PIECE],
+            room: [0; DATA_PIECE_LIMIT],
         }
     }
 
@@ -81,7 +83,7 @@ impl<S: Duplex> Data<S> {
         if K::serves() {
             return self.connection.piece();
         }
-        DATA_PIECE
+        DATA_PIECE_LIMIT
     }
 
     /// Writes octets that are not written yet, as many as one write takes.

@@ -1,7 +1,7 @@
 // Why a drive breaks off, and the turns that it may make.
 ghost use Rattle.std.specs.Prelude.{◌≡◌, IfErr, OnErr, OnOk, suc};
 
-use crate::pieces::TURNS;
+use crate::limits::TURNS;
 
 /// Why a drive of an end breaks off.
 #[derive(Clone, Copy)]

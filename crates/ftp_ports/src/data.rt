@@ -7,7 +7,7 @@ ghost use Rattle.std.specs.IoError.{error_kind};
 ghost use Rattle.ftp_ports.specs.Halting.{fate_by, fate_halted};
 ghost use Rattle.ftp_ports.specs.Whole.{IsCut, IsWhole};
 
-use crate::pieces::DATA_PIECE;
+use crate::limits::DATA_PIECE_LIMIT;
 use crate::ports::{Beside, Duplex, For, Ports, Ready};
 use crate::whole::{Fate, Rest, whole_of};
 use std::io::{Error, ErrorKind};
@@ -143,7 +143,7 @@ impl<S: Duplex> DataConnection<S> {
         ensures least { 32768 ≤ result }
         ensures most { result ≤ 262144 }
     {
-        (self.went / PART).clamp(LEAST_PIECE, DATA_PIECE)
+        (self.went / PART).clamp(LEAST_PIECE, DATA_PIECE_LIMIT)
     }
 
     /// The first octets of the room, so many, were taken from this end, where all before were written, and it has more or not.

@@ -5,6 +5,7 @@
 mod cause;
 mod control;
 mod data;
+mod limits;
 mod pieces;
 mod ports;
 mod whole;
@@ -12,6 +13,7 @@ mod whole;
 pub use cause::{Cause, Spent, Turns};
 pub use control::Control;
 pub use data::{DataConnection, Halt};
-pub use pieces::{DATA_PIECE, Failed, PIECE_LIMIT, TURNS, get, put};
+pub use limits::{DATA_PIECE_LIMIT, PIECE_LIMIT, TURNS};
+pub use pieces::{Failed, get, put};
 pub use ports::{Accepted, Awaited, Beside, Duplex, For, Ports, Ready, Spoken, Watch};
 pub use whole::{Fate, Rest, Whole};

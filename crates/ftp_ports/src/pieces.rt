@@ -3,17 +3,9 @@ ghost use Rattle.std.specs.Prelude.{◌≡◌, ◌≤◌, ◌<◌, ℕ, OnOk, On
 ghost use Rattle.std.specs.Io.KnownBytes.{Appends, Consumes, IsAtEnd, Keeps};
 ghost use Rattle.ftp_ports.specs.Beginning.{AppendsFront};
 
+use crate::limits::TURNS;
 use std::io::{ErrorKind, Read, Write};
 use thiserror::Error;
-
-/// A loop over reads or writes ends, as after a failed one, once it has made so many turns.
-pub const TURNS: u64 = 1_099_511_627_776;
-
-/// The most octets that a program asks one read for.
-pub const PIECE_LIMIT: usize = 4096;
-
-/// The most octets that an end asks one read or one write of a data connection for.
-pub const DATA_PIECE: usize = 262_144;
 
 /// A read or a write that failed, or memory that was refused: the program ends with status 3.
 #[derive(Clone, Copy, Debug, PartialEq, Eq, Error)]

@@ -1,8 +1,8 @@
 -- How fast a transfer is, and how much of it is left (own choice).
 use Rattle.std.specs.Prelude.{ℕ, ◌+◌, ◌-◌, ◌*◌, ◌/◌, ◌==◌, Option, Some, None, option_map, if◌then◌else◌}
-use Rattle.tool_terminal.specs.declared.progress.pace.Span.{Span}
-use Rattle.tool_terminal.specs.declared.progress.pace.Pace.{Pace}
-use Rattle.tool_terminal.specs.declared.progress.pace.Remaining.{Remaining}
+use Rattle.tool_terminal.specs.declared.progress.progress_line.Span.{Span}
+use Rattle.tool_terminal.specs.declared.progress.progress_line.Pace.{Pace}
+use Rattle.tool_terminal.specs.declared.progress.progress_line.Remaining.{Remaining}
 
 -- octets a second, rounded down; none before the first millisecond
 abbrev pub per_second : (moved millis : ℕ) → ℕ
