@@ -1,19 +1,20 @@
 -- Octets of the data connection, and its end.
-use Rattle.std.proofs.Common.{◌≡◌, ◌≢◌, ◌⊎◌, inl, inr, ℕ, List, true, false, Result, Ok, Err, OnOk, OnErr, refl, sym, ap, subst, ◌∙◌}
+use Rattle.std.proofs.Common.{◌≡◌, ◌≢◌, ◌⊎◌, inl, inr, ℕ, Bool, true, false, ◌&&◌, ◌||◌, List, Result, Ok, Err, OnOk, OnErr, refl, sym, ap, subst, ◌∙◌}
+use Rattle.std.specs.Prelude.{if◌then◌else◌}
 use Rattle.std.specs.Result.{is_err}
 use Rattle.ftp_ends.specs.declared.link.Wants.TheVariants as Want
-use Rattle.ftp_server_replies.specs.ServerTransfer.{takes_octets}
-use Rattle.ftp_server_model.specs.Calls.{wants_of}
-use Rattle.ftp_server_model.specs.Endpoint.{disconnected}
+use Rattle.ftp_server_replies.specs.ServerTransfer.{ComesTo, IsTransferUnderWay, takes_octets}
+use Rattle.ftp_server_model.specs.Calls.{is_upload, may_receive, wants_of, with_connection}
+use Rattle.ftp_server_model.specs.Endpoint.{disconnected, is_standing}
 use Rattle.ftp_server_model.specs.Counting.{CountsOn, TellsSome}
 use Rattle.ftp_server_model.specs.Failing.{AreReceived, InstallFails, KeepsCourse, Late, WaitingFails}
 use Rattle.ftp_server_model.specs.Far.{Receives, Server, Steps}
-use Rattle.ftp_server_model.specs.Machine.{later, with_session}
-use Rattle.ftp_server_model.specs.View.{Session, Transfer, View}
+use Rattle.ftp_server_model.specs.Machine.{faulted, has_room, later, replied}
+use Rattle.ftp_server_model.specs.View.{Transfer, View, seen}
+use Rattle.ftp_server_model.specs.declared.reply.FixedReply.TheVariants as Texts
 use Rattle.ftp_server_model.specs.declared.session.ServerLink.{ServerLink}
 use Rattle.ftp_server_model.specs.declared.session.ServerLink.TheVariants as Data
 use Rattle.ftp_server_model.specs.declared.session.Transfer.TheVariants as Transfers
-use Rattle.ftp_server_session.specs.Receiving.{ComesIn}
 use Rattle.ftp_server_replies.specs.declared.transfer.Told.{Told}
 use Rattle.ftp_server_replies.specs.declared.transfer.Told.TheVariants.{Nothing, Mark, Faulty, NoMemory}
 use Rattle.ftp_server.specs.Breaking.{InstallIsLost}
@@ -23,21 +24,54 @@ use Rattle.ftp_server.proofs.CountingLemmas.{same_counts}
 use Rattle.ftp_server.specs.Settled.{HasMoved, IsStepSettled}
 use Rattle.ftp_tree.proofs.CountLemmas.{stray-first, stray-second}
 use Rattle.ftp_tree.specs.Change.{IsSteady}
+use Rattle.ftp_tree.specs.Tree.{Table}
 
 -- ---- octets come
 
--- what came, and what was then said of it
-pub said_done : (told : Told) (octets : List ℕ) (v w : View) (s : Session) → ComesIn v octets told s → IsSaid told (with_session s v) w → ReceivesTo octets v w
-said_done Nothing octets v w s comes said = (said ∙ sym comes.1, comes.0)
-said_done (Mark marker) octets v w s comes said = (said ∙ sym comes.1, comes.0)
-said_done Faulty octets v w s comes said = (said ∙ sym comes.1, comes.0)
-said_done NoMemory octets v w s comes said = absurd said
+second_part : (a b : Bool) → (a && b) ≡ true → b ≡ true
+second_part true b e = e
+second_part false b e = absurd (let wrong : false ≡ true = e in cc)
 
-pub said_lost : (told : Told) (octets : List ℕ) (v w : View) (s : Session) → ComesIn v octets told s → SayingFails told (with_session s v) w → AreReceived v octets w
-said_lost Nothing octets v w s comes lost = absurd lost
-said_lost (Mark marker) octets v w s comes lost = absurd lost
-said_lost Faulty octets v w s comes lost = comes.2 w lost
-said_lost NoMemory octets v w s comes lost = comes w lost
+may_take : (closing room : Bool) (c : ServerLink Transfer) → (is_upload (if closing then Data.Free else c) && room) ≡ true → (closing ≡ false) × (room ≡ true)
+may_take true room c may = absurd (let wrong : false ≡ true = may in cc)
+may_take false room c may = (refl, second_part (is_upload c) room may)
+
+-- where an octet may be taken, the transfer that takes it is under way
+pub under_way : (part : Table) (transfer : Transfer) (v : View) → v.session.connection ≡ Data.Transferring transfer → seen v.session ≡ part → may_receive v ≡ true
+    → IsTransferUnderWay part transfer v
+under_way part transfer v carried sees may =
+    let takes = may_take v.session.closing (has_room v) v.session.connection may in
+    record { carried = carried; going = takes.0; sees = sees; room = takes.1 }
+
+-- and it takes octets
+pub takes_some : (transfer : Transfer) (v : View) → v.session.connection ≡ Data.Transferring transfer → may_receive v ≡ true → takes_octets transfer ≡ true
+takes_some transfer v carried may = by v.session.closing transfer (subst (λ c. (is_upload (if v.session.closing then Data.Free else c) && has_room v) ≡ true) carried may)
+  where
+    by : (closing : Bool) (t : Transfer) → (is_upload (if closing then Data.Free else Data.Transferring t) && has_room v) ≡ true → takes_octets t ≡ true
+    by true t is = absurd (let wrong : false ≡ true = is in cc)
+    by false (Transfers.Upload path keep d) is = refl
+    by false Transfers.OverLimit is = refl
+    by false (Transfers.Download rest) is = absurd (let wrong : false ≡ true = is in cc)
+    by false (Transfers.Listing rest) is = absurd (let wrong : false ≡ true = is in cc)
+
+-- a transfer that is over by a fault leaves the same, whatever it was
+pub fault_same : (old new : Transfer) (v : View) → v.session.connection ≡ Data.Transferring old → faulted (with_connection (Data.Transferring new) v) ≡ faulted v
+fault_same old new v carried = ap (λ c. replied Texts.LocalFault (record v.session { connection = Data.Free; closing = v.session.closing || is_standing c }) v) (sym carried)
+
+-- what came to a transfer, and what was then said of it
+pub said_done : (told : Told) (octets : List ℕ) (old new : Transfer) (v w : View) → v.session.connection ≡ Data.Transferring old
+    → ComesTo v octets told (with_connection (Data.Transferring new) v) → IsSaid told (with_connection (Data.Transferring new) v) w → ReceivesTo octets v w
+said_done Nothing octets old new v w carried comes said = (said ∙ sym comes.1, comes.0)
+said_done (Mark marker) octets old new v w carried comes said = (said ∙ sym comes.1, comes.0)
+said_done Faulty octets old new v w carried comes said = (said ∙ ap later (fault_same old new v carried) ∙ sym comes.1, comes.0)
+said_done NoMemory octets old new v w carried comes said = absurd said
+
+pub said_lost : (told : Told) (octets : List ℕ) (old new : Transfer) (v w : View) → v.session.connection ≡ Data.Transferring old
+    → ComesTo v octets told (with_connection (Data.Transferring new) v) → SayingFails told (with_connection (Data.Transferring new) v) w → AreReceived v octets w
+said_lost Nothing octets old new v w carried comes lost = absurd lost
+said_lost (Mark marker) octets old new v w carried comes lost = absurd lost
+said_lost Faulty octets old new v w carried comes lost = comes.2 w (subst (λ y. Late y w) (fault_same old new v carried) lost)
+said_lost NoMemory octets old new v w carried comes lost = comes w (subst (λ y. Late y w) (fault_same old new v carried) lost)
 
 -- and then the count: `mid` is behind the octets
 pub received : {T E : Type 0} (octets : List ℕ) (old mid new : Server) (failures : ℕ) (r : Result T E) → failures ≡ old.counts.failures.told → mid.counts.refusals ≡ old.counts.refusals

@@ -12,7 +12,7 @@ use Rattle.ftp_server_model.specs.Calls.{MayReceive, connection_of, grown, is_up
 use Rattle.ftp_server_model.specs.Endpoint.{forgotten, is_standing}
 use Rattle.ftp_server_model.specs.Far.{Server}
 use Rattle.ftp_server_model.specs.Heard.{Heard, Tells, abort_told, heard_by, heard_by_line, heard_by_octet, heard_received, later_heard, latest, told_of, waited_heard}
-use Rattle.ftp_server_model.specs.Machine.{IsReading, Reading, given_out, has_room, hears, hears_octet, is_abort, is_connection_busy, is_idle, is_over, later, obeyed, turned, waited}
+use Rattle.ftp_server_model.specs.Machine.{IsReading, Reading, faulted, given_out, has_room, hears, hears_octet, is_abort, is_connection_busy, is_idle, is_over, later, obeyed, turned, waited}
 use Rattle.ftp_server_model.specs.Act.{decided}
 use Rattle.ftp_server_model.specs.View.{Session, Transfer, View}
 use Rattle.ftp_server_model.specs.declared.heard.HeardLine.{HeardLine}
@@ -23,13 +23,13 @@ use Rattle.ftp_server_model.specs.declared.session.Transfer.TheVariants as Trans
 use Rattle.ftp_server_model.specs.declared.session.Pending.TheVariants as Pendings
 use Rattle.ftp_server_replies.specs.declared.transfer.Told.{Told}
 use Rattle.ftp_server_replies.specs.declared.transfer.Told.TheVariants.{Nothing, Mark, Faulty, NoMemory}
-use Rattle.ftp_server_session.specs.Receiving.{ComesIn}
-use Rattle.ftp_server_model.specs.Machine.{with_session}
-use Rattle.ftp_server.specs.Data.{TellsSaid, refused}
+use Rattle.ftp_server_replies.specs.ServerTransfer.{ComesTo}
+use Rattle.ftp_server.specs.Data.{TellsSaid}
 use Rattle.ftp_server.specs.HearsTo.{HearsTo, TellsTo}
 use Rattle.ftp_server.specs.Settled.{HasMoved, IsStepSettled}
 use Rattle.ftp_server.proofs.CallLemmas.{on_course}
 use Rattle.ftp_server.proofs.CountingLemmas.{same_counts}
+use Rattle.ftp_server.proofs.DataLemmas.{fault_same}
 use Rattle.ftp_server_model.specs.Counting.{TellsSome}
 use Rattle.ftp_server_model.specs.Failing.{KeepsCourse}
 use Rattle.ftp_tree.proofs.CountLemmas.{stray-first}
@@ -419,11 +419,13 @@ fault_is_told told v Y octets waiting session context may is = by v.waiting refl
     by None none = (none_received told v octets none).0 ∙ sym (ap (latest told) (none_later Y (waiting ∙ none)).1)
     by (Some heard) waits = ended_told told v Y octets heard waits (waiting ∙ waits) session context may is
 
--- what came, and what was then said of it
-pub said_told : (told : Told) (octets : List ℕ) (v : View) (s : Session) (before after : Option Heard) → ComesIn v octets told s
-    → (told ≡ Faulty → s ≡ forgotten v.session) → TellsSaid told (with_session s v) before after → after ≡ heard_received before v octets
-said_told Nothing octets v s before after comes over said = said ∙ sym (no_line_acted_on before v octets (ap (λ w. w.waiting) comes.1))
-said_told (Mark mark) octets v s before after comes over said = said ∙ sym (no_line_acted_on before v octets (ap (λ w. w.waiting) comes.1))
-said_told Faulty octets v s before after comes over said =
-    said ∙ sym (fault_is_told before v (refused (with_session s v)) octets refl (over refl) refl comes.0 comes.1)
-said_told NoMemory octets v s before after comes over said = absurd said
+-- what came to a transfer, and what was then said of it
+pub said_told : (told : Told) (octets : List ℕ) (old new : Transfer) (v : View) (before after : Option Heard) → v.session.connection ≡ Data.Transferring old
+    → ComesTo v octets told (with_connection (Data.Transferring new) v) → TellsSaid told (with_connection (Data.Transferring new) v) before after
+    → after ≡ heard_received before v octets
+said_told Nothing octets old new v before after carried comes said = said ∙ sym (no_line_acted_on before v octets (ap (λ w. w.waiting) comes.1))
+said_told (Mark mark) octets old new v before after carried comes said = said ∙ sym (no_line_acted_on before v octets (ap (λ w. w.waiting) comes.1))
+said_told Faulty octets old new v before after carried comes said =
+    said ∙ ap (λ y. latest before (later_heard y)) (fault_same old new v carried)
+    ∙ sym (fault_is_told before v (faulted v) octets refl refl refl comes.0 comes.1)
+said_told NoMemory octets old new v before after carried comes said = absurd said

@@ -3,10 +3,9 @@ use Rattle.std.specs.Prelude.{◌≡◌, ℕ, List, Option}
 use Rattle.ftp_server_model.specs.Calls.{MayReceive, receives}
 use Rattle.ftp_server_model.specs.Failing.{Late}
 use Rattle.ftp_server_model.specs.Heard.{Heard, later_heard, latest}
-use Rattle.ftp_server_model.specs.Machine.{later, owes, replied}
+use Rattle.ftp_server_model.specs.Machine.{faulted, later, owes}
 use Rattle.ftp_server_model.specs.Replies.{mark_reply, reply_octets}
 use Rattle.ftp_server_model.specs.View.{View}
-use Rattle.ftp_server_model.specs.declared.reply.FixedReply.TheVariants as Texts
 use Rattle.ftp_server_replies.specs.declared.transfer.Told.{Told}
 use Rattle.ftp_server_replies.specs.declared.transfer.Told.TheVariants.{Nothing, Mark, Faulty, NoMemory}
 
@@ -14,27 +13,23 @@ use Rattle.ftp_server_replies.specs.declared.transfer.Told.TheVariants.{Nothing,
 abbrev pub ReceivesTo : List ℕ → View → View → Type 0
 ReceivesTo octets v w = (w ≡ receives v octets) × MayReceive v octets
 
--- the 451 by which a transfer ends
-abbrev pub refused : View → View
-refused v = replied Texts.LocalFault v.session v
-
--- what is to be said is said, and behind a fault the line that waits is acted on
+-- what is to be said is said; by a fault the transfer is over, and behind it the line that waits is acted on
 abbrev pub IsSaid : Told → View → View → Type 0
 IsSaid Nothing v w = w ≡ v
 IsSaid (Mark marker) v w = w ≡ owes (reply_octets (mark_reply marker.text.items marker.held)) v
-IsSaid Faulty v w = w ≡ later (refused v)
+IsSaid Faulty v w = w ≡ later (faulted v)
 IsSaid NoMemory v w = ⊥
 
--- memory was refused, or the line that waits failed
+-- memory was refused, by which the transfer is over too, or the line that waits failed
 abbrev pub SayingFails : Told → View → View → Type 0
 SayingFails Nothing v w = ⊥
 SayingFails (Mark marker) v w = ⊥
-SayingFails Faulty v w = Late (refused v) w
-SayingFails NoMemory v w = Late (refused v) w
+SayingFails Faulty v w = Late (faulted v) w
+SayingFails NoMemory v w = Late (faulted v) w
 
 -- the line that was acted on last, where this was it before: behind a fault it may be the one that waits
 abbrev pub TellsSaid : Told → View → (before after : Option Heard) → Type 0
 TellsSaid Nothing v before after = after ≡ before
 TellsSaid (Mark marker) v before after = after ≡ before
-TellsSaid Faulty v before after = after ≡ latest before (later_heard (refused v))
+TellsSaid Faulty v before after = after ≡ latest before (later_heard (faulted v))
 TellsSaid NoMemory v before after = ⊥

@@ -4,6 +4,7 @@ ghost use Rattle.ftp_server_model.specs.Counting.{TellsSome};
 ghost use Rattle.ftp_server_model.specs.Calls.{given_step, may_receive, to_give};
 ghost use Rattle.ftp_server_model.specs.Failing.{AreReceived, GiveFails, Late};
 ghost use Rattle.ftp_server_model.specs.Heard.{heard_received};
+ghost use Rattle.ftp_server_model.specs.Machine.{faulted};
 ghost use Rattle.ftp_server_model.specs.Most.{IsMostReceived};
 ghost use Rattle.ftp_server_model.specs.View.{View};
 ghost use Rattle.ftp_server.specs.Data.{IsSaid, ReceivesTo, SayingFails, TellsSaid};
@@ -12,12 +13,13 @@ ghost use Rattle.ftp_tree.specs.Change.{IsSteady};
 use crate::line::{Failed, Moved};
 use crate::server::Server;
 use ftp_server_model::{FREE_ROOM, FixedReply, OUTPUT_ROOM, ServerLink};
-use ftp_server_session::{ServerTransfer, Told};
+use ftp_server_replies::Told;
+use ftp_server_session::ServerTransfer;
 use ftp_tree::Tree;
 use std::alloc::Allocator;
 
 impl<A: Allocator + Copy, T: Tree<A>, J: ServerTransfer<A, T>> Server<A, T, J> {
-    ghost use Rattle.ftp_server.specs.Server.{OnCourse, view_of};
+    ghost use Rattle.ftp_server.specs.Server.{OnCourse, counts_of, view_of};
 
     /// Takes octets as long as it may, and says how many; the last of them may have failed.
     pub(crate) fn receive_octets(&mut self, piece: &[u8]) -> Moved
@@ -53,24 +55,26 @@ impl<A: Allocator + Copy, T: Tree<A>, J: ServerTransfer<A, T>> Server<A, T, J> {
         }
     }
 
-    /// Takes octets where there is room for what is to be said of them, and says it: all, or up to the first of which something is to be said.
+    /// Takes octets of an upload, all or up to the first of which something is to be said, and says it.
     fn receive(&mut self, piece: &[u8]) -> Moved
+        requires may { may_receive (view_of T.table J.view self.old) ≡ true }
         ensures within { result.count ≤ length piece.now }
         ensures done { OnOk result.outcome (OnCourse T.failures self.old self.new → ReceivesTo (take result.count piece.now) (view_of T.table J.view self.old) (view_of T.table J.view self.new)) }
         ensures told { OnOk result.outcome (OnCourse T.failures self.old self.new → self.new.heard ≡ heard_received self.old.heard (view_of T.table J.view self.old) (take result.count piece.now)) }
         ensures steady { OnOk result.outcome (IsSteady (T.failures self.old.session.tree) (T.failures self.new.session.tree)) }
         ensures lost { OnErr result.outcome (OnCourse T.failures self.old self.new → AreReceived (view_of T.table J.view self.old) (take result.count piece.now) (view_of T.table J.view self.new)) }
         ensures refusals { self.new.refusals ≡ self.old.refusals }
-        ensures some { may_receive (view_of T.table J.view self.old) ≡ true → 0 < length piece.now → 0 < result.count }
+        ensures some { 0 < length piece.now → 0 < result.count }
         ensures few { TellsSome 1 (T.failures self.old.session.tree) (T.failures self.new.session.tree) }
     {
-        if !self.output.has_room() {
+        let session = &mut self.session;
+        let ServerLink::Transferring(transfer) = &mut session.connection else {
             return Moved {
                 count: 0,
                 outcome: Ok(()),
             };
-        }
-        let received = self.session.receive(piece);
+        };
+        let received = transfer.receive(&session.tree, &session.root, piece);
         let outcome = self.tell(received.told);
         Moved {
             count: received.count,
@@ -78,7 +82,7 @@ impl<A: Allocator + Copy, T: Tree<A>, J: ServerTransfer<A, T>> Server<A, T, J> {
         }
     }
 
-    /// Says what is to be said of octets that came: a marker is answered, and a transfer that is over by a fault or for want of memory is too.
+    /// Says what is to be said of octets that came: a marker is answered, and by a fault or for want of memory the transfer is over.
     fn tell(&mut self, told: Told) -> Result<(), Failed>
         requires room { length self.old.output ≤ OUTPUT_ROOM - FREE_ROOM }
         ensures done { OnOk result (OnCourse T.failures self.old self.new → IsSaid told (view_of T.table J.view self.old) (view_of T.table J.view self.new)) }
@@ -95,15 +99,26 @@ impl<A: Allocator + Copy, T: Tree<A>, J: ServerTransfer<A, T>> Server<A, T, J> {
                 Ok(())
             }
             Told::Faulty => {
-                self.output.put_fixed(FixedReply::LocalFault);
+                self.drop_transfer();
                 self.later_again()
             }
             Told::NoMemory => {
-                self.output.put_fixed(FixedReply::LocalFault);
+                self.drop_transfer();
                 let _settled = self.later();
                 Err(Failed)
             }
         }
+    }
+
+    /// A transfer is over by a fault of this end: it is answered 451, and what stands of its data connection is to be closed.
+    fn drop_transfer(&mut self)
+        requires room { length self.old.output ≤ OUTPUT_ROOM - FREE_ROOM }
+        ensures view { view_of T.table J.view self.new ≡ faulted (view_of T.table J.view self.old) }
+        ensures steady { counts_of T.failures self.new ≡ counts_of T.failures self.old }
+        ensures heard { self.new.heard ≡ self.old.heard }
+    {
+        self.session.forget();
+        self.output.put_fixed(FixedReply::LocalFault);
     }
 
     /// Gives octets; with the last the transfer is over. It may fail: what comes next was not had, for want of memory or as the device failed.

@@ -1,27 +1,14 @@
--- What octets of the data connection, and its end, make of a session, whatever view it stands in.
-use Rattle.std.specs.Prelude.{◌≡◌, ℕ, Bool, true, false, List, Result, Ok, Err}
+-- What octets that are given, and the end of a transfer, make of a session, whatever view it stands in.
+use Rattle.std.specs.Prelude.{◌≡◌, ℕ, Bool, true, false, Result, Ok, Err}
 use Rattle.ftp_tree.specs.Change.{Failures, IsSteady, NoStray}
 use Rattle.ftp_server_model.specs.View.{Session, View}
-use Rattle.ftp_server_model.specs.Machine.{Ending, with_session, owes, replied, later, completed}
-use Rattle.ftp_server_model.specs.Replies.{reply_octets, mark_reply}
-use Rattle.ftp_server_model.specs.Calls.{connection_of, receives, MayReceive, takes_given}
-use Rattle.ftp_server_model.specs.Failing.{Late, AreReceived, GiveFails}
+use Rattle.ftp_server_model.specs.Machine.{Ending, with_session, replied, completed}
+use Rattle.ftp_server_model.specs.Calls.{connection_of, takes_given}
+use Rattle.ftp_server_model.specs.Failing.{Late, GiveFails}
 use Rattle.ftp_server_model.specs.declared.reply.FixedReply.{FixedReply}
 use Rattle.ftp_server_model.specs.declared.reply.FixedReply.TheVariants as Texts
 use Rattle.ftp_server_replies.specs.Fault.{Counted}
 use Rattle.ftp_server_replies.specs.declared.fault.Fault.{Fault}
-use Rattle.ftp_server_replies.specs.declared.transfer.Told.{Told}
-use Rattle.ftp_server_replies.specs.declared.transfer.Told.TheVariants.{Nothing, Mark, Faulty, NoMemory}
-
--- octets came, and this is the session then; where the transfer is over by the last of them, the 451 is to be said
-abbrev pub ComesIn : View → List ℕ → Told → Session → Type 0
-ComesIn v octets Nothing s = MayReceive v octets × (receives v octets ≡ with_session s v)
-ComesIn v octets (Mark marker) s =
-    MayReceive v octets × (receives v octets ≡ owes (reply_octets (mark_reply marker.text.items marker.held)) (with_session s v))
-ComesIn v octets Faulty s =
-    MayReceive v octets × (receives v octets ≡ later (replied Texts.LocalFault s v))
-    × ((x : View) → Late (replied Texts.LocalFault s v) x → AreReceived v octets x)
-ComesIn v octets NoMemory s = (x : View) → Late (replied Texts.LocalFault s v) x → AreReceived v octets x
 
 -- so many octets were given, and this is the session then; where those that come next were not had, the 451 is to be said
 abbrev pub Gives : View → ℕ → Bool → Session → Type 0

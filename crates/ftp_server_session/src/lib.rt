@@ -8,9 +8,9 @@ mod context;
 mod decide;
 mod login;
 mod look;
+mod octets;
 mod options;
 mod port_and_pasv;
-mod receive;
 mod session;
 mod settings;
 mod transfers;
@@ -18,5 +18,5 @@ mod walk;
 
 pub use context::Context;
 pub use ftp_ends::is_same_host;
-pub use ftp_server_replies::{Fault, Given, Marker, Received, ServerTransfer, Told};
+pub use ftp_server_replies::{Fault, Given, ServerTransfer};
 pub use session::Session;

@@ -30,7 +30,7 @@ loop-count-preserved g c =
     let v = view c.args.self.now in let x = view l.self in let w = view r.new.self in let n = r.result.count in
     let fine = sym c.is_err.ensures.value ∙ c.if-is_err.false in
     let more : 0 < length c.split_at.result.1.now = omega (arith, c.loop-count-test.true, c.split_at.ensures.back_len) in
-    let some : 0 < n = r.ensures.some (sym c.may_receive.ensures ∙ c.if-not-may_receive.false) more in
+    let some : 0 < n = r.ensures.some more in
     let first = stray-first (failures c.args.self.now.session.tree) (failures l.self.session.tree) (failures r.new.self.session.tree) l.invariant.steady.1 r.ensures.few.1 in
     let second = stray-second (failures c.args.self.now.session.tree) (failures l.self.session.tree) (failures r.new.self.session.tree) l.invariant.steady.1 r.ensures.few.1 in
     record {
@@ -56,13 +56,13 @@ returns-then-not-may_receive-clause-most g c = λ course. inr (sym c.may_receive
 pub returns-then-is_err-clause-some : goal.returns-then-is_err-clause-some
 returns-then-is_err-clause-some g c = λ may wide.
     let more : 0 < length c.split_at.result.1.now = omega (arith, c.loop-count-test.true, c.split_at.ensures.back_len) in
-    let some : 0 < c.receive-taken.result.count = c.receive-taken.ensures.some (sym c.may_receive.ensures ∙ c.if-not-may_receive.false) more in
+    let some : 0 < c.receive-taken.result.count = c.receive-taken.ensures.some more in
     omega (arith, some)
 
 pub loop-count-smaller : goal.loop-count-smaller
 loop-count-smaller g c =
     let more : 0 < length c.split_at.result.1.now = omega (arith, c.loop-count-test.true, c.split_at.ensures.back_len) in
-    let some : 0 < c.receive-taken.result.count = c.receive-taken.ensures.some (sym c.may_receive.ensures ∙ c.if-not-may_receive.false) more in
+    let some : 0 < c.receive-taken.result.count = c.receive-taken.ensures.some more in
     omega (arith, some, c.loop-count-test.true, c.receive-taken.ensures.within, c.split_at.ensures.back_len)
 
 pub returns-then-is_err-clause-few : goal.returns-then-is_err-clause-few

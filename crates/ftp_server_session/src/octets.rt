@@ -1,46 +1,20 @@
-// Octets of the data connection (RFC 959, section 3).
-ghost use Rattle.std.specs.Prelude.{◌≡◌, ◌≤◌, ◌<◌, false, length, min, take, true};
+// Which octets go over the data connection, and those that are given to it (RFC 959, section 3).
+ghost use Rattle.std.specs.Prelude.{◌≡◌, ◌≤◌, false, length, min, take, true};
 ghost use Rattle.ftp_server_model.specs.Calls.{connection_of as connection_in, given_by, is_upload};
 ghost use Rattle.ftp_server_model.specs.Counting.{TellsSome};
-ghost use Rattle.ftp_server_model.specs.Endpoint.{forgotten};
-ghost use Rattle.ftp_server_model.specs.Machine.{has_room};
 ghost use Rattle.ftp_ends.specs.Octets.{has_octets};
 ghost use Rattle.ftp_server_model.specs.View.{View};
 ghost use Rattle.ftp_tree.specs.Change.{IsSteady, NoStray};
-ghost use Rattle.ftp_server_session.specs.Receiving.{ComesIn, Gives, GivesOut};
+ghost use Rattle.ftp_server_session.specs.Receiving.{Gives, GivesOut};
 
 use crate::session::Session;
 use ftp_server_model::ServerLink;
-use ftp_server_replies::{Given, Received, ServerTransfer, Told};
+use ftp_server_replies::{Given, ServerTransfer};
 use ftp_tree::Tree;
 use std::alloc::Allocator;
 
 impl<A: Allocator + Copy, T: Tree<A>, J: ServerTransfer<A, T>> Session<A, T, J> {
     ghost use Rattle.ftp_server_session.specs.Session.{has_transfer, session_of};
-
-    /// Takes octets of the data connection, at least one where an upload is under way. There has to be room for what is to be said.
-    pub fn receive(&mut self, piece: &[u8]) -> Received
-        // Witness of within, comes, some: for every server's view an equation, by what is told; bounds of the count.
-        ensures within { result.count ≤ length piece.now }
-        ensures comes { (v : View) → v.session ≡ session_of T.table J.view self.old → has_room v ≡ true → ComesIn v (take result.count piece.now) result.told (session_of T.table J.view self.new) }
-        ensures some { is_upload (connection_in (session_of T.table J.view self.old)) ≡ true → 0 < length piece.now → 0 < result.count }
-        // Witness of over: an equation, where the wire is at fault; `Server::receive` of `ftp_server` needs it.
-        ensures over { result.told ≡ Told.Faulty → session_of T.table J.view self.new ≡ forgotten (session_of T.table J.view self.old) }
-        ensures tree { self.new.tree ≡ self.old.tree }
-        ensures access { self.new.access ≡ self.old.access }
-    {
-        if self.closing {
-            return no_octets();
-        }
-        let received = match &mut self.connection {
-            ServerLink::Transferring(transfer) => transfer.receive(&self.tree, &self.root, piece),
-            _ => no_octets(),
-        };
-        if matches!(received.told, Told::Faulty | Told::NoMemory) {
-            self.forget();
-        }
-        received
-    }
 
     /// Whether an upload is under way.
     pub fn is_upload(&self) -> bool
@@ -123,15 +97,5 @@ impl<A: Allocator + Copy, T: Tree<A>, J: ServerTransfer<A, T>> Session<A, T, J> 
         }
         self.forget();
         true
-    }
-}
-
-/// No octet was taken.
-fn no_octets() -> Received
-    ensures { (result.count ≡ 0) × (result.told ≡ Told.Nothing) }
-{
-    Received {
-        count: 0,
-        told: Told::Nothing,
     }
 }
