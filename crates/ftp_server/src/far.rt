@@ -1,4 +1,4 @@
-// A server is the server's end of a session.
+// A server is the server's end of a session. The calls of data octets, of their end and of a break stand here; the others are those of its type.
 use crate::server::Server;
 use ftp_endpoint::Host;
 use ftp_ends::Wants;
@@ -49,20 +49,35 @@ impl<A: Allocator + Copy, T: Tree<A>, J: ServerTransfer<A, T>> Far<A, T> for Ser
         self.data_refused();
     }
 
+    // Witness of within, some: bounds of the count; `edits/a_server_takes_no_data`.
+    // Witness of most: `edits/a_server_takes_one_octet_of_data`.
     fn data_hear(&mut self, piece: &[u8]) -> usize {
-        self.data_hear(piece)
+        let failures = self.session.tree.device_failures();
+        let taken = self.receive_octets(piece);
+        self.count(taken.outcome, failures);
+        taken.count
     }
 
+    // Witness of acts: `edits/an_upload_ends_with_all_rights`.
     fn data_end(&mut self) {
-        self.data_end();
+        let failures = self.session.tree.device_failures();
+        let ended = self.end_transfer();
+        self.settle_behind(ended, failures);
     }
 
+    // Witness of acts: `edits/a_break_puts_with_all_rights`.
     fn data_fault(&mut self) {
-        self.data_fault();
+        let failures = self.session.tree.device_failures();
+        let broken = self.break_transfer();
+        self.settle_behind(broken, failures);
     }
 
+    // Witness of gave, now: `edits/the_last_octet_is_not_waited_for`, `edits/a_download_that_could_not_be_read_on_counts_as_done`.
     fn data_out(&mut self, room: &mut [u8]) -> usize {
-        self.data_out(room)
+        let failures = self.session.tree.device_failures();
+        let given = self.give(room);
+        self.settle_behind(given.outcome, failures);
+        given.count
     }
 
     fn data_closed(&mut self) {

@@ -4,7 +4,6 @@
 mod abort;
 mod begin;
 mod calls;
-mod carry;
 mod conclude;
 mod connect;
 mod data;

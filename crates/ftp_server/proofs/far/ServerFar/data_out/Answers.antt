@@ -7,7 +7,7 @@ use Rattle.ftp_server.proofs.TakenLemmas.{some_given}
 use Rattle.ftp_server.specs.Server.{counts_of, server_of, view_of}
 use Rattle.ftp_server.proofs.CountingLemmas.{by_step}
 use Rattle.ftp_server.proofs.ToldLemmas.{tells_step}
-use Rattle.ftp_server.proofs.server.Server.data_out.Goals as goal
+use Rattle.ftp_server.proofs.far.ServerFar.data_out.Goals as goal
 
 pub returns-clause-now : goal.returns-clause-now
 returns-clause-now g c =

@@ -4,7 +4,7 @@ use Rattle.ftp_server.proofs.CallLemmas.{unfailed}
 use Rattle.ftp_server.proofs.DataLemmas.{received}
 use Rattle.ftp_server.specs.Server.{counts_of, server_of}
 use Rattle.ftp_server.proofs.CountingLemmas.{by_octets}
-use Rattle.ftp_server.proofs.server.Server.data_hear.Goals as goal
+use Rattle.ftp_server.proofs.far.ServerFar.data_hear.Goals as goal
 
 pub returns-clause-took : goal.returns-clause-took
 returns-clause-took g c =

@@ -5,7 +5,7 @@ use Rattle.ftp_server.proofs.HearLemmas.{on_err}
 use Rattle.ftp_server.specs.Server.{counts_of, server_of, view_of}
 use Rattle.ftp_server.proofs.CountingLemmas.{by_step}
 use Rattle.ftp_server.proofs.ToldLemmas.{tells_step}
-use Rattle.ftp_server.proofs.server.Server.data_end.Goals as goal
+use Rattle.ftp_server.proofs.far.ServerFar.data_end.Goals as goal
 
 pub returns-clause-acts : goal.returns-clause-acts
 returns-clause-acts g c =
