@@ -227,7 +227,9 @@ where
         Ok(())
     }
 
-    /// The data connection ended: that is told, unless the control connection goes first.
+    /// The data connection ended: that is told, unless the control connection goes first. What the end owes then is written, and only then is the
+    /// data connection closed: its peer, which ended it, waits for the reply alone.
+    #[tactic(auto, using(ftp_ports::proofs::Causing::passes))]
     fn ended(&mut self) -> Result<(), Cause>
         requires flushed { IsFlushed K.machine (K.here self.old.end.now) }
         requires ready { IsOpenAt self.old.data.now }
@@ -241,7 +243,10 @@ where
         if self.goes_first(spoken) {
             return self.heed();
         }
-        self.over(spoken)
+        self.tell_end(spoken);
+        self.flush()?;
+        self.leave();
+        Ok(())
     }
 
     /// The data connection broke: that is told, unless the control connection goes first.
@@ -272,24 +277,6 @@ where
             Spoken::Octets => !self.control.has_unheard(),
             Spoken::Ended => true,
         }
-    }
-
-    /// The data connection ended: the end is told, what it owes then is written, and only then is it closed: its peer, which ended it, waits for
-    /// the reply alone.
-    #[tactic(auto, using(ftp_ports::proofs::Causing::passes))]
-    fn over(&mut self, spoken: Spoken) -> Result<(), Cause>
-        requires before { spoken ≢ Spoken.Ended }
-        requires ready { IsOpenAt self.old.data.now }
-        requires ended { HasEnded S.remaining self.old.data.now }
-        requires wants { K.machine.wants (K.here self.old.end.now) ≡ Wants.Receive }
-        ensures goes { Follows K.machine K.here R.remaining W.contents P.history S.remaining S.contents self.old self.new result }
-        ensures why { Why K.machine K.machine.serves (K.here self.new.end.now) (P.history self.new.ports.now) self.new.control.now result }
-        ensures kept { IsKept self.old self.new }
-    {
-        self.tell_end(spoken);
-        self.flush()?;
-        self.leave();
-        Ok(())
     }
 
     /// The data connection ended now, and the control connection, as far as it was looked at, has not: the end is told.
