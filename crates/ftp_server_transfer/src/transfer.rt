@@ -7,6 +7,7 @@ use crate::ending::{fault_by, kept_count};
 use crate::line::What;
 use crate::listing::Listing;
 use crate::named::Named;
+use crate::standing::standing_at;
 use crate::{Download, Upload};
 use ftp_command::Argument;
 use ftp_facts::{Facts, Moment};
@@ -158,7 +159,7 @@ impl<A: Allocator + Copy, T: Tree<A>> ServerTransfer<A, T> for TreeTransfer<A, T
 
     fn stands(&self, tree: &T, root: &Path<A>) -> Option<Standing> {
         match self {
-            TreeTransfer::Upload(upload) => Some(upload.stands(tree, root)),
+            TreeTransfer::Upload(upload) => Some(standing_at(tree, root, &upload.path)),
             TreeTransfer::OverLimit | TreeTransfer::Download(_) | TreeTransfer::Listing(_) => None,
         }
     }

@@ -5,7 +5,7 @@ ghost use Rattle.ftp_wire.specs.Decoder.{no_octets};
 ghost use Rattle.ftp_server_replies.specs.ServerTransfer.{Comes, Ends};
 ghost use Rattle.ftp_server_model.specs.Keep.{kept_count};
 ghost use Rattle.ftp_server_model.specs.Machine.{at_break, at_end, installs};
-ghost use Rattle.ftp_server_model.specs.Standing.{overtaken, standing_at};
+ghost use Rattle.ftp_server_model.specs.Standing.{overtaken};
 ghost use Rattle.ftp_server_model.specs.View.{Session};
 ghost use Rattle.ftp_server_model.specs.declared.session.Transfer.TheVariants as Transfers;
 ghost use Rattle.ftp_server_transfer.specs.Receiving.{is_over};
@@ -16,12 +16,11 @@ use crate::ending::{
     end_refusal, fault_by, is_overtaken, kept_at, kept_count, overtaken_keep, room_behind,
 };
 use crate::settled::Came;
-use crate::standing::standing_at;
 use arrayvec::ArrayVec;
 use ftp_facts::Moment;
 use ftp_operation::Rights;
 use ftp_path::Path;
-use ftp_server_model::{FixedReply, Keep, Standing};
+use ftp_server_model::{FixedReply, Keep};
 use ftp_server_replies::{Fault, Marker, Received, Told};
 use ftp_settings::{MARKER_LIMIT, Representation};
 use ftp_tree::{Broken, Sight, Tree};
@@ -168,13 +167,6 @@ impl<A: Allocator + Copy, T: Tree<A>> Upload<A, T> {
             return Ok(FixedReply::Broken);
         }
         self.install(tree, root, rights, moment, FixedReply::Broken)
-    }
-
-    /// What stands at its path.
-    pub(crate) fn stands(&self, tree: &T, root: &Path<A>) -> Standing
-        ensures { result ≡ standing_at (under (T.table tree.now) root.now) self.now.path }
-    {
-        standing_at(tree, root, &self.path)
     }
 
     /// Others changed what stands at its path.
