@@ -8,7 +8,6 @@ ghost use Rattle.ftp_server.specs.Breaking.{InstallIsLost};
 ghost use Rattle.ftp_server_session.specs.Session.{connection_seen};
 ghost use Rattle.ftp_tree.specs.Change.{IsSteady};
 
-use crate::conclude::at_break;
 use crate::hear::is_transferring;
 use crate::line::Failed;
 use crate::server::Server;
@@ -53,7 +52,9 @@ impl<A: Allocator + Copy, T: Tree<A>, J: ServerTransfer<A, T>> Server<A, T, J> {
         }
         match self.take_connection() {
             ServerLink::Transferring(transfer) => {
-                match at_break(&mut self.session, self.context.moment, transfer) {
+                let (rights, moment) = (self.session.rights, self.context.moment);
+                let session = &mut self.session;
+                match transfer.at_break(&mut session.tree, &session.root, rights, moment) {
                     Ok(text) => {
                         self.output.put_fixed(text);
                         Ok(())

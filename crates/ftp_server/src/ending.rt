@@ -9,7 +9,6 @@ ghost use Rattle.ftp_server.specs.Busy.{HasRoom};
 ghost use Rattle.ftp_server_session.specs.Session.{connection_seen};
 ghost use Rattle.ftp_tree.specs.Change.{IsSteady};
 
-use crate::conclude::{at_break, at_end};
 use crate::line::Failed;
 use crate::server::Server;
 use ftp_server_model::{FixedReply, ServerLink};
@@ -35,7 +34,9 @@ impl<A: Allocator + Copy, T: Tree<A>, J: ServerTransfer<A, T>> Server<A, T, J> {
         match self.leave() {
             ServerLink::Ready => Ok(()),
             ServerLink::Transferring(transfer) => {
-                match at_end(&mut self.session, self.context.moment, transfer) {
+                let (rights, moment) = (self.session.rights, self.context.moment);
+                let session = &mut self.session;
+                match transfer.at_end(&mut session.tree, &session.root, rights, moment) {
                     Ok(text) => {
                         self.output.put_fixed(text);
                         Ok(())
@@ -67,7 +68,9 @@ impl<A: Allocator + Copy, T: Tree<A>, J: ServerTransfer<A, T>> Server<A, T, J> {
         match self.leave() {
             ServerLink::Ready => Ok(()),
             ServerLink::Transferring(transfer) => {
-                match at_break(&mut self.session, self.context.moment, transfer) {
+                let (rights, moment) = (self.session.rights, self.context.moment);
+                let session = &mut self.session;
+                match transfer.at_break(&mut session.tree, &session.root, rights, moment) {
                     Ok(text) => {
                         self.output.put_fixed(text);
                         Ok(())

@@ -4,7 +4,6 @@
 mod abort;
 mod begin;
 mod calls;
-mod conclude;
 mod connect;
 mod data;
 mod ending;

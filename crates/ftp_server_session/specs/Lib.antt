@@ -1,4 +1,4 @@
 pub mod Little
 pub mod Line
 pub mod Session
-pub mod Receiving
+pub mod Giving

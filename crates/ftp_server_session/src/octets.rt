@@ -5,7 +5,7 @@ ghost use Rattle.ftp_server_model.specs.Counting.{TellsSome};
 ghost use Rattle.ftp_ends.specs.Octets.{has_octets};
 ghost use Rattle.ftp_server_model.specs.View.{View};
 ghost use Rattle.ftp_tree.specs.Change.{IsSteady, NoStray};
-ghost use Rattle.ftp_server_session.specs.Receiving.{Gives, GivesOut};
+ghost use Rattle.ftp_server_session.specs.Giving.{Gives, GivesOut};
 
 use crate::session::Session;
 use ftp_server_model::ServerLink;

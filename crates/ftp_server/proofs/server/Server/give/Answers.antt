@@ -2,7 +2,7 @@ use Rattle.std.proofs.Common.{◌∙◌, ap, refl, subst, sym, List, ℕ}
 use Rattle.ftp_server_model.specs.Failing.{Late}
 use Rattle.ftp_server_model.specs.Machine.{completed, with_session}
 use Rattle.ftp_server_model.specs.View.{View}
-use Rattle.ftp_server_session.specs.Receiving.{Gives}
+use Rattle.ftp_server_session.specs.Giving.{Gives}
 use Rattle.ftp_server_session.specs.Session.{session_of}
 use Rattle.ftp_server.specs.Server.{view_of}
 use Rattle.ftp_server.proofs.server.Server.give.Goals as goal

@@ -5,7 +5,7 @@ use Rattle.ftp_server.specs.Data.{IsSaid, SayingFails, TellsSaid}
 use Rattle.ftp_server.specs.Server.{OnCourse, view_of}
 use Rattle.ftp_server_model.specs.Failing.{Late, WaitingFails}
 use Rattle.ftp_server_model.specs.Heard.{later_heard, latest}
-use Rattle.ftp_server_model.specs.Machine.{later}
+use Rattle.ftp_server_model.specs.Machine.{faulted, later}
 use Rattle.ftp_server.proofs.server.Server.tell.Goals as goal
 
 pub returns-in-Faulty-clause-done : goal.returns-in-Faulty-clause-done
@@ -22,7 +22,7 @@ returns-in-Faulty-clause-told g c =
     subst (λ told. OnOk l.result (OnCourse g.T.Tree.failures old l.new.self → TellsSaid told (view old) old.heard l.new.self.heard)) (sym c.in-Faulty.is)
     (on_ok l.result
     (λ told course. told (course ∙ ap (λ n. n.failures.strays) (sym d.ensures.steady)) ∙ ap (λ y. latest d.new.self.heard (later_heard y)) d.ensures.view
-    ∙ ap (λ before. latest before (later_heard _)) d.ensures.heard)
+    ∙ ap (λ before. latest before (later_heard (faulted (view old)))) d.ensures.heard)
     l.ensures.told)
 
 pub returns-in-Faulty-clause-lost : goal.returns-in-Faulty-clause-lost
@@ -37,7 +37,7 @@ returns-in-Faulty-clause-lost g c =
 pub returns-in-NoMemory-clause-lost : goal.returns-in-NoMemory-clause-lost
 returns-in-NoMemory-clause-lost g c = λ course.
     let view = view_of g.T.Tree.table g.J.ServerTransfer.view in let old = c.args.self.now in
-    let d = c.drop_transfer in let l = c.later-_settled in
+    let d = c.drop_transfer-in-NoMemory in let l = c.later-settled in
     subst (λ told. SayingFails told (view old) (view l.new.self)) (sym c.in-NoMemory.is)
     (subst (λ y. Late y (view l.new.self)) d.ensures.view
     (late_of l.result (view d.new.self) (view l.new.self) l.ensures.done l.ensures.lost (course ∙ ap (λ n. n.failures.strays) (sym d.ensures.steady))))
