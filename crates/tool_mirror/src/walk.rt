@@ -19,7 +19,7 @@ use ftp_operation::{Answer, ListVerb};
 use std::alloc::{AllocError, Global};
 use tool_files::Change;
 use tool_listing::{DirectoryListing, ItemFacts};
-use tool_mirror_plan::{CopyDirection, RefusalReason};
+use tool_mirror_plan::{CopyDirection, RefusalReason, plan};
 use tool_session::{ClientSession, SessionFault, SessionTask};
 
 /// A mirror on its way.
@@ -65,7 +65,10 @@ impl<'a, R: LocalMachine> SessionTask<Result<Answer<Global>, SessionFault>> for 
                 }
                 return Ok(Answer::Done);
             };
-            if let Some(fault) = self.turn(slot, entry) {
+            let Err(fault) = self.perform(slot, entry.action, entry.below.as_str()) else {
+                continue;
+            };
+            if let Some(fault) = self.undone(entry, fault) {
                 return Ok(fault.answer());
             }
         }
@@ -126,11 +129,9 @@ impl<'a, R: LocalMachine> MirrorWalk<'a, R> {
         }
     }
 
-    /// Does one thing; where the control connection ends, it is done anew over another one. Gives why nothing more is done over this one.
-    fn turn<S: ClientSession>(&mut self, slot: &mut S, entry: QueueEntry) -> Option<MirrorFault> {
-        let Err(fault) = self.perform(slot, entry.action, entry.below.as_str()) else {
-            return None;
-        };
+    /// What becomes of a thing that was not done: where the control connection ended, it is done anew over another one; else it may be told, and the
+    /// others go on. Gives why nothing more is done over this control connection.
+    fn undone(&mut self, entry: QueueEntry, fault: MirrorFault) -> Option<MirrorFault> {
         match fault.effect() {
             FaultEffect::Again => match self.action_queue.put_back(entry) {
                 Ok(()) => Some(fault),
@@ -175,6 +176,7 @@ impl<'a, R: LocalMachine> MirrorWalk<'a, R> {
         }
     }
 
+    /// Does one thing at a path of the tree.
     fn perform<S: ClientSession>(
         &mut self,
         slot: &mut S,
@@ -218,8 +220,8 @@ impl<'a, R: LocalMachine> MirrorWalk<'a, R> {
         if below.is_empty() && self.may_lack(&target) {
             self.make_doubtful(slot)?;
         }
-        self.action_queue
-            .plan(self.mirror.rules, below, &source, &target)
+        let steps = plan(self.alloc, self.mirror.rules, &source, &target)?;
+        self.action_queue.add(below, steps.as_slice(), &target)
     }
 
     /// Makes the target itself, once the source is listed, and goes into it.
@@ -227,8 +229,8 @@ impl<'a, R: LocalMachine> MirrorWalk<'a, R> {
         let source = self.source(slot, "")?;
         self.change(slot, Change::MakeDir, "")?;
         let nothing = DirectoryListing::Whole(Vec::new(self.alloc));
-        self.action_queue
-            .plan(self.mirror.rules, "", &source, &nothing)
+        let steps = plan(self.alloc, self.mirror.rules, &source, &nothing)?;
+        self.action_queue.add("", steps.as_slice(), &nothing)
     }
 
     /// Makes the target itself, unless the server refuses that, as where it stands.
@@ -254,8 +256,8 @@ impl<'a, R: LocalMachine> MirrorWalk<'a, R> {
             },
         };
         let source = self.source(slot, below)?;
-        self.action_queue
-            .plan(self.mirror.rules, below, &source, &target)
+        let steps = plan(self.alloc, self.mirror.rules, &source, &target)?;
+        self.action_queue.add(below, steps.as_slice(), &target)
     }
 
     /// What stands in a directory of the target.

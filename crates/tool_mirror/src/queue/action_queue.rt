@@ -12,7 +12,7 @@ use std::alloc::{AllocError, Global};
 use std::mem;
 use tool_listing::{DirectoryListing, ItemKind, ListedItem, is_name};
 use tool_location::joined;
-use tool_mirror_plan::{Extra, PlanStep, Rules, plan};
+use tool_mirror_plan::{Extra, PlanStep};
 
 /// How many things are done at most.
 const MOST_STEPS: u64 = 1_000_000;
@@ -134,15 +134,13 @@ impl ActionQueue {
         self.is_removing = true;
     }
 
-    /// What is planned of two listings of a directory waits, the first of it at the end; removals wait until all else is done.
-    pub(crate) fn plan(
+    /// Steps that were planned of a directory wait, the first of them at the end; removals wait until all else is done. `target` is what it has.
+    pub(crate) fn add(
         &mut self,
-        rules: Rules,
         below: &str,
-        source: &DirectoryListing<Global>,
+        steps: &[PlanStep<Global>],
         target: &DirectoryListing<Global>,
     ) -> Result<(), MirrorFault> {
-        let steps = plan(self.alloc, rules, source, target)?;
         self.planned = self.planned.saturating_add(steps.len() as u64);
         if self.planned > MOST_STEPS {
             return Err(MirrorFault::TooManySteps);
@@ -150,7 +148,7 @@ impl ActionQueue {
         if let DirectoryListing::Whole(items) = target {
             self.counts.add_held(items.len());
         }
-        self.put_steps(below, steps.as_slice())?;
+        self.put_steps(below, steps)?;
         Ok(())
     }
 

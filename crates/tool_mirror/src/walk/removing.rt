@@ -7,7 +7,7 @@ use crate::walk::MirrorWalk;
 use std::io::ErrorKind;
 use tool_files::Change;
 use tool_listing::DirectoryListing;
-use tool_mirror_plan::{CopyDirection, Extra, Rules};
+use tool_mirror_plan::{CopyDirection, Extra, Rules, plan};
 use tool_session::ClientSession;
 
 impl<'a, R: LocalMachine> MirrorWalk<'a, R> {
@@ -99,6 +99,7 @@ impl<'a, R: LocalMachine> MirrorWalk<'a, R> {
             extra: Extra::Any,
             ..self.mirror.rules
         };
-        self.action_queue.plan(rules, below, &nothing, &target)
+        let steps = plan(self.alloc, rules, &nothing, &target)?;
+        self.action_queue.add(below, steps.as_slice(), &target)
     }
 }

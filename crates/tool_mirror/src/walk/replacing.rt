@@ -16,7 +16,7 @@ use std::alloc::{AllocError, Global};
 use tool_files::Change;
 use tool_listing::{DirectoryListing, ItemFacts};
 use tool_location::last_part;
-use tool_mirror_plan::CopyDirection;
+use tool_mirror_plan::{CopyDirection, plan};
 use tool_session::ClientSession;
 
 /// What stands behind the name of something in that of what comes in its place, until it is whole.
@@ -104,8 +104,8 @@ impl<'a, R: LocalMachine> MirrorWalk<'a, R> {
         self.exchange(slot, removal, coming.as_str(), below)?;
         self.tell_done(word_of(Change::MakeDir), below);
         let nothing = DirectoryListing::Whole(Vec::new(self.alloc));
-        self.action_queue
-            .plan(self.mirror.rules, below, &source, &nothing)
+        let steps = plan(self.alloc, self.mirror.rules, &source, &nothing)?;
+        self.action_queue.add(below, steps.as_slice(), &nothing)
     }
 
     /// Renames what stands there aside, and what came into its place; the first is removed then. Where the second can't be, the first is back.
