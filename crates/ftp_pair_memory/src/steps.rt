@@ -1,9 +1,9 @@
-// Both drives in turns over connections in memory.
+// Both drives in turns over connections in memory: the ends, their turns, and an operation.
 
 mod slots;
 mod taking;
 mod turn_ending;
 mod turns;
 
-pub use slots::{Line, Slot};
+pub use slots::{MemoryControl, Slot};
 pub use taking::ask;

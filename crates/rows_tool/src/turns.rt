@@ -6,7 +6,7 @@ use ftp_client_transfer::OperationTransfer;
 use ftp_endpoint::Host;
 use ftp_facts::{Moment, Text};
 use ftp_operation::{Accounts, Login, Op};
-use ftp_pair_memory::{Line, Slot, ask};
+use ftp_pair_memory::{MemoryControl, Slot, ask};
 use ftp_ports::Watch;
 use ftp_server::Server;
 use ftp_server_driver::Clocked;
@@ -51,7 +51,7 @@ fn report<R, N, F>(
     op: Op<Text<Global>>,
     client: &mut Slot<N>,
     server: &mut Slot<Clocked<F, Still, ()>>,
-    line: &mut Line,
+    control: &mut MemoryControl,
     most: usize,
 ) -> io::Result<()>
 where
@@ -59,7 +59,7 @@ where
     N: Near<Global>,
     F: Far<Global, MemTree<Global>>,
 {
-    match ask::<Global, MemTree<Global>, N, F, Still, ()>(op, client, server, line, most) {
+    match ask::<Global, MemTree<Global>, N, F, Still, ()>(op, client, server, control, most) {
         Some(answer) => {
             let _status = write_report(alloc, &answer, &mut io::writer(rt))?;
             Ok(())
@@ -89,11 +89,11 @@ where
     };
     let mut client = Slot::new(client, alloc, HERE, ONE);
     let mut server = Slot::new(clocked, alloc, HERE, ONE);
-    let mut line = Line::new(alloc);
+    let mut control = MemoryControl::new(alloc);
     let mut most = 1usize;
     for order in orders {
         match order.into_parts() {
-            Ok(op) => report((rt, alloc), op, &mut client, &mut server, &mut line, most)?,
+            Ok(op) => report((rt, alloc), op, &mut client, &mut server, &mut control, most)?,
             Err(_) => println!(rt; "an upload over breaks")?,
         }
         most = if most >= FEW { MANY } else { most + 1 };

@@ -1,5 +1,6 @@
 -- Why an operation is not answered: turns that were the last, and rounds in a row.
-use Rattle.std.proofs.Common.{◌≡◌, ℕ, suc, length, Bool, true, false, not, List, [], ◌∷◌, ◌≤◌, ◌<◌, arith, inr, Option, Some, None, is_some, refl, sym, ap, subst, ◌∙◌}
+use Rattle.std.proofs.Common.{◌≡◌, ℕ, suc, length, Bool, true, false, not, List, [], ◌∷◌, ◌≤◌, ◌<◌, arith, inr, Option, Some, None, is_some, refl}
+use Rattle.std.proofs.Common.{sym, ap, subst, ◌∙◌}
 use Rattle.std.specs.Prelude.{⊤}
 use Rattle.ftp_ports.specs.Channel.{Channel}
 use Rattle.ftp_ports.specs.Machine.{held}
@@ -12,7 +13,8 @@ use Rattle.ftp_pair_memory.specs.streams.MemoryEnds.{plain_in, told_channel}
 use Rattle.ftp_pair_memory.specs.streams.PortTableMoves.{left_in, went_in}
 use Rattle.ftp_pair_memory.specs.streams.PortTables.{asked_of}
 use Rattle.ftp_pair_memory.specs.steps.Seating.{Pair, nothing_left}
-use Rattle.ftp_pair_memory.specs.steps.Stopping.{AreSilent, AsksUnanswered, Begun, Busy, FarGoes, FarOn, IsRefused, IsTurn, IsUnanswered, Made, NearGoes, RoundGoes, Rounded, SettlesNot, Silent, Spent, Stopped, StopsIn, Unsettled}
+use Rattle.ftp_pair_memory.specs.steps.Stopping.{AreSilent, AsksUnanswered, Begun, Busy, FarGoes, FarOn, IsRefused, IsTurn, IsUnanswered, Made}
+use Rattle.ftp_pair_memory.specs.steps.Stopping.{NearGoes, RoundGoes, Rounded, SettlesNot, Silent, Spent, Stopped, StopsIn, Unsettled}
 use Rattle.ftp_pair_memory.specs.steps.Taking.{Begins}
 use Rattle.ftp_pair_memory.specs.steps.Turning.{FarTurned, NearTurned}
 use Rattle.ftp_pair_memory.specs.declared.streams.memory_end.MemoryEnd.{MemoryEnd}

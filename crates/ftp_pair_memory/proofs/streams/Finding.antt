@@ -20,7 +20,8 @@ use Rattle.laws_drivers.specs.control.Between.{Awaits, Between, Can, Has, Hold, 
 use Rattle.laws_drivers.specs.control.Touches as touches
 use Rattle.laws_drivers.specs.control.Touches.{Touch, had_by, touch_of_leaving, touch_of}
 use Rattle.laws_world.specs.World.{port_at}
-use Rattle.ftp_pair_memory.specs.streams.LinkState.{LinkState, IsAtLinkState, IsSeen, LinkRan, Steps, between_by, called_by, dialling, handed, hold_by, listening, mark}
+use Rattle.ftp_pair_memory.specs.streams.LinkState.{LinkState, IsAtLinkState, IsSeen, LinkRan, Steps, between_by, called_by, dialling, handed}
+use Rattle.ftp_pair_memory.specs.streams.LinkState.{hold_by, listening, mark}
 use Rattle.ftp_pair_memory.specs.streams.Order.{CanGo}
 use Rattle.ftp_pair_memory.proofs.streams.LinkStates.{Heeds, IsKnown, alike, all_read, appended, consumed, kept, same_some, seen_as}
 use Rattle.ftp_pair_memory.proofs.streams.Lying.{accepts_at, breaks_at, dials_at, ends_at, listens_at, over_at, resets_at, takes_at, told_at, writes_at}

@@ -16,7 +16,8 @@ use Rattle.ftp_pair_memory.specs.streams.LinkState.{LinkState, IsAtLinkState, Li
 use Rattle.ftp_pair_memory.specs.streams.Claims.{HappensAtPorts, ways_at}
 use Rattle.ftp_pair_memory.specs.streams.Order.{CameAlone, CanGo, CountedAlone, WentAlone}
 use Rattle.ftp_pair_memory.specs.streams.Plain.{plain, quiet}
-use Rattle.ftp_pair_memory.proofs.streams.LinkStates.{Heeds, IsKnown, alike, counts_same, heeds, host_same, heeds_on, known_at, known_on, ran_split, same_link_state}
+use Rattle.ftp_pair_memory.proofs.streams.LinkStates.{Heeds, IsKnown, alike, counts_same, heeds, host_same, heeds_on, known_at, known_on, ran_split}
+use Rattle.ftp_pair_memory.proofs.streams.LinkStates.{same_link_state}
 use Rattle.ftp_pair_memory.proofs.streams.Coming.{came}
 use Rattle.ftp_pair_memory.proofs.streams.Counting.{counted}
 use Rattle.ftp_pair_memory.proofs.streams.Finding.{found}

@@ -11,7 +11,8 @@ use Rattle.laws_drivers.specs.control.Between.{Has, Has_not, Hold}
 use Rattle.ftp_pair_memory.specs.streams.PortTableMoves.{hold_at, is_back, is_ended, is_out, left_in, went_in}
 use Rattle.ftp_pair_memory.specs.streams.Plain.{plain_channel}
 use Rattle.ftp_pair_memory.proofs.streams.Noting.{back_has, back_marked}
-use Rattle.ftp_pair_memory.specs.streams.MemoryEnds.{AnswersDial, IsFresh, IsKnown, Lifts, LowersWire, Meets, Prepares, link_state_of, came_at, came_of_wire, listens_of, mark_of_wire, octets_of, of_two, plain_in, told_in, went_at}
+use Rattle.ftp_pair_memory.specs.streams.MemoryEnds.{AnswersDial, IsFresh, IsKnown, Lifts, LowersWire, Meets, Prepares, link_state_of, came_at}
+use Rattle.ftp_pair_memory.specs.streams.MemoryEnds.{came_of_wire, listens_of, mark_of_wire, octets_of, of_two, plain_in, told_in, went_at}
 use Rattle.ftp_pair_memory.specs.declared.streams.port_table.Stay.{Stay}
 use Rattle.ftp_pair_memory.specs.declared.streams.port_table.Stay.TheVariants as Stays
 use Rattle.ftp_pair_memory.specs.declared.streams.memory_end.MemoryEnd.{MemoryEnd}

@@ -4,7 +4,8 @@ use Rattle.ftp_endpoint.specs.declared.endpoint.Endpoint.{Endpoint}
 use Rattle.ftp_ports.specs.Asking.{Asked}
 use Rattle.laws_drivers.specs.control.Between.{Awaits, Has, Has_ended, Has_lost, Has_not, Hold, IsOver, Is_called}
 use Rattle.ftp_pair_memory.specs.streams.LinkState.{LinkState, LinkRan, Steps, dialling, listening, mark}
-use Rattle.ftp_pair_memory.specs.streams.PortTableMoves.{Noted, link_found_at, header, is_back, is_dialled, is_ended, is_free_hold, is_reached, moved, moved_where_known, noted_first, noted_in, noted_next, noted_on, port_called, told, where_so}
+use Rattle.ftp_pair_memory.specs.streams.PortTableMoves.{Noted, link_found_at, header, is_back, is_dialled, is_ended, is_free_hold, is_reached, moved}
+use Rattle.ftp_pair_memory.specs.streams.PortTableMoves.{moved_where_known, noted_first, noted_in, noted_next, noted_on, port_called, told, where_so}
 use Rattle.ftp_pair_memory.specs.declared.streams.port_table.Event.{Event}
 use Rattle.ftp_pair_memory.specs.declared.streams.port_table.Event.TheVariants as Events
 use Rattle.ftp_pair_memory.specs.declared.streams.port_table.Found.{Found}

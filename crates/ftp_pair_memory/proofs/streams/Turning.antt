@@ -1,5 +1,6 @@
 -- Some turns of an end between two ends in memory: what it did can happen, from what lay between them to what lies there.
-use Rattle.std.proofs.Common.{◌≡◌, ℕ, ◌+◌, ◌%◌, ◌<◌, Bool, true, false, true≢false, List, [], ◌∷◌, ◌++◌, length, length-append, map, Option, None, Some, is_some, refl, sym, ap, subst, ◌∙◌, arith}
+use Rattle.std.proofs.Common.{◌≡◌, ℕ, ◌+◌, ◌%◌, ◌<◌, Bool, true, false, true≢false, List, [], ◌∷◌, ◌++◌, length, length-append, map, Option, None}
+use Rattle.std.proofs.Common.{Some, is_some, refl, sym, ap, subst, ◌∙◌, arith}
 use Rattle.ftp_endpoint.specs.declared.host.Host.{Host}
 use Rattle.ftp_ports.specs.Asking as asking
 use Rattle.ftp_ports.specs.Asking.{Asked}
@@ -14,7 +15,8 @@ use Rattle.ftp_pair_memory.specs.streams.LinkState.{LinkState, IsAtLinkState, Is
 use Rattle.ftp_pair_memory.specs.streams.Claims.{Happening, ways_at}
 use Rattle.ftp_pair_memory.specs.streams.PortTables.{asked_of}
 use Rattle.ftp_pair_memory.specs.streams.PortTableMoves.{link_state_at, header, hold_at, is_ended, is_out, known_by, left_in, shown_end, shown_hold, went_in}
-use Rattle.ftp_pair_memory.specs.streams.MemoryEnds.{KnowsHolder, IsKnown, Meets, link_state_of, between_both, came_of_wire, listens_of, mark_of_wire, octets_of, of_two, plain_in, told_in, told_channel}
+use Rattle.ftp_pair_memory.specs.streams.MemoryEnds.{KnowsHolder, IsKnown, Meets, link_state_of, between_both, came_of_wire, listens_of, mark_of_wire}
+use Rattle.ftp_pair_memory.specs.streams.MemoryEnds.{octets_of, of_two, plain_in, told_in, told_channel}
 use Rattle.ftp_pair_memory.specs.streams.Order.{CameAlone, CountedAlone, WentAlone}
 use Rattle.ftp_pair_memory.specs.streams.Plain.{plain, plain_channel, quiet}
 use Rattle.ftp_pair_memory.specs.declared.streams.port_table.Stay.{Stay}

@@ -1,4 +1,4 @@
--- Why an operation was not answered over connections in memory.
+-- Why an operation was not answered over connections in memory (own choice).
 use Rattle.std.specs.Prelude.{◌≡◌, ◌⊎◌, ⊤, ℕ, zero, suc, List, [], ◌∷◌, length, IsTrue, Option, None, Some}
 use Rattle.ftp_ports.specs.Channel.{Channel}
 use Rattle.ftp_ports.specs.Machine.{Held, held}
@@ -42,6 +42,7 @@ pub record NearWent (Did : (old new : Held NearEnd) → Type 0) (old new : Pair)
   pub did : Did (held old.client saw) (held new.client sees)
   pub server : new.server ≡ old.server
 
+-- the same of the server
 pub record FarWent (Did : (old new : Held Timed) → Type 0) (old new : Pair) : Type 0 where
   pub saw : Channel
   pub sees : Channel
@@ -54,6 +55,7 @@ abbrev pub NearOn : (old new : Pair) → Type 0
 NearOn old new =
     NearWent (λ was now. NearGoesOn was now old.control.to_client new.control.to_client old.control.to_server new.control.to_server) old new
 
+-- the same of the server
 abbrev pub FarOn : (old new : Pair) → Type 0
 FarOn old new =
     FarWent (λ was now. FarGoesOn was now old.control.to_server new.control.to_server old.control.to_client new.control.to_client) old new
@@ -64,6 +66,7 @@ NearStops Stops.Unmet old new = CannotMeet old.near old.far
 NearStops Stops.Unknown old new = EndsUnknown old.near old.far new.near new.far
 NearStops stop old new = NearWent (λ was now. NearStopped stop was now) old new
 
+-- the same of the server
 abbrev pub FarStops : Stop → (old new : Pair) → Type 0
 FarStops Stops.Unmet old new = CannotMeet old.far old.near
 FarStops Stops.Unknown old new = EndsUnknown old.far old.near new.far new.near
@@ -77,6 +80,7 @@ NearGoes (Courses.Over answer) old new = ⊤
 NearGoes Courses.On old new = NearOn old new
 NearGoes (Courses.Off stop) old new = NearStops stop old new
 
+-- the same of the server
 abbrev pub FarGoes : Course ⊤ → (old new : Pair) → Type 0
 FarGoes (Courses.Over over) old new = FarStops Stops.Done old new
 FarGoes Courses.On old new = FarOn old new
@@ -100,6 +104,7 @@ pub record StopsSecond (stop : Stop) (old new : Pair) : Type 0 where
 abbrev pub StopsIn : Stop → (old new : Pair) → Type 0
 StopsIn stop old new = FarStops stop old new ⊎ StopsSecond stop old new
 
+-- so it is of a round, by how it ended
 abbrev pub RoundGoes : {A : Type 0} → Course (Answer A) → (old new : Pair) → Type 0
 RoundGoes (Courses.Over answer) old new = ⊤
 RoundGoes Courses.On old new = Rounded old new
@@ -146,10 +151,12 @@ pub data IsUnanswered (op : Op (List ℕ)) (old new : Pair) : Type 0 where
   Busy : IsRefused old.client new.client → new ≡ record old { client = new.client } → IsUnanswered op old new
   Begun : BeginsUnsettled op old new → IsUnanswered op old new
 
+-- so it is of all rounds, by whether there is an answer
 abbrev pub SettlesNot : {A : Type 0} → Option (Answer A) → (old new : Pair) → Type 0
 SettlesNot (Some answer) old new = ⊤
 SettlesNot None old new = Unsettled old new
 
+-- so it is of an operation
 abbrev pub AsksUnanswered : {A : Type 0} → Op (List ℕ) → Option (Answer A) → (old new : Pair) → Type 0
 AsksUnanswered op (Some answer) old new = ⊤
 AsksUnanswered op None old new = IsUnanswered op old new

@@ -1,4 +1,4 @@
--- What both ends did in turns over connections in memory.
+-- What both ends did in turns over connections in memory (RFC 959, section 2.3).
 use Rattle.std.specs.Prelude.{◌≡◌, ⊤, ℕ, List, [], ◌∷◌, None, Option, Some}
 use Rattle.ftp_ports.specs.Asking.{Asked}
 use Rattle.ftp_ports.specs.Actions.{Action, Done, Led, Other}
@@ -23,6 +23,7 @@ pub record Ends : Type 0 where
   pub listens : ℕ
   pub hosts : Hosts
 
+-- these as one value
 abbrev pub both_ends : Held Timed → Held NearEnd → Between → (listens : ℕ) → Hosts → Ends
 both_ends server client between listens hosts =
     record { server = server; client = client; between = between; listens = listens; hosts = hosts }
@@ -70,6 +71,7 @@ NearTurns (Courses.Over answer) old new = Answers (said_of answer) old new
 NearTurns Courses.On old new = Took old new
 NearTurns (Courses.Off stop) old new = ⊤
 
+-- the same of the server
 abbrev pub FarTurns : Course ⊤ → (old new : Ends) → Type 0
 FarTurns (Courses.Over over) old new = ⊤
 FarTurns Courses.On old new = Took old new
@@ -96,6 +98,7 @@ abbrev pub SettlesAnswer : {A : Type 0} → Option (Answer A) → (old new : End
 SettlesAnswer (Some answer) old new = Settled (said_of answer) old new
 SettlesAnswer None old new = ⊤
 
+-- so it is of an operation
 abbrev pub AsksAnswered : {A : Type 0} → Op (List ℕ) → Option (Answer A) → (old new : Ends) → Type 0
 AsksAnswered op (Some answer) old new = Answered op (said_of answer) old new
 AsksAnswered op None old new = ⊤

@@ -1,4 +1,4 @@
--- What some turns of a drive over a control connection in memory did.
+-- What some turns of a drive over a control connection in memory did (RFC 959, section 2.3).
 use Rattle.std.specs.Prelude.{◌≡◌, ◌⊎◌, ◌<◌, ⊤, ℕ, Bool, true, false, List, [], ◌∷◌, length, Option, None, Some}
 use Rattle.std.specs.declared.result.Result.{Result}
 use Rattle.std.specs.declared.result.Result.TheVariants.{Ok, Err}
@@ -98,6 +98,7 @@ NearTurned (Courses.Off stop) old new came left before after = NearStopped stop 
 
 -- ---- the server
 
+-- its drive is over or goes on only where it did not break off, and all that was read was heard
 abbrev pub IsFarCourse : Course ⊤ → Result (Turned ⊤) Cause → (is_heard : Bool) → Type 0
 IsFarCourse (Courses.Over over) turned is_heard = (turned ≡ Ok (Turns.Over over)) × (is_heard ≡ true)
 IsFarCourse Courses.On turned is_heard = ((turned ≡ Ok Turns.Later) ⊎ (turned ≡ Ok Turns.More)) × (is_heard ≡ true)
@@ -127,11 +128,13 @@ pub record FarBreaksOff (cause : Cause) (old new : Held Timed) : Type 0 where
   pub ends : now.owner ≡ new
   pub none : start.unheard ≡ []
 
+-- no turn of it comes after, for this
 abbrev pub FarStopped : Stop → (old new : Held Timed) → Type 0
 FarStopped (Stops.Broken cause) old new = FarBreaksOff cause old new
 FarStopped Stops.Unheard old new = LeavesUnheard server_side old new
 FarStopped other old new = ⊥
 
+-- so it is of some turns
 abbrev pub FarTurned : Course ⊤ → (old new : Held Timed) → (came left before after : List ℕ) → Type 0
 FarTurned (Courses.Over over) old new came left before after = FarLeaves old new came left before after
 FarTurned Courses.On old new came left before after = FarGoesOn old new came left before after

@@ -1,4 +1,4 @@
--- What is claimed of turns beside data connections in memory.
+-- What is claimed of turns beside data connections in memory (RFC 959, section 3.2).
 use Rattle.std.specs.Prelude.{◌≡◌, ℕ, List, ◌++◌, map, Some}
 use Rattle.ftp_client_driver.specs.Side.{client_machine}
 use Rattle.ftp_ports.specs.Asking.{Asked}
@@ -15,8 +15,8 @@ abbrev pub ways_at : Who → (mine peers : List ℕ) → Ways
 ways_at Near mine peers = record { to_server = peers; to_client = mine }
 ways_at Far mine peers = record { to_server = mine; to_client = peers }
 
--- actions of one end beside a data connection in memory, as what it tells is let go, as they happen, as ports are told in them, and by who comes; of the control
--- connection `up` was written to the peer before, and `down` is still to be read by this end
+-- actions of one end beside a data connection in memory, as what it tells is let go, as they happen, as ports are told in them, and by who comes
+-- of the control connection `up` was written to the peer before, and `down` is still to be read by this end
 pub record Happening (who : Who) {end : Machine} (actions : List (Action (side_of end))) (old new : Held end.Here) (own now peer : LinkState)
     (up down : List ℕ) : Type 0 where
   pub led : Led (map plain actions) (quiet (plain_held old)) (quiet (plain_held new))
@@ -34,8 +34,10 @@ HappensAtPorts who end =
     → old.channel.asked ≡ Some header → new.channel.asked ≡ Some (asked ++ header) → LinkRan first asked last → Knows own peer
     → Happening who actions old new own now peer up down
 
+-- turns of a client happen so
 abbrev pub NearTurnsHappen : Type 0
 NearTurnsHappen = HappensAtPorts Near client_machine
 
+-- turns of a server happen so
 abbrev pub FarTurnsHappen : Type 0
 FarTurnsHappen = HappensAtPorts Far server_machine

@@ -81,6 +81,7 @@ IsSeen true channel known own =
     × (own ≡ record known { hold = hold_by channel.fate; came = own.came; went = own.went })
 IsSeen false channel known own = IsOver known.hold × (own ≡ known)
 
+-- so it is of what is seen of a data connection, that stands or not
 abbrev pub IsAtLinkState : Channel → (known own : LinkState) → Type 0
 IsAtLinkState channel known own = IsSeen channel.stands channel known own
 
@@ -110,6 +111,7 @@ between_at Far own peer control = record {
   far = own.hold;
 }
 
+-- the same, where the end may have dialled in its turn
 abbrev pub between_by : Who → (own peer : LinkState) → (control : Ways) → Between
 between_by who own peer control = between_at who own (called_by own.dialled peer) control
 

@@ -1,4 +1,4 @@
--- A data connection in memory, wherever it is: with the end, or with its ports; of values of the program.
+-- A data connection in memory, wherever it is: with the end, or with its ports (RFC 959, section 3.2); of values of the program.
 use Rattle.std.specs.Prelude.{◌≡◌, ◌⊎◌, ℕ, ◌+◌, ◌%◌, Bool, true, false, List, [], ◌++◌, Option, None, Some}
 use Rattle.ftp_endpoint.specs.declared.host.Host.{Host}
 use Rattle.ftp_ports.specs.Asking.{Asked}
@@ -12,9 +12,11 @@ use Rattle.ftp_pair_memory.specs.streams.PortTableMoves.{link_state_at, header, 
 use Rattle.ftp_pair_memory.specs.declared.streams.memory_end.MemoryEnd.{MemoryEnd}
 use Rattle.ftp_pair_memory.specs.declared.streams.wire.Wire.{Wire}
 
+-- the octets that are still to be read, as a stream may tell them
 abbrev pub came_of_wire : Wire → Option (List ℕ)
 came_of_wire wire = Some wire.came.items
 
+-- what stands after them, as a stream may tell it
 abbrev pub mark_of_wire : Wire → Option (List ℕ)
 mark_of_wire wire = Some (mark (is_ended wire.closed))
 
@@ -22,6 +24,7 @@ mark_of_wire wire = Some (mark (is_ended wire.closed))
 abbrev pub channel_in : (Wire → Option (List ℕ)) → Data Wire → Channel
 channel_in tells stream_of = channel_at tells tells None stream_of []
 
+-- of a stream that tells nothing
 abbrev pub plain_in : Data Wire → Channel
 plain_in stream_of = channel_in (λ wire. None) stream_of
 
@@ -29,27 +32,33 @@ plain_in stream_of = channel_in (λ wire. None) stream_of
 abbrev pub told_channel : MemoryEnd → Channel
 told_channel memory_end = channel_at left_in went_in (Some (asked_of memory_end.memory_ports.port_table)) memory_end.stream []
 
+-- the octets that are told, if any are
 abbrev pub octets_of : Option (List ℕ) → List ℕ
 octets_of None = []
 octets_of (Some octets) = octets
 
+-- those that a stream tells
 abbrev pub told_in : (Wire → Option (List ℕ)) → Data Wire → List ℕ
 told_in tells stream_of = octets_of (channel_in tells stream_of).left
 
+-- the first where it is so, else the second
 abbrev pub of_two : {A : Type 0} → Bool → A → A → A
 of_two true here there = here
 of_two false here there = there
 
--- what is still to be read, and what was written and not brought on yet
+-- what is still to be read
 abbrev pub came_at : MemoryEnd → List ℕ
 came_at memory_end = of_two (plain_in memory_end.stream).stands (told_in came_of_wire memory_end.stream) memory_end.memory_ports.port_table.wire.came.items
 
+-- and what was written and not brought on yet
 abbrev pub went_at : MemoryEnd → List ℕ
 went_at memory_end = of_two (plain_in memory_end.stream).stands (told_in went_in memory_end.stream) memory_end.memory_ports.port_table.wire.went.items
 
+-- how the end stands to it, by its stream or by its ports
 abbrev pub held_by : MemoryEnd → Hold
 held_by memory_end = of_two (plain_in memory_end.stream).stands (hold_by (plain_in memory_end.stream).fate) (hold_at memory_end.memory_ports.port_table.stay)
 
+-- all of that, as one link state
 abbrev pub link_state_of : MemoryEnd → LinkState
 link_state_of memory_end = record {
   hold = held_by memory_end;
@@ -66,6 +75,7 @@ link_state_of memory_end = record {
 abbrev pub no_link_state : Host → LinkState
 no_link_state host = record { hold = Has_not; came = []; went = []; ended = false; calls = None; dialled = false; listens = 0; host = host }
 
+-- an end as a session begins
 pub record IsFresh (host : Host) (memory_end : MemoryEnd) : Type 0 where
   pub link_state : link_state_of memory_end ≡ no_link_state host
   pub channel : plain_in memory_end.stream ≡ no_channel None
@@ -83,13 +93,14 @@ pub record IsSameButOctets (old new : MemoryEnd) : Type 0 where
   pub listens : new.memory_ports.port_table.listens ≡ old.memory_ports.port_table.listens
   pub host : new.memory_ports.port_table.host ≡ old.memory_ports.port_table.host
 
--- this is it, and it is taken; and this one is put there
+-- this is it, and it is taken
 pub record Lifts (wire : Wire) (old new : MemoryEnd) : Type 0 where
   pub agrees : KnowsHolder old
   pub came : wire.came.items ≡ came_at old
   pub went : wire.went.items ≡ went_at old
   pub still : IsSameButOctets old new
 
+-- this one is put there
 pub record LowersWire (wire : Wire) (old new : MemoryEnd) : Type 0 where
   pub came : came_at new ≡ wire.came.items
   pub went : went_at new ≡ wire.went.items
@@ -126,11 +137,12 @@ pub record IsPrepared (own_now peer_now : MemoryEnd) : Type 0 where
   pub agrees : KnowsHolder own_now
   pub mark : (plain_in own_now.stream).stands ≡ true → told_in mark_of_wire own_now.stream ≡ mark (link_state_of own_now).ended
   pub asked : asked_of own_now.memory_ports.port_table
-      ≡ header (link_state_at own_now.memory_ports.port_table.stay own_now.memory_ports.port_table.wire own_now.memory_ports.port_table.calls false own_now.memory_ports.port_table.listens
-      own_now.memory_ports.port_table.host)
+      ≡ header (link_state_at own_now.memory_ports.port_table.stay own_now.memory_ports.port_table.wire own_now.memory_ports.port_table.calls false
+      own_now.memory_ports.port_table.listens own_now.memory_ports.port_table.host)
   pub known : own_now.memory_ports.port_table.spoiled ≡ false
   pub knows : Knows (link_state_of own_now) (link_state_of peer_now)
 
+-- octets are brought on, and the turn of the end can begin; it counts the ports of both from now on
 pub record Prepares (own peer own_now peer_now : MemoryEnd) : Type 0 where
   pub own_hold : (link_state_of own_now).hold ≡ (link_state_of own).hold
   pub peer_hold : (link_state_of peer_now).hold ≡ (link_state_of peer).hold

@@ -14,6 +14,7 @@ CanGo who touch old new = Can who touch old new ⊎ ((touch ≡ ToldBreak) × Is
 
 -- actions of one end, the last one first
 module _ {end : Machine} where
+  -- from here to there, one after another
   abbrev pub WentAlone : Who → List (Action (side_of end)) → (first now : Between) → Type 0
   WentAlone who [] first now = now ≡ first
   WentAlone who (action ∷ before) first now = (mid : Between) × WentAlone who before first mid × CanGo who (touch_in action) mid now
@@ -23,6 +24,7 @@ abbrev pub CanTake : Turn → (old new : Between) → Type 0
 CanTake (Server action) old new = CanGo Far (touch_in action) old new
 CanTake (Client action) old new = CanGo Near (touch_in action) old new
 
+-- so from here to there
 abbrev pub Went : List Turn → (first now : Between) → Type 0
 Went [] first now = now ≡ first
 Went (turn ∷ before) first now = (mid : Between) × Went before first mid × CanTake turn mid now
@@ -36,6 +38,7 @@ CountsPorts touch old new = new ≡ old
 
 -- actions of one end
 module _ {end : Machine} where
+  -- from so many to so many, one after another
   abbrev pub CountedAlone : List (Action (side_of end)) → (first now : ℕ) → Type 0
   CountedAlone [] first now = now ≡ first
   CountedAlone (action ∷ before) first now = (mid : ℕ) × CountedAlone before first mid × CountsPorts (touch_in action) mid now
@@ -45,6 +48,7 @@ abbrev pub CountsIn : Turn → (old new : ℕ) → Type 0
 CountsIn (Server action) old new = CountsPorts (touch_in action) old new
 CountsIn (Client action) old new = CountsPorts (touch_in action) old new
 
+-- so from so many to so many
 abbrev pub Counted : List Turn → (first now : ℕ) → Type 0
 Counted [] first now = now ≡ first
 Counted (turn ∷ before) first now = (mid : ℕ) × Counted before first mid × CountsIn turn mid now
@@ -58,6 +62,7 @@ ComesFrom other touch = ⊤
 
 -- actions of one end
 module _ {end : Machine} where
+  -- who came in each is this host
   abbrev pub CameAlone : (other : Host) → List (Action (side_of end)) → Type 0
   CameAlone other [] = ⊤
   CameAlone other (action ∷ before) = CameAlone other before × ComesFrom other (touch_in action)

@@ -16,11 +16,13 @@ use Rattle.ftp_pair_memory.specs.declared.streams.wire.Closed.{Closed}
 use Rattle.ftp_pair_memory.specs.declared.streams.wire.Closed.TheVariants as Closes
 use Rattle.ftp_pair_memory.specs.declared.streams.wire.Wire.{Wire}
 
+-- whether the other end ended it
 abbrev pub is_ended : Closed → Bool
 is_ended Closes.No = false
 is_ended Closes.Ended = true
 is_ended Closes.Reset = false
 
+-- how the end stands to it, in the words of `Between`
 abbrev pub hold_at : Stay → Hold
 hold_at Stays.Free = Has_not
 hold_at (Stays.Awaits port) = Awaits port
@@ -29,6 +31,7 @@ hold_at Stays.Out = Has
 hold_at Stays.Ended = Has_ended
 hold_at Stays.Reset = Has_lost
 
+-- whether the end has it
 abbrev pub is_out : Stay → Bool
 is_out Stays.Out = true
 is_out other = false
@@ -64,14 +67,17 @@ is_reached Has calls = false
 is_reached hold (Some port) = true
 is_reached hold None = false
 
+-- the end has none
 abbrev pub is_free_hold : Hold → Bool
 is_free_hold Has = false
 is_free_hold hold = true
 
+-- it was dialled where the end listens
 abbrev pub is_dialled : Hold → Bool
 is_dialled Is_called = true
 is_dialled hold = false
 
+-- this link state, if it could be so
 abbrev pub where_so : Bool → LinkState → Option LinkState
 where_so true link_state = Some link_state
 where_so false link_state = None
@@ -84,10 +90,13 @@ moved (Events.Came host) wire link_state = where_so (is_dialled link_state.hold)
 moved Events.NotCame wire link_state = Some link_state
 moved (Events.Connected endpoint) wire link_state = where_so (is_reached link_state.hold link_state.calls) (dialling link_state)
 moved (Events.NotConnected endpoint) wire link_state = Some link_state
-moved Events.Ended wire link_state = where_so (is_back link_state.hold link_state.ended (is_ended wire.closed)) (left_so Has_ended wire.came.items wire.went.items link_state)
-moved Events.Reset wire link_state = where_so (is_back link_state.hold link_state.ended (is_ended wire.closed)) (left_so Has_lost wire.came.items wire.went.items link_state)
+moved Events.Ended wire link_state =
+    where_so (is_back link_state.hold link_state.ended (is_ended wire.closed)) (left_so Has_ended wire.came.items wire.went.items link_state)
+moved Events.Reset wire link_state =
+    where_so (is_back link_state.hold link_state.ended (is_ended wire.closed)) (left_so Has_lost wire.came.items wire.went.items link_state)
 moved Events.Shut wire link_state = Some link_state
 
+-- the same where the link state before is known
 abbrev pub moved_where_known : Event → Wire → Option LinkState → Option LinkState
 moved_where_known event wire None = None
 moved_where_known event wire (Some link_state) = moved event wire link_state
@@ -100,10 +109,11 @@ MovesNothing (Events.NotConnected endpoint) = ⊤
 MovesNothing Events.Shut = ⊤
 MovesNothing event = ⊥
 
--- what is left to be read of one, and what was written to it
+-- the octets that are left to be read of one, and its mark
 abbrev pub left_in : Wire → Option (List ℕ)
 left_in wire = Some (wire.came.items ++ mark (is_ended wire.closed))
 
+-- the octets that were written to it
 abbrev pub went_in : Wire → Option (List ℕ)
 went_in wire = Some wire.went.items
 
@@ -129,7 +139,7 @@ told Events.Shut wire link_state = asking.Shut
 
 -- ---- since a turn began
 
--- a list from which it can be told how a link state was found: what ports tell begins with it
+-- how the end stood to it when the turn began, as a request that tells so
 abbrev pub shown_hold : Hold → Asked
 shown_hold Has_not = asking.Shut
 shown_hold (Awaits port) = asking.Listened (Some port)
@@ -138,10 +148,12 @@ shown_hold Has = asking.Lost
 shown_hold Has_ended = asking.Ended None None
 shown_hold Has_lost = asking.Reset None None
 
+-- whether its other end had ended it
 abbrev pub shown_end : (ended : Bool) → Asked
 shown_end true = asking.Shut
 shown_end false = asking.Lost
 
+-- what ports tell first of a turn
 abbrev pub header : LinkState → List Asked
 header link_state =
     asking.Ended (Some link_state.came) (Some link_state.went) ∷ asking.Listened link_state.calls ∷ shown_hold link_state.hold ∷ shown_end link_state.ended
@@ -152,17 +164,21 @@ pub record Noted : Type 0 where
   pub link_state : Option LinkState
   pub asked : List Asked
 
+-- as the turn found it
 abbrev pub noted_first : List (Found × Wire) → Noted
 noted_first [] = record { link_state = None; asked = [] }
 noted_first (found ∷ more) = record { link_state = Some (link_found_at found); asked = header (link_found_at found) }
 
+-- with one request more
 abbrev pub noted_next : Noted → Event × Wire → Noted
 noted_next noted next = record { link_state = moved_where_known next.0 next.1 noted.link_state; asked = told next.0 next.1 noted.link_state ∷ noted.asked }
 
+-- with more, one after another
 abbrev pub noted_on : Noted → List (Event × Wire) → Noted
 noted_on noted [] = noted
 noted_on noted (next ∷ more) = noted_on (noted_next noted next) more
 
+-- all since the turn began
 abbrev pub noted_in : List (Found × Wire) → List (Event × Wire) → Noted
 noted_in found log = noted_on (noted_first found) log
 

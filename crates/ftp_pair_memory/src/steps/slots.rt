@@ -9,19 +9,19 @@ use std::alloc::Global;
 
 /// A control connection in memory: the octets that were written to either end and are still to be read there, in order.
 #[derive(Drop)]
-pub struct Line {
+pub struct MemoryControl {
     pub(crate) to_server: Vec<u8>,
     pub(crate) to_client: Vec<u8>,
 }
 
-impl Line {
+impl MemoryControl {
     /// One over which nothing was written.
-    pub fn new(alloc: Global) -> Line
+    pub fn new(alloc: Global) -> MemoryControl
         // Witness: nothing is to be read: `sessions_are_the_direct_run`.
         ensures server { result.to_server.items ≡ [] }
         ensures client { result.to_client.items ≡ [] }
     {
-        Line {
+        MemoryControl {
             to_server: Vec::new(alloc),
             to_client: Vec::new(alloc),
         }
@@ -43,12 +43,14 @@ pub struct Slot<E> {
 }
 
 impl<E> Slot<E> {
-    /// An end, as a session begins with this host at the other end: each read or write of a data connection moves at most so many octets, of none one.
+    /// An end, as a session begins with this host at the other end: each read or write of a data connection moves at most `most` octets, of 0 one.
     pub fn new(end: E, alloc: Global, peer: Host, most: usize) -> Slot<E>
         // Witness: an equation; nothing came or went, and no port was told, and this host is at the other end: `nothing`, `listens` and `peer` of
         // `SessionBy`.
         ensures end { result.end ≡ end }
         ensures fresh { IsFresh peer result.memory_end }
+        // Witness of most: `edits/a_session_moves_one_octet_at_a_time`.
+        ensures most { result.memory_end.memory_ports.port_table.wire.most ≡ most }
     {
         Slot {
             end,

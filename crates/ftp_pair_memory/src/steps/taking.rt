@@ -5,7 +5,7 @@ ghost use Rattle.ftp_pair_memory.specs.steps.Stopping.{AsksUnanswered, FarGoes, 
 ghost use Rattle.ftp_pair_memory.specs.steps.Taking.{AsksAnswered, Begins, FarTurns, NearTurns, Rounds, SettlesAnswer};
 ghost use Rattle.ftp_server_driver.specs.alone.Side.{timed};
 
-use crate::steps::slots::{Line, Slot};
+use crate::steps::slots::{MemoryControl, Slot};
 use crate::steps::turn_ending::{Course, Stop};
 use crate::steps::turns::{far_turn, near_turn};
 use crate::streams::{MemoryPorts, Wire, meet};
@@ -25,7 +25,7 @@ const SILENT_ROUNDS: u64 = 8;
 fn client_turn<A, T, N, F, C, O>(
     client: &mut Slot<N>,
     server: &mut Slot<Clocked<F, C, O>>,
-    line: &mut Line,
+    control: &mut MemoryControl,
     most: usize,
 ) -> Course<Answer<A>>
 where
@@ -35,21 +35,25 @@ where
     F: Far<A, T>,
     C: Watch,
     O: Watches<F>,
-    ensures took { NearTurns result (both_ends_of (timed F.server C.told) N.client client.old server.old line.old) (both_ends_of (timed F.server C.told) N.client client.new server.new line.new) }
-    ensures turned { NearGoes result (pair_of (timed F.server C.told) N.client client.old server.old line.old) (pair_of (timed F.server C.told) N.client client.new server.new line.new) }
+    ensures took { NearTurns result
+        (both_ends_of (timed F.server C.told) N.client client.old server.old control.old)
+        (both_ends_of (timed F.server C.told) N.client client.new server.new control.new) }
+    ensures turned { NearGoes result
+        (pair_of (timed F.server C.told) N.client client.old server.old control.old)
+        (pair_of (timed F.server C.told) N.client client.new server.new control.new) }
 {
     if !meet(&mut client.memory_end, &mut server.memory_end) {
         return Course::Off(Stop::Unmet);
     }
     client
         .memory_end
-        .tell(most > 0 && !line.to_client.is_empty());
+        .tell(most > 0 && !control.to_client.is_empty());
     let course = near_turn::<A, N, MemoryPorts, Wire>(
         &mut client.end,
         &mut client.memory_end.memory_ports,
         &mut client.memory_end.stream,
-        &mut line.to_client,
-        &mut line.to_server,
+        &mut control.to_client,
+        &mut control.to_server,
         most,
     );
     if client.memory_end.is_known() {
@@ -63,7 +67,7 @@ where
 fn server_turn<A, T, N, F, C, O>(
     client: &mut Slot<N>,
     server: &mut Slot<Clocked<F, C, O>>,
-    line: &mut Line,
+    control: &mut MemoryControl,
     most: usize,
 ) -> Course<()>
 where
@@ -73,21 +77,25 @@ where
     F: Far<A, T>,
     C: Watch,
     O: Watches<F>,
-    ensures took { FarTurns result (both_ends_of (timed F.server C.told) N.client client.old server.old line.old) (both_ends_of (timed F.server C.told) N.client client.new server.new line.new) }
-    ensures turned { FarGoes result (pair_of (timed F.server C.told) N.client client.old server.old line.old) (pair_of (timed F.server C.told) N.client client.new server.new line.new) }
+    ensures took { FarTurns result
+        (both_ends_of (timed F.server C.told) N.client client.old server.old control.old)
+        (both_ends_of (timed F.server C.told) N.client client.new server.new control.new) }
+    ensures turned { FarGoes result
+        (pair_of (timed F.server C.told) N.client client.old server.old control.old)
+        (pair_of (timed F.server C.told) N.client client.new server.new control.new) }
 {
     if !meet(&mut server.memory_end, &mut client.memory_end) {
         return Course::Off(Stop::Unmet);
     }
     server
         .memory_end
-        .tell(most > 0 && !line.to_server.is_empty());
+        .tell(most > 0 && !control.to_server.is_empty());
     let course = far_turn::<A, T, F, C, O, MemoryPorts, Wire>(
         &mut server.end,
         &mut server.memory_end.memory_ports,
         &mut server.memory_end.stream,
-        &mut line.to_server,
-        &mut line.to_client,
+        &mut control.to_server,
+        &mut control.to_client,
         most,
     );
     if server.memory_end.is_known() {
@@ -101,7 +109,7 @@ where
 fn round<A, T, N, F, C, O>(
     client: &mut Slot<N>,
     server: &mut Slot<Clocked<F, C, O>>,
-    line: &mut Line,
+    control: &mut MemoryControl,
     most: usize,
 ) -> Course<Answer<A>>
 where
@@ -111,11 +119,15 @@ where
     F: Far<A, T>,
     C: Watch,
     O: Watches<F>,
-    ensures took { Rounds result (both_ends_of (timed F.server C.told) N.client client.old server.old line.old) (both_ends_of (timed F.server C.told) N.client client.new server.new line.new) }
-    ensures turned { RoundGoes result (pair_of (timed F.server C.told) N.client client.old server.old line.old) (pair_of (timed F.server C.told) N.client client.new server.new line.new) }
+    ensures took { Rounds result
+        (both_ends_of (timed F.server C.told) N.client client.old server.old control.old)
+        (both_ends_of (timed F.server C.told) N.client client.new server.new control.new) }
+    ensures turned { RoundGoes result
+        (pair_of (timed F.server C.told) N.client client.old server.old control.old)
+        (pair_of (timed F.server C.told) N.client client.new server.new control.new) }
 {
-    match server_turn::<A, T, N, F, C, O>(client, server, line, most) {
-        Course::On => client_turn::<A, T, N, F, C, O>(client, server, line, most),
+    match server_turn::<A, T, N, F, C, O>(client, server, control, most) {
+        Course::On => client_turn::<A, T, N, F, C, O>(client, server, control, most),
         Course::Over(()) => Course::Off(Stop::Done),
         Course::Off(stop) => Course::Off(stop),
     }
@@ -134,7 +146,7 @@ fn silent_with(silent: u64, is_silent: bool) -> u64
 fn settle<A, T, N, F, C, O>(
     client: &mut Slot<N>,
     server: &mut Slot<Clocked<F, C, O>>,
-    line: &mut Line,
+    control: &mut MemoryControl,
     most: usize,
 ) -> Option<Answer<A>>
 where
@@ -144,17 +156,21 @@ where
     F: Far<A, T>,
     C: Watch,
     O: Watches<F>,
-    ensures settled { SettlesAnswer result (both_ends_of (timed F.server C.told) N.client client.old server.old line.old) (both_ends_of (timed F.server C.told) N.client client.new server.new line.new) }
-    ensures none { SettlesNot result (pair_of (timed F.server C.told) N.client client.old server.old line.old) (pair_of (timed F.server C.told) N.client client.new server.new line.new) }
+    ensures settled { SettlesAnswer result
+        (both_ends_of (timed F.server C.told) N.client client.old server.old control.old)
+        (both_ends_of (timed F.server C.told) N.client client.new server.new control.new) }
+    ensures none { SettlesNot result
+        (pair_of (timed F.server C.told) N.client client.old server.old control.old)
+        (pair_of (timed F.server C.told) N.client client.new server.new control.new) }
 {
     let mut silent: u64 = 0;
     for made in 0..TURNS {
-        match round::<A, T, N, F, C, O>(client, server, line, most) {
+        match round::<A, T, N, F, C, O>(client, server, control, most) {
             Course::On => {
                 if silent >= SILENT_ROUNDS {
                     return None;
                 }
-                silent = silent_with(silent, line.is_empty());
+                silent = silent_with(silent, control.is_empty());
             }
             Course::Over(answer) => return Some(answer),
             Course::Off(_) => return None,
@@ -168,7 +184,8 @@ fn begin<A, N>(client: &mut Slot<N>, op: Op<Text<A>>) -> bool
 where
     A: Allocator + Copy,
     N: Near<A>,
-    ensures begun { IsTrue result → Begins op (held_at N.client client.old) (held_at N.client client.new) }
+    ensures begun { IsTrue result
+        → Begins op (held_at N.client client.old) (held_at N.client client.new) }
     ensures same { client.new.memory_end ≡ client.old.memory_end }
     ensures busy { result ≡ false → IsRefused (N.client client.old.end) (N.client client.new.end) }
 {
@@ -184,7 +201,7 @@ pub fn ask<A, T, N, F, C, O>(
     op: Op<Text<A>>,
     client: &mut Slot<N>,
     server: &mut Slot<Clocked<F, C, O>>,
-    line: &mut Line,
+    control: &mut MemoryControl,
     most: usize,
 ) -> Option<Answer<A>>
 where
@@ -196,12 +213,16 @@ where
     O: Watches<F>,
     // Witness: `edits/an_operation_is_answered_that_was_not_begun`, `one_that_broke_off_is_answered`, `octets_that_nobody_heard_are_let_go`,
     // `a_turn_is_not_prepared`; what it leads to: `transfers_asked_are_the_direct_run`.
-    ensures answered { AsksAnswered op result (both_ends_of (timed F.server C.told) N.client client.old server.old line.old) (both_ends_of (timed F.server C.told) N.client client.new server.new line.new) }
+    ensures answered { AsksAnswered op result
+        (both_ends_of (timed F.server C.told) N.client client.old server.old control.old)
+        (both_ends_of (timed F.server C.told) N.client client.new server.new control.new) }
     // Witness: `edits/one_that_was_answered_is_kept_back`, `an_operation_is_given_up_at_once`, `a_round_stops_without_a_reason`.
-    ensures unanswered { AsksUnanswered op result (pair_of (timed F.server C.told) N.client client.old server.old line.old) (pair_of (timed F.server C.told) N.client client.new server.new line.new) }
+    ensures unanswered { AsksUnanswered op result
+        (pair_of (timed F.server C.told) N.client client.old server.old control.old)
+        (pair_of (timed F.server C.told) N.client client.new server.new control.new) }
 {
     if !begin::<A, N>(client, op) {
         return None;
     }
-    settle::<A, T, N, F, C, O>(client, server, line, most)
+    settle::<A, T, N, F, C, O>(client, server, control, most)
 }

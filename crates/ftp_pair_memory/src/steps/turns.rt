@@ -31,7 +31,10 @@ where
     N: Near<A>,
     P: Ports<Stream = S>,
     S: Duplex,
-    ensures { NearTurned result (held (N.client client.old) (channel_at S.remaining S.contents (P.history ports.old) data.old [])) (held (N.client client.new) (channel_at S.remaining S.contents (P.history ports.new) data.new [])) came.old.items came.new.items goes.old.items goes.new.items }
+    ensures { NearTurned result
+        (held (N.client client.old) (channel_at S.remaining S.contents (P.history ports.old) data.old []))
+        (held (N.client client.new) (channel_at S.remaining S.contents (P.history ports.new) data.new []))
+        came.old.items came.new.items goes.old.items goes.new.items }
 {
     let mut control = Control::new(ReadHalf::new(came, most), WriteHalf::new(goes));
     let turned = ftp_client_driver::drive_some::<A, N, ReadHalf<'_>, WriteHalf<'_>, P>(
@@ -62,7 +65,12 @@ where
     O: Watches<F>,
     P: Ports<Stream = S>,
     S: Duplex,
-    ensures { FarTurned result (held (timed F.server C.told clocked.old) (channel_at S.remaining S.contents (P.history ports.old) data.old [])) (held (timed F.server C.told clocked.new) (channel_at S.remaining S.contents (P.history ports.new) data.new [])) came.old.items came.new.items goes.old.items goes.new.items }
+    ensures { FarTurned result
+        (held (timed F.server C.told clocked.old)
+        (channel_at S.remaining S.contents (P.history ports.old) data.old []))
+        (held (timed F.server C.told clocked.new)
+        (channel_at S.remaining S.contents (P.history ports.new) data.new []))
+        came.old.items came.new.items goes.old.items goes.new.items }
 {
     let mut control = Control::new(ReadHalf::new(came, most), WriteHalf::new(goes));
     let turned = ftp_server_driver::drive_some::<A, T, F, ReadHalf<'_>, WriteHalf<'_>, P, C, O>(

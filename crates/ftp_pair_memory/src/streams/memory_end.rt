@@ -8,9 +8,11 @@ use ftp_driver::Data;
 use ftp_endpoint::Host;
 use std::alloc::Global;
 
-/// The ports of an end, and the data connection that the end has, if it has one.
+/// What an end has of data connections.
 pub struct MemoryEnd {
+    /// Its ports, which have the data connection while the end has not.
     pub memory_ports: MemoryPorts,
+    /// Room for the data connection that the end has.
     pub stream: Data<Wire>,
 }
 
@@ -29,10 +31,12 @@ impl Drop for MemoryEnd {
 impl MemoryEnd {
     ghost use Rattle.ftp_pair_memory.specs.streams.MemoryEnds.{IsFresh, IsKnown, IsUnknown, KnowsHolder, Lifts, LowersWire};
 
-    /// There is none, and this host is at the other end; each read or write moves at most so many octets, of none one.
+    /// There is none, and this host is at the other end; each read or write moves at most `most` octets, of 0 one.
     pub fn new(alloc: Global, peer: Host, most: usize) -> MemoryEnd
         // Witness: nothing came or went, and which host is at the other end: `Slot::new` of `ftp_pair_memory`.
-        ensures { IsFresh peer result }
+        ensures fresh { IsFresh peer result }
+        // Witness of most: as of `Slot::new`.
+        ensures most { result.memory_ports.port_table.wire.most ≡ most }
     {
         MemoryEnd {
             memory_ports: MemoryPorts::new(alloc, peer, most),
@@ -76,10 +80,12 @@ impl MemoryEnd {
         }
     }
 
-    /// Octets of the control connection may be read, or none.
+    /// Tells its ports whether octets of the control connection may be read.
     pub fn tell(&mut self, has_come: bool)
         ensures stream { self.new.stream ≡ self.old.stream }
         ensures port_table { self.new.memory_ports.port_table ≡ self.old.memory_ports.port_table }
+        // Witness of heard: `edits/no_octets_are_told`.
+        ensures heard { self.new.memory_ports.has_come ≡ has_come }
     {
         self.memory_ports.tell(has_come);
     }
@@ -113,7 +119,8 @@ impl MemoryEnd {
 
 /// Brings one end of a data connection what was written to the other, as far as memory is had for it.
 fn bring(from: &mut Wire, to: &mut Wire)
-    ensures all { to.new.came.items ++ from.new.went.items ≡ to.old.came.items ++ from.old.went.items }
+    ensures all { to.new.came.items ++ from.new.went.items
+        ≡ to.old.came.items ++ from.old.went.items }
     ensures came { from.new.came.items ≡ from.old.came.items }
     ensures went { to.new.went.items ≡ to.old.went.items }
     ensures closed { from.new.closed ≡ from.old.closed }

@@ -19,6 +19,7 @@ pub struct MemoryPorts {
 impl MemoryPorts {
     ghost use Rattle.std.specs.Prelude.{◌≡◌, [], None, false};
 
+    /// Those of an end that has no data connection, with this host at its other end; a read or a write of one moves at most `most` octets, of 0 one.
     pub(crate) fn new(alloc: Global, peer: Host, most: usize) -> MemoryPorts
         ensures stay { result.port_table.stay ≡ Stay.Free }
         ensures came { result.port_table.wire.came.items ≡ [] }
@@ -28,6 +29,7 @@ impl MemoryPorts {
         ensures undialled { result.port_table.dialled ≡ false }
         ensures listens { result.port_table.listens ≡ 0 }
         ensures host { result.port_table.host ≡ peer }
+        ensures most { result.port_table.wire.most ≡ most }
     {
         MemoryPorts {
             port_table: PortTable::new(alloc, peer, most),
@@ -37,7 +39,8 @@ impl MemoryPorts {
 
     /// Octets of the control connection may be read, or none.
     pub(crate) fn tell(&mut self, has_come: bool)
-        ensures { self.new.port_table ≡ self.old.port_table }
+        ensures port_table { self.new.port_table ≡ self.old.port_table }
+        ensures heard { self.new.has_come ≡ has_come }
     {
         self.has_come = has_come;
     }
@@ -49,7 +52,10 @@ impl MemoryPorts {
 
     /// Tells once that octets of the control connection are there: they are read at once then, as many as may be.
     fn told(&mut self) -> bool
-        ensures { self.new.port_table ≡ self.old.port_table }
+        ensures port_table { self.new.port_table ≡ self.old.port_table }
+        // Witness: `edits/octets_that_came_are_told_twice` (once), `octets_that_did_not_come_are_told` (told).
+        ensures told { result ≡ self.old.has_come }
+        ensures once { self.new.has_come ≡ false }
     {
         std::mem::replace(&mut self.has_come, false)
     }
@@ -112,7 +118,8 @@ impl Ports for MemoryPorts {
     }
 
     fn close(&mut self, stream: Option<Whole<Wire>>)
-        ensures { Closes left_in went_in stream (Some (asked_of self.old.port_table)) (Some (asked_of self.new.port_table)) }
+        ensures { Closes left_in went_in stream
+            (Some (asked_of self.old.port_table)) (Some (asked_of self.new.port_table)) }
     {
         match stream {
             Some(whole) => self.port_table.end(whole.into_stream()),

@@ -2,16 +2,18 @@
 ghost use Rattle.std.specs.Prelude.{◌<◌, ◌≡◌, ◌+◌, ◌%◌, ◌∷◌, [], IfSome, IsTrue, None, Some, false, true};
 ghost use Rattle.ftp_ports.specs.Asking.{Came, Connected, Ended as EndedBy, Listened, NotCame, NotConnected, Reset as ResetBy, Shut};
 ghost use Rattle.laws_world.specs.World.{port_at};
-ghost use Rattle.ftp_pair_memory.specs.streams.PortTableMoves.{MovesNothing, link_state_at, header, hold_at, is_back, is_ended, is_out, is_reached, known_by, left_in, noted_in, told, went_in};
+ghost use Rattle.ftp_pair_memory.specs.streams.PortTableMoves.{is_back, is_ended, is_out, is_reached, hold_at, left_in, went_in};
+ghost use Rattle.ftp_pair_memory.specs.streams.PortTableMoves.{MovesNothing, header, known_by, link_state_at, noted_in, told};
 
 use crate::streams::wire::{Closed, Wire};
 use ftp_endpoint::{Endpoint, Host};
 use http_server::Log;
 use std::alloc::Global;
 
-/// The ports that are listened at, one after another: so many, from this one on, and after the last one the first comes again (RFC 6335, section 6).
+/// How many ports are listened at, one after another; after the last one the first comes again (RFC 6335, section 6).
 const PORTS: u16 = 16_384;
 
+/// The first of them.
 const FIRST_PORT: u16 = 49_152;
 
 /// How an end stands to its data connection, as its ports know.
@@ -25,21 +27,30 @@ pub enum Stay {
     Called,
     /// It has one.
     Out,
-    /// It ended the one that it had, or reset it.
+    /// It ended the one that it had.
     Ended,
+    /// It reset the one that it had.
     Reset,
 }
 
 /// What is asked of ports, and answered.
 #[derive(Clone, Copy)]
 pub enum Event {
+    /// The end listens at this port; at none, since it has a data connection.
     Listened(Option<u16>),
+    /// The end accepted the data connection that was dialled, from this host.
     Came(Host),
+    /// None was dialled that it could accept.
     NotCame,
+    /// The end dialled there, where the other end listens.
     Connected(Endpoint),
+    /// It dialled there, where nobody listens, or while it has a data connection.
     NotConnected(Endpoint),
+    /// It gave its data connection back, ended.
     Ended,
+    /// It gave it back, reset.
     Reset,
+    /// It listens no more.
     Shut,
 }
 
@@ -47,8 +58,11 @@ pub enum Event {
 #[derive(Clone, Copy)]
 pub struct Found {
     pub(crate) stay: Stay,
+    /// The port at which the other end listened, where it did.
     pub(crate) calls: Option<u16>,
+    /// How many ports were listened at by either end.
     pub(crate) listens: u16,
+    /// The host at the other end.
     pub(crate) host: Host,
 }
 
@@ -79,7 +93,7 @@ pub struct PortTable {
 impl PortTable {
     ghost use Rattle.ftp_pair_memory.specs.streams.PortTables.{asked_of};
 
-    /// There is none.
+    /// There is none; a read or a write of one moves at most `most` octets, of 0 one.
     pub(crate) fn new(alloc: Global, host: Host, most: usize) -> PortTable
         ensures stay { result.stay ≡ Stay.Free }
         ensures came { result.wire.came.items ≡ [] }
@@ -89,6 +103,7 @@ impl PortTable {
         ensures undialled { result.dialled ≡ false }
         ensures listens { result.listens ≡ 0 }
         ensures host { result.host ≡ host }
+        ensures most { result.wire.most ≡ most }
     {
         PortTable {
             stay: Stay::Free,
@@ -116,7 +131,8 @@ impl PortTable {
         ensures listens { self.new.listens ≡ (self.old.listens + listens) % 16384 }
         ensures host { self.new.host ≡ self.old.host }
         ensures known { self.new.spoiled ≡ false }
-        ensures asked { asked_of self.new ≡ header (link_state_at self.new.stay self.new.wire calls false self.new.listens self.new.host) }
+        ensures asked { asked_of self.new
+            ≡ header (link_state_at self.new.stay self.new.wire calls false self.new.listens self.new.host) }
     {
         self.forget();
         self.wire.closed = closed;
@@ -224,7 +240,8 @@ impl PortTable {
 
     /// How its end closed one of which this is left.
     pub(crate) fn closing(&self, wire: &Wire) -> Closed
-        ensures { result ≡ Closed.Ended → (self.now.stay ≡ Stay.Ended) × (wire.now.went.items ≡ []) }
+        ensures { result ≡ Closed.Ended
+            → (self.now.stay ≡ Stay.Ended) × (wire.now.went.items ≡ []) }
     {
         if !wire.went.is_empty() {
             return Closed::No;
@@ -267,7 +284,8 @@ impl PortTable {
     /// The one that was dialled.
     #[tactic(auto, using(crate::proofs::streams::Noting::noted_last))]
     pub(crate) fn come(&mut self) -> Option<Wire>
-        ensures some { IfSome result (λ wire. asked_of self.new ≡ Came self.old.host (left_in wire) (went_in wire) ∷ asked_of self.old) }
+        ensures some { IfSome result (λ wire.
+            asked_of self.new ≡ Came self.old.host (left_in wire) (went_in wire) ∷ asked_of self.old) }
         ensures host { self.new.host ≡ self.old.host }
         ensures none { result ≡ None → asked_of self.new ≡ NotCame ∷ asked_of self.old }
     {
@@ -285,8 +303,10 @@ impl PortTable {
     /// Dials, where the other end listens there and this end has no data connection.
     #[tactic(auto, using(crate::proofs::streams::Noting::noted_last))]
     pub(crate) fn dial(&mut self, endpoint: Endpoint) -> Option<Wire>
-        ensures some { IfSome result (λ wire. asked_of self.new ≡ Connected endpoint (left_in wire) (went_in wire) ∷ asked_of self.old) }
-        ensures none { result ≡ None → asked_of self.new ≡ NotConnected endpoint ∷ asked_of self.old }
+        ensures some { IfSome result (λ wire.
+            asked_of self.new ≡ Connected endpoint (left_in wire) (went_in wire) ∷ asked_of self.old) }
+        ensures none { result ≡ None
+            → asked_of self.new ≡ NotConnected endpoint ∷ asked_of self.old }
     {
         if !self.reaches(endpoint.port) {
             self.note(Event::NotConnected(endpoint));
@@ -335,7 +355,8 @@ impl PortTable {
 
     /// Whether it can be the one that the end had.
     pub(crate) fn is_its_own(&self, wire: &Wire) -> bool
-        ensures { result ≡ is_back (hold_at self.now.stay) (is_ended self.now.wire.closed) (is_ended wire.now.closed) }
+        ensures { result
+            ≡ is_back (hold_at self.now.stay) (is_ended self.now.wire.closed) (is_ended wire.now.closed) }
     {
         self.stay == Stay::Out
             && (self.wire.closed == Closed::Ended) == (wire.closed == Closed::Ended)

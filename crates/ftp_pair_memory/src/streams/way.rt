@@ -13,6 +13,7 @@ pub struct ReadHalf<'w> {
 }
 
 impl<'w> ReadHalf<'w> {
+    /// Reads from a way that is lent, at most `most` octets in all.
     pub fn new(way: &'w mut Vec<u8>, most: usize) -> ReadHalf<'w>
         // Witness: equations; reads and writes: `edits/octets_that_were_read_are_read_again`, `more_is_written_than_was_taken`.
         ensures same { result.way.ghost_name ≡ way.entry.ghost_name }
@@ -57,6 +58,7 @@ pub struct WriteHalf<'w> {
 }
 
 impl<'w> WriteHalf<'w> {
+    /// Writes behind what a way has, which is lent.
     pub fn new(way: &'w mut Vec<u8>) -> WriteHalf<'w>
         // Witness: as of `new`.
         ensures same { result.way.ghost_name ≡ way.entry.ghost_name }

@@ -10,8 +10,11 @@ use std::io::{Error, ErrorKind, Read, Write};
 /// Whether the other end closed it, and how.
 #[derive(Clone, Copy, PartialEq, Eq)]
 pub enum Closed {
+    /// It did not.
     No,
+    /// It ended it: after the octets that came there is an end.
     Ended,
+    /// It reset it: after them a read fails.
     Reset,
 }
 
@@ -29,13 +32,14 @@ pub struct Wire {
 }
 
 impl Wire {
-    ghost use Rattle.std.specs.Prelude.{◌≡◌, []};
+    ghost use Rattle.std.specs.Prelude.{◌≡◌, [], max, min};
 
-    /// One over which nothing came or went.
+    /// One over which nothing came or went; a read or a write moves at most `most` octets, of 0 one.
     pub(crate) fn new(alloc: Global, closed: Closed, most: usize) -> Wire
         ensures came { result.came.items ≡ [] }
         ensures went { result.went.items ≡ [] }
         ensures closed { result.closed ≡ closed }
+        ensures most { result.most ≡ most }
     {
         Wire {
             came: Vec::new(alloc),
@@ -43,6 +47,14 @@ impl Wire {
             closed,
             most,
         }
+    }
+
+    /// How many of so many octets one read or one write moves.
+    fn within_most(&self, count: usize) -> usize
+        // Witness: an equation; `edits/a_read_takes_all_that_came`.
+        ensures { result ≡ min count (max 1 self.now.most) }
+    {
+        count.min(self.most.max(1))
     }
 
     /// Whether a read would not wait.
@@ -85,13 +97,13 @@ impl Duplex for Wire {
                 Closed::No => Err(Error::from(ErrorKind::WouldBlock)),
             };
         }
-        let count = self.came.len().min(self.most.max(1)).min(room.len());
+        let count = self.within_most(self.came.len()).min(room.len());
         take_front(&mut self.came, room, count);
         Ok(count)
     }
 
     fn send(&mut self, octets: &[u8]) -> io::Result<usize> {
-        let count = octets.len().min(self.most.max(1));
+        let count = self.within_most(octets.len());
         match self.went.extend_from_slice(&octets[..count]) {
             Ok(()) => Ok(count),
             Err(_) => Err(Error::from(ErrorKind::OutOfMemory)),

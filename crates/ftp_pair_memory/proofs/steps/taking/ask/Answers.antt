@@ -9,7 +9,7 @@ use Rattle.ftp_pair_memory.proofs.steps.taking.ask.Goals as goal
 pub returns-clause-answered : goal.returns-clause-answered
 returns-clause-answered g c =
     let server = c.args.server.now.memory_end in
-    asks_from (λ m. between_both Near m server (ways_of c.args.line.now)) (λ m. listens_of (link_state_of m) (link_state_of server))
+    asks_from (λ m. between_both Near m server (ways_of c.args.control.now)) (λ m. listens_of (link_state_of m) (link_state_of server))
     (λ m. record { near = (link_state_of m).host; far = (link_state_of server).host }) c.args.op c.settle.result _ _ _ _ _ _ c.begin.ensures.same
     (c.begin.ensures.begun (search rules)) c.settle.ensures.settled
 

@@ -11,7 +11,7 @@ invariant-loop-made g l =
     let far = timed {O = g.row.O.Denot} g.F.Far.server g.C.Watch.told in
     let near = g.N.Near.client in
     record {
-      took : Took (both_ends_of far near l.fn.client l.fn.server l.fn.line) (both_ends_of far near l.client l.server l.line);
-      going : Going l.silent l.made (pair_of far near l.fn.client l.fn.server l.fn.line) (pair_of far near l.client l.server l.line);
+      took : Took (both_ends_of far near l.fn.client l.fn.server l.fn.control) (both_ends_of far near l.client l.server l.control);
+      going : Going l.silent l.made (pair_of far near l.fn.client l.fn.server l.fn.control) (pair_of far near l.client l.server l.control);
       few : l.silent ≤ 8;
     }
