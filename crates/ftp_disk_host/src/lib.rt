@@ -1,12 +1,12 @@
 //! What a tree of a disk asks of a system, and the folder of a system that gives it, by `std::fs` and directories
-//! that are open: written beside and moved, flushed, and no link followed
-//! (own choice).
+//! that are open: written beside and moved, flushed, and no link followed (own choice).
 #![tactic(auto)]
 
 mod copying;
 mod folder;
 mod front;
 mod host;
+mod installing;
 mod left;
 mod listing;
 mod moment;
