@@ -1,11 +1,12 @@
-//! The scan of a folder into nodes, at the start or later.
+//! The scan of a folder into nodes: of all of it at the start (`load`), and later of what others changed, which `look_at`
+//! finds and `take_up` takes in (own choice). No IO of its own: a `Host` is asked. No file is opened.
 #![tactic(auto)]
 
 pub mod loading;
 pub mod rescan;
 
 pub use loading::{
-    Changes, Compared, Dirs, Findings, Had, Held, Here, LeftOut, LoadFault, Odd, Reason, Roots,
-    Seen, Thing, Unknown, Version, above, below_of, load, served, sorted, take_up,
+    Compared, Dirs, Findings, Held, LeftOut, LoadFault, Loaded, Odd, Reason, Unknown, Version,
+    above, below_of, load, take_up,
 };
 pub use rescan::look_at;

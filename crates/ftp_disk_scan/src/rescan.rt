@@ -3,8 +3,8 @@
 
 mod beside;
 mod finding;
-mod looking;
+mod way;
 mod within;
 
 pub(crate) use finding::Finding;
-pub use looking::look_at;
+pub use way::look_at;

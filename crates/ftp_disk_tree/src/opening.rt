@@ -4,7 +4,7 @@ ghost use Rattle.ftp_tree.specs.Change.{never_strayed};
 
 use crate::disk::{DiskTree, Others};
 use ftp_disk_host::Host;
-use ftp_disk_scan::{Held, LeftOut, LoadFault, Odd, load};
+use ftp_disk_scan::{Held, LeftOut, LoadFault, Loaded, Odd, load};
 use ftp_path::Path;
 use ftp_tree::Limits;
 use std::alloc::Global;
@@ -21,6 +21,11 @@ pub fn open<'a, H: Host, K: Held>(
     ensures limits { IfOk result (λ opened. opened.0.nodes.limits ≡ limits) }
     ensures device { IfOk result (λ opened. opened.0.device ≡ never_strayed 0) }
 {
-    let (nodes, dirs, version, left) = load(host, roots, limits, odd)?;
-    Ok((DiskTree::over(host, nodes, dirs, others, version), left))
+    let Loaded {
+        nodes,
+        dirs,
+        version,
+        left_out,
+    } = load(host, roots, limits, odd)?;
+    Ok((DiskTree::over(host, nodes, dirs, others, version), left_out))
 }

@@ -1,4 +1,4 @@
--- What a look compared: what stood at places of the disk, and what the tree had there.
+-- What a look compared (own choice): what stood at places of the disk, and what the tree had there.
 use Rattle.std.specs.Prelude.{◌≡◌, ℕ, Bool, true, false, Option, Some, None, List, length, ◌&&◌, ◌==◌}
 use Rattle.std.specs.List.{list_all}
 use Rattle.std.proofs.Common.{int_eq}
@@ -11,12 +11,15 @@ use Rattle.ftp_disk_host.specs.declared.host.Stamp.{Stamp}
 use Rattle.ftp_disk_scan.specs.declared.loading.had.Had.{Had}
 use Rattle.ftp_disk_scan.specs.declared.loading.had.Had.TheVariants as Hads
 
+-- what was found at a place, and what the tree had there
 abbrev pub Pair : Type 0
 Pair = Found × Had
 
+-- both as one value
 abbrev pub pair_of : Found → Had → Pair
 pair_of found there = (found, there)
 
+-- the same time of a system
 abbrev pub same_stamp : Stamp → Stamp → Bool
 same_stamp one other = int_eq one.seconds other.seconds && int_eq one.nanos other.nanos
 

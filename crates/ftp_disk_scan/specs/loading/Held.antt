@@ -1,4 +1,4 @@
--- What is held of a version of a file, as a tree of a disk sees it.
+-- What is held of a version of a file, as a tree of a disk sees it (own choice).
 use Rattle.std.specs.Prelude.{ℕ, List, ◌++◌, take, replicate}
 
 -- so many octets of those that are held, and zeros where fewer are

@@ -1,4 +1,4 @@
--- Where a path of a tree lies on a disk: below its folder, since no name of a path is `.` or `..` or has a `/`.
+-- Where a path of a tree lies on a disk (own choice): below its folder, since no name of a path is `.` or `..` or has a `/`.
 use Rattle.std.specs.Prelude.{◌≡◌, ℕ, List, IsTrue}
 use Rattle.std.specs.List.{list_all}
 use Rattle.ftp_path.specs.Path.{Names, is_component, joined}

@@ -1,4 +1,4 @@
--- How what stands on a disk differs from what a tree has.
+-- How what stands on a disk differs from what a tree has (own choice).
 use Rattle.std.specs.Prelude.{Bool, true, false}
 use Rattle.ftp_disk_scan.specs.declared.rescan.finding.Finding.{Finding}
 use Rattle.ftp_disk_scan.specs.declared.rescan.finding.Finding.TheVariants.{Nothing, SameFile, SameDir, Odd}

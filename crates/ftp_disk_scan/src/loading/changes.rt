@@ -1,5 +1,5 @@
 // What others changed on a disk, as a look found it and as it is taken up.
-ghost use Rattle.std.specs.Prelude.{◌≡◌, ◌∷◌, true, false, OnErr, OnOk, length};
+ghost use Rattle.std.specs.Prelude.{◌≡◌, ◌∷◌, [], true, false, OnErr, OnOk, length};
 ghost use Rattle.ftp_disk_scan.specs.loading.Compared.{agrees, all_agree, are_none, pair_of};
 
 use crate::loading::compared::Compared;
@@ -34,9 +34,11 @@ impl Drop for Stands {
 pub struct Changes {
     /// What the tree has and the disk has not, or not of this kind.
     pub(crate) gone: Vec<String<Global>, Global>,
+    /// Files that have no more octets than before.
     pub(crate) shorter: Vec<Stands, Global>,
     /// Longer files, and what the tree has not.
     pub(crate) more: Vec<Stands, Global>,
+    /// All that was held against the tree.
     pub(crate) compared: Compared,
     ghost told: { all_agree compared.pairs ≡ are_none (length gone.items) (length shorter.items) (length more.items) },
 }
@@ -55,7 +57,9 @@ impl Drop for Changes {
 
 impl Changes {
     /// None yet.
-    pub fn none(alloc: Global) -> Changes {
+    pub fn none(alloc: Global) -> Changes
+        ensures { result.compared.pairs ≡ [] }
+    {
         Changes {
             gone: Vec::new(alloc),
             shorter: Vec::new(alloc),
@@ -89,7 +93,8 @@ impl Changes {
         had: Had,
     ) -> Result<(), AllocError>
         requires { agrees found had ≡ false }
-        ensures { OnOk result (self.new.compared.pairs ≡ pair_of found had ∷ self.old.compared.pairs) }
+        ensures { OnOk result
+            (self.new.compared.pairs ≡ pair_of found had ∷ self.old.compared.pairs) }
     {
         let place = String::from_str(alloc, place)?;
         self.gone.push(place)?;
@@ -107,7 +112,8 @@ impl Changes {
         had: Had,
     ) -> Result<(), AllocError>
         requires { agrees found had ≡ false }
-        ensures { OnOk result (self.new.compared.pairs ≡ pair_of found had ∷ self.old.compared.pairs) }
+        ensures { OnOk result
+            (self.new.compared.pairs ≡ pair_of found had ∷ self.old.compared.pairs) }
     {
         let place = String::from_str(alloc, place)?;
         let thing = Thing::File(look);
@@ -126,7 +132,8 @@ impl Changes {
         had: Had,
     ) -> Result<(), AllocError>
         requires { agrees found had ≡ false }
-        ensures { OnOk result (self.new.compared.pairs ≡ pair_of found had ∷ self.old.compared.pairs) }
+        ensures { OnOk result
+            (self.new.compared.pairs ≡ pair_of found had ∷ self.old.compared.pairs) }
     {
         let place = String::from_str(alloc, place)?;
         self.more.push(Stands { place, thing })?;
@@ -144,7 +151,8 @@ impl Changes {
         had: Had,
     ) -> Result<(), AllocError>
         requires { agrees found had ≡ false }
-        ensures { OnOk result (self.new.compared.pairs ≡ pair_of found had ∷ self.old.compared.pairs) }
+        ensures { OnOk result
+            (self.new.compared.pairs ≡ pair_of found had ∷ self.old.compared.pairs) }
     {
         let gone = String::from_str(alloc, place)?;
         let place = String::from_str(alloc, place)?;
@@ -179,13 +187,15 @@ impl Drop for Findings {
 }
 
 impl Findings {
-    /// What was found at a place.
+    /// What was found at a place: `listed` where the names of a directory were listed, `why` where what was asked for can't be served.
     pub fn new(
         asked: String<Global>,
         changes: Changes,
         listed: Option<Seen>,
         why: Option<Reason>,
-    ) -> Findings {
+    ) -> Findings
+        ensures { result.changes ≡ changes }
+    {
         Findings {
             asked,
             changes,

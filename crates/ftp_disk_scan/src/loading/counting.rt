@@ -8,39 +8,40 @@ use std::alloc::Global;
 
 /// How many files and directories stand below a root and below no other root there, and how many octets those files have.
 #[derive(Clone, Copy)]
-pub(crate) struct Own {
+pub(crate) struct RootCount {
     nodes: u64,
     octets: u64,
 }
 
-impl Own {
+impl RootCount {
     /// What stands below a root now.
     pub(crate) fn of<K: Held>(
         nodes: &Nodes<Global, Version<K>>,
         roots: &Roots,
         root: &Path<Global>,
-    ) -> Own {
-        let mut own = Own::all(nodes.count_below(root));
+    ) -> RootCount {
+        let mut count = RootCount::all(nodes.count_below(root));
         for other in roots.others() {
             if roots.is_next(root, other) {
-                own = own.without(Own::all(nodes.count_below(other)));
+                count = count.without(RootCount::all(nodes.count_below(other)));
             }
         }
-        own
+        count
     }
 
     /// All that is counted, but the root itself.
-    fn all(count: Count) -> Own {
-        Own {
+    fn all(count: Count) -> RootCount {
+        RootCount {
             nodes: count.nodes.saturating_sub(1),
             octets: u64::try_from(count.octets).unwrap_or(u64::MAX),
         }
     }
 
-    fn without(self, part: Own) -> Own {
-        Own {
-            nodes: self.nodes.saturating_sub(part.nodes),
-            octets: self.octets.saturating_sub(part.octets),
+    /// Without another, that is counted in it.
+    fn without(self, other: RootCount) -> RootCount {
+        RootCount {
+            nodes: self.nodes.saturating_sub(other.nodes),
+            octets: self.octets.saturating_sub(other.octets),
         }
     }
 
@@ -77,15 +78,15 @@ impl Own {
     }
 
     /// With one file or directory more, of so many octets.
-    pub(crate) fn and(self, octets: u64) -> Own {
-        Own {
+    pub(crate) fn with_one(self, octets: u64) -> RootCount {
+        RootCount {
             nodes: self.nodes.saturating_add(1),
             octets: self.octets.saturating_add(octets),
         }
     }
 
     /// Without one file, of so many octets.
-    pub(crate) fn but(self, octets: u64) -> Own {
-        self.without(Own { nodes: 1, octets })
+    pub(crate) fn without_one(self, octets: u64) -> RootCount {
+        self.without(RootCount { nodes: 1, octets })
     }
 }

@@ -1,4 +1,6 @@
 // How the directories of a disk looked when their names were taken in.
+ghost use Rattle.std.specs.Prelude.{◌≡◌};
+
 use crate::loading::roots::Roots;
 use ftp_disk_host::{Look, Stamp};
 use ftp_path::Path;
@@ -31,8 +33,9 @@ pub(crate) enum Taken {
 pub struct Seen {
     look: Look,
     taken: Taken,
-    /// When it was, in nanoseconds since 1970, and how many that took.
+    /// When it was, in nanoseconds since 1970.
     at: i64,
+    /// How many nanoseconds that took.
     took: i64,
     /// How often this tree changed a name in it since.
     pub changes: u32,
@@ -40,7 +43,11 @@ pub struct Seen {
 
 impl Seen {
     /// A directory that looked so before its names were listed, at a time.
-    pub fn of(look: Look, now: Stamp) -> Seen {
+    pub fn of(look: Look, now: Stamp) -> Seen
+        // Witness: equations; `edits/a_listed_directory_was_changed_since`.
+        ensures look { result.look ≡ look }
+        ensures changes { result.changes ≡ 0 }
+    {
         let is_fresh = is_fresh(look.modified, now) || is_fresh(look.touched, now);
         let taken = if is_fresh { Taken::Fresh } else { Taken::Whole };
         Seen {
@@ -53,7 +60,10 @@ impl Seen {
     }
 
     /// The same, where its names were taken in by a time.
-    pub fn by(self, now: Stamp) -> Seen {
+    pub fn by(self, now: Stamp) -> Seen
+        ensures look { result.look ≡ self.look }
+        ensures changes { result.changes ≡ self.changes }
+    {
         Seen {
             took: nanos(now).saturating_sub(self.at),
             ..self
@@ -61,7 +71,10 @@ impl Seen {
     }
 
     /// The same, where something passed a limit.
-    pub(crate) fn short(self) -> Seen {
+    pub(crate) fn short(self) -> Seen
+        ensures look { result.look ≡ self.look }
+        ensures changes { result.changes ≡ self.changes }
+    {
         let taken = match self.taken {
             Taken::Whole | Taken::Short => Taken::Short,
             Taken::Fresh => Taken::Fresh,

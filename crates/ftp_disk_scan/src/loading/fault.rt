@@ -1,9 +1,17 @@
 // Why a folder is not loaded, and what of it is left out.
+ghost use Rattle.std.specs.Prelude.{◌≡◌, None};
+
 use ftp_tree::TreeFault;
 use std::alloc::Global;
 use std::fmt::{Display, Formatter};
 use std::io::{Error, ErrorKind};
 use std::{fmt, io};
+
+/// What is told of a name that no tree has.
+const NO_NAME: &str = "its name is no name of a tree";
+
+/// What is told of what is neither file nor directory.
+const NO_KIND: &str = "neither a file nor a directory";
 
 /// What is done about what can't be served.
 #[derive(Clone, Copy, Debug, PartialEq, Eq)]
@@ -31,8 +39,8 @@ impl Reason {
     /// What stands at the place that was asked for, as a look tells of it.
     pub fn error(self) -> io::Error {
         match self {
-            Reason::Name => Error::new(ErrorKind::InvalidFilename, "its name is no name of a tree"),
-            Reason::Kind => Error::new(ErrorKind::Unsupported, "neither a file nor a directory"),
+            Reason::Name => Error::new(ErrorKind::InvalidFilename, NO_NAME),
+            Reason::Kind => Error::new(ErrorKind::Unsupported, NO_KIND),
             Reason::Tree(TreeFault::TooBig) => {
                 Error::new(
                     ErrorKind::FileTooLarge,
@@ -52,8 +60,8 @@ impl Reason {
 impl Display for Reason {
     fn fmt<W: fmt::Write>(&self, formatter: &mut Formatter<W>) -> fmt::Result {
         match self {
-            Reason::Name => write!(formatter, "its name is no name of a tree"),
-            Reason::Kind => write!(formatter, "neither a file nor a directory"),
+            Reason::Name => formatter.write_str(NO_NAME),
+            Reason::Kind => formatter.write_str(NO_KIND),
             Reason::Tree(fault) => write!(formatter, "{fault}"),
             Reason::System(error) => write!(formatter, "{error}"),
         }
@@ -145,7 +153,11 @@ pub struct LeftOut {
 
 impl LeftOut {
     /// Nothing is.
-    pub fn nothing() -> LeftOut {
+    pub fn nothing() -> LeftOut
+        // Witness: equations; `edits/something_is_left_out_of_nothing`.
+        ensures count { result.count ≡ 0 }
+        ensures first { result.first ≡ None }
+    {
         LeftOut {
             count: 0,
             first: None,

@@ -1,4 +1,6 @@
 // Names as a system lists them.
+ghost use Rattle.std.specs.Prelude.{◌≡◌, IfSome};
+
 use ftp_disk_host::Host;
 use ftp_path::Name;
 use std::alloc::{AllocError, Global};
@@ -16,7 +18,10 @@ pub fn sorted(alloc: Global, octets: &[u8]) -> Result<Vec<&[u8], Global>, AllocE
 }
 
 /// A name that a tree has, where these octets are one, and none that a part has.
-pub fn served<'a, H: Host>(host: &H, octets: &'a [u8]) -> Option<&'a str> {
+pub fn served<'a, H: Host>(host: &H, octets: &'a [u8]) -> Option<&'a str>
+    // Witness: `edits/a_name_is_served_as_another`.
+    ensures { IfSome result (λ name. name.now ≡ octets.now) }
+{
     let Ok(name) = std::str::from_utf8(octets) else {
         return None;
     };

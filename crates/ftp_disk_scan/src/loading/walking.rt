@@ -1,19 +1,20 @@
-// Taking files and directories of a disk into a tree. No file is opened.
-use crate::loading::changes::{Changes, Thing};
-use crate::loading::counting::Own;
+// A walk over directories of a disk, whose files and directories are taken into a tree. No file is opened.
+mod putting;
+
+use crate::loading::changes::Thing;
+use crate::loading::counting::RootCount;
 use crate::loading::dirs::{Dirs, Seen};
 use crate::loading::fault::{LoadFault, Odds, Reason};
-use crate::loading::freed::freed_below;
 use crate::loading::here::Here;
 use crate::loading::names::sorted;
 use crate::loading::version::{Held, Version};
-use ftp_disk_host::{Found, Host, Look, moment_of};
-use ftp_path::{Name, Path, PathFault};
-use ftp_tree::{Limits, NodeKind, TreeFault};
+use ftp_disk_host::{Found, Host, Look};
+use ftp_path::{Name, PathFault};
+use ftp_tree::{Limits, TreeFault};
 use ftp_tree_nodes::Nodes;
 use std::alloc::{AllocError, Global};
+use std::io;
 use std::io::ErrorKind;
-use std::{io, mem};
 
 /// The loop over directories ends, as at a limit, once it has made so many turns.
 pub(crate) const DIR_TURNS: u64 = 1_099_511_627_776;
@@ -68,6 +69,21 @@ impl Drop for Waiting {
     }
 }
 
+/// Whether what others took away below a root was looked for, which is done once in a rescan.
+#[derive(Clone, Copy)]
+pub(crate) enum Freeing {
+    Due,
+    Done,
+}
+
+/// Whether all of a directory came into the nodes, as far as limits go.
+#[derive(Clone, Copy)]
+pub(crate) enum Fit {
+    Whole,
+    /// Something in it passed a limit.
+    Short,
+}
+
 /// Files and directories that are taken in. Directories wait in a list, so no depth exhausts the stack.
 pub(crate) struct Walk<'a, H: Host, K: Held> {
     host: &'a H,
@@ -78,11 +94,11 @@ pub(crate) struct Walk<'a, H: Host, K: Held> {
     /// The directory in which something is taken in.
     here: Here,
     /// What stands below its root.
-    own: Own,
-    /// Whether what others took away below that root was looked for.
-    is_freed: bool,
-    /// Whether something in it passed a limit.
-    is_short: bool,
+    root_count: RootCount,
+    /// Of that root.
+    freeing: Freeing,
+    /// Of the directory.
+    fit: Fit,
     /// The place of what is taken in.
     place: String<Global>,
     waiting: Vec<Waiting, Global>,
@@ -97,9 +113,9 @@ impl<'a, H: Host, K: Held> Drop for Walk<'a, H, K> {
             limits: _,
             odds: _,
             here: _,
-            own: _,
-            is_freed: _,
-            is_short: _,
+            root_count: _,
+            freeing: _,
+            fit: _,
             place: _,
             waiting: _,
         } = self;
@@ -114,16 +130,16 @@ impl<'a, H: Host, K: Held> Walk<'a, H, K> {
         let mut kept = kept;
         kept.nodes.limit(ANY);
         let here = Here::top(alloc);
-        let own = Own::of(&kept.nodes, &kept.dirs.roots, &here.root);
+        let root_count = RootCount::of(&kept.nodes, &kept.dirs.roots, &here.root);
         Walk {
             host,
             kept,
             limits,
             odds,
             here,
-            own,
-            is_freed: false,
-            is_short: false,
+            root_count,
+            freeing: Freeing::Due,
+            fit: Fit::Whole,
             place: String::new(alloc),
             waiting: Vec::new(alloc),
         }
@@ -137,9 +153,9 @@ impl<'a, H: Host, K: Held> Walk<'a, H, K> {
             limits: _,
             odds,
             here: _,
-            own: _,
-            is_freed: _,
-            is_short: _,
+            root_count: _,
+            freeing: _,
+            fit: _,
             place: _,
             waiting: _,
         } = self;
@@ -168,6 +184,17 @@ impl<'a, H: Host, K: Held> Walk<'a, H, K> {
         Ok(())
     }
 
+    /// The directory at the place of what is taken in waits.
+    fn await_place(&mut self, look: Look) -> Result<(), LoadFault> {
+        let Ok(below) = self.place.clone() else {
+            return Err(LoadFault::Memory);
+        };
+        match self.waiting.push(Waiting { below, look }) {
+            Ok(()) => Ok(()),
+            Err(_) => Err(LoadFault::Memory),
+        }
+    }
+
     /// Takes in what is in a directory, in the order of the names' octets. One that can't be listed stays empty.
     fn load_dir(&mut self, dir: &Waiting) -> Result<(), LoadFault> {
         let alloc = self.host.memory();
@@ -188,15 +215,15 @@ impl<'a, H: Host, K: Held> Walk<'a, H, K> {
 
     /// Turns to a directory.
     pub(crate) fn enter(&mut self, below: &str) -> Result<(), LoadFault> {
-        self.is_short = false;
+        self.fit = Fit::Whole;
         let here = match Here::at(self.host.memory(), &self.kept.dirs.roots, below) {
             Ok(here) => here,
             Err(PathFault::Memory) => return Err(LoadFault::Memory),
             Err(_) => return Err(self.too_long(below)),
         };
         if here.root.key() != self.here.root.key() {
-            self.own = Own::of(&self.kept.nodes, &self.kept.dirs.roots, &here.root);
-            self.is_freed = false;
+            self.root_count = RootCount::of(&self.kept.nodes, &self.kept.dirs.roots, &here.root);
+            self.freeing = Freeing::Due;
         }
         self.here = here;
         Ok(())
@@ -211,7 +238,10 @@ impl<'a, H: Host, K: Held> Walk<'a, H, K> {
     /// The names in the directory were taken in, which looked so before they were listed.
     pub(crate) fn note(&mut self, seen: Seen) -> Result<(), LoadFault> {
         let seen = seen.by(self.host.now());
-        let seen = if self.is_short { seen.short() } else { seen };
+        let seen = match self.fit {
+            Fit::Whole => seen,
+            Fit::Short => seen.short(),
+        };
         let below = self.here.below.as_bytes();
         match self.kept.dirs.note(below, seen) {
             Ok(()) => Ok(()),
@@ -227,6 +257,7 @@ impl<'a, H: Host, K: Held> Walk<'a, H, K> {
         }
     }
 
+    /// Takes in what stands in the directory by a name that is a text.
     fn load_name(&mut self, folder: &H::Folder, name: &str) -> Result<(), LoadFault> {
         if self.here.put_place(name, &mut self.place).is_err() {
             return Err(LoadFault::Memory);
@@ -257,178 +288,15 @@ impl<'a, H: Host, K: Held> Walk<'a, H, K> {
         let _kept = self.host.leave(self.place.as_str(), len);
     }
 
-    /// Takes in what was found at a place: in the directory, or in another one, to which the walk turns then.
-    pub(crate) fn put_found(&mut self, place: &str, thing: Thing) -> Result<(), LoadFault> {
-        let Some((above, name)) = place.rsplit_once('/') else {
-            return Ok(());
-        };
-        if self.here.below.as_str() != above {
-            self.enter(above)?;
-        }
-        if self.here.put_place(name, &mut self.place).is_err() {
-            return Err(LoadFault::Memory);
-        }
-        self.put(name, thing)
-    }
-
-    /// Takes in what was found in the directory by a name.
-    fn put(&mut self, name: &str, thing: Thing) -> Result<(), LoadFault> {
-        let path = match self.here.child(self.host.memory(), name) {
-            Ok(path) => path,
-            Err(PathFault::Memory) => return Err(LoadFault::Memory),
-            Err(PathFault::NotText) => return self.leave_out(Reason::Name),
-            Err(PathFault::TooBig) => return self.leave_out(Reason::Tree(TreeFault::TooBig)),
-        };
-        match thing {
-            Thing::Dir(look) => self.put_dir(&path, look),
-            Thing::File(look) => self.put_file(&path, look),
-        }
-    }
-
-    /// Makes a directory, which then waits.
-    fn put_dir(&mut self, path: &Path<Global>, look: Look) -> Result<(), LoadFault> {
-        if self.own.dir_refusal(self.limits).is_some() {
-            self.free()?;
-        }
-        if let Some(fault) = self.own.dir_refusal(self.limits) {
-            return self.leave_out(Reason::Tree(fault));
-        }
-        if let Err(fault) = self.kept.nodes.make_dir(&self.here.root, path) {
-            return self.refused(fault);
-        }
-        self.own = self.own.and(0);
-        let Ok(below) = self.place.clone() else {
-            return Err(LoadFault::Memory);
-        };
-        match self.waiting.push(Waiting { below, look }) {
-            Ok(()) => Ok(()),
-            Err(_) => Err(LoadFault::Memory),
-        }
-    }
-
-    /// Puts a version of a file, in the place of the one that stands there. Where that passes a limit, none does any more.
-    fn put_file(&mut self, path: &Path<Global>, look: Look) -> Result<(), LoadFault> {
-        let old = self.kept.nodes.size(&self.here.root, path);
-        if self.own.file_refusal(self.limits, old, look.len) == Some(TreeFault::Full) {
-            self.free()?;
-        }
-        let old = self.kept.nodes.size(&self.here.root, path);
-        let refusal = self.own.file_refusal(self.limits, old, look.len);
-        if let Some(len) = old {
-            self.own = self.own.but(len);
-        }
-        match refusal {
-            None => self.install(path, look),
-            Some(fault) => self.refuse_file(path, fault),
-        }
-    }
-
-    /// Looks once for what others took away below the root, at a look, and takes that up: it counts for limits no more. The walk goes on where it was.
-    fn free(&mut self) -> Result<(), LoadFault> {
-        if self.is_freed || !self.odds.is_look() {
-            return Ok(());
-        }
-        let freed = freed_below(
-            self.host,
-            &self.kept.nodes,
-            &self.kept.dirs.roots,
-            &self.here.root,
-        )?;
-        let top = Here::top(self.host.memory());
-        let here = mem::replace(&mut self.here, top);
-        let place = mem::replace(&mut self.place, String::new(self.host.memory()));
-        let is_short = self.is_short;
-        let taken = self.take_freed(&freed);
-        self.here = here;
-        self.place = place;
-        self.is_short = is_short;
-        self.is_freed = true;
-        self.count();
-        taken
-    }
-
-    /// Takes up what was taken away: first what is gone, the last first, so that little moves.
-    fn take_freed(&mut self, freed: &Changes) -> Result<(), LoadFault> {
-        for place in freed.gone.iter().rev() {
-            self.cut(place.as_str())?;
-        }
-        for stands in &freed.shorter {
-            if let Thing::File(look) = stands.thing {
-                self.shorten(stands.place.as_str(), look)?;
-            }
-        }
-        Ok(())
-    }
-
-    /// Puts a version of a file that has fewer octets than the one that stands at its place.
-    fn shorten(&mut self, place: &str, look: Look) -> Result<(), LoadFault> {
-        let Some((above, name)) = place.rsplit_once('/') else {
-            return Ok(());
-        };
-        if self.here.below.as_str() != above {
-            self.enter(above)?;
-        }
-        let Ok(path) = self.here.child(self.host.memory(), name) else {
-            return Err(LoadFault::Memory);
-        };
-        self.install(&path, look)
-    }
-
-    /// Puts a version of a file that passes no limit.
-    fn install(&mut self, path: &Path<Global>, look: Look) -> Result<(), LoadFault> {
-        let number = self.kept.version.wrapping_add(1);
-        let version = Version::new(number, look);
-        let moment = moment_of(look.modified.seconds);
-        let root = &self.here.root;
-        if let Err(fault) = self.kept.nodes.install(root, path, version, moment) {
-            return self.refuse_file(path, fault);
-        }
-        self.kept.version = number;
-        self.own = self.own.and(look.len);
-        Ok(())
-    }
-
-    /// No file stands at a path, since it is refused.
-    fn refuse_file(&mut self, path: &Path<Global>, fault: TreeFault) -> Result<(), LoadFault> {
-        self.kept.nodes.cut(&self.here.root, path);
-        self.refused(fault)
-    }
-
-    /// The nodes refuse what is taken in.
-    fn refused(&mut self, fault: TreeFault) -> Result<(), LoadFault> {
-        match fault {
-            TreeFault::Memory => Err(LoadFault::Memory),
-            other => self.leave_out(Reason::Tree(other)),
-        }
-    }
-
-    /// What stands at a place is no more in the tree, with all below it.
-    pub(crate) fn cut(&mut self, place: &str) -> Result<(), LoadFault> {
-        let Some((above, name)) = place.rsplit_once('/') else {
-            return Ok(());
-        };
-        if self.here.below.as_str() != above {
-            self.enter(above)?;
-        }
-        let Ok(path) = self.here.child(self.host.memory(), name) else {
-            return Err(LoadFault::Memory);
-        };
-        if self.kept.nodes.kind(&self.here.root, &path) == Some(NodeKind::Dir) {
-            self.kept.dirs.forget(place.as_bytes());
-        }
-        self.kept.nodes.cut(&self.here.root, &path);
-        Ok(())
-    }
-
     /// Counts anew what stands below the root.
     pub(crate) fn count(&mut self) {
-        self.own = Own::of(&self.kept.nodes, &self.kept.dirs.roots, &self.here.root);
+        self.root_count = RootCount::of(&self.kept.nodes, &self.kept.dirs.roots, &self.here.root);
     }
 
     /// What is taken in can't be served.
     fn leave_out(&mut self, why: Reason) -> Result<(), LoadFault> {
         if let Reason::Tree(_) = why {
-            self.is_short = true;
+            self.fit = Fit::Short;
         }
         let place = self.place.as_bytes();
         self.odds.meet(self.host.memory(), place, why)

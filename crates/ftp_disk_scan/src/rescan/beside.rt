@@ -87,7 +87,8 @@ fn is_due<H: Host, K: Held, B: Allocator + Copy, C: Allocator + Copy>(
 /// names, and of what others took away no more stays than as much again as stood there.
 #[tactic(auto, using(std::proofs::lemmas::Option::slice_get_past, std::proofs::lemmas::Option::slice_get_within))]
 fn are_many_changed<K: Held>(nodes: &Nodes<Global, Version<K>>, here: &Here, changes: u32) -> bool
-    ensures { result ≡ are_many_changed (length (children (under nodes.now here.now.root) here.now.path)) changes }
+    ensures { result
+        ≡ are_many_changed (length (children (under nodes.now here.now.root) here.now.path)) changes }
 {
     let Some(last) = (changes as usize * 2).checked_sub(1) else {
         return false;

@@ -107,7 +107,8 @@ pub(crate) fn hold(
     found: Found,
     had: Had,
 ) -> Result<(), AllocError>
-    ensures { OnOk result (changes.new.compared.pairs ≡ pair_of found had ∷ changes.old.compared.pairs) }
+    ensures { OnOk result
+        (changes.new.compared.pairs ≡ pair_of found had ∷ changes.old.compared.pairs) }
 {
     match Finding::of(found, had) {
         Finding::Nothing | Finding::SameFile | Finding::SameDir(_) | Finding::Odd => {

@@ -56,7 +56,7 @@ pub(crate) fn look_in<H: Host, K: Held>(
         return Ok(Within::none(host.memory()));
     }
     let folder = host.folder(here.below.as_str())?;
-    let looking = Looking {
+    let directory = OpenDirectory {
         host,
         nodes,
         here,
@@ -66,15 +66,15 @@ pub(crate) fn look_in<H: Host, K: Held>(
     let mut listed = None;
     if !are_known {
         listed = Some(Seen::of(look, host.now()));
-        looking.look_at_names(sight, &mut changes)?;
+        directory.look_at_names(sight, &mut changes)?;
     }
     if sight == Sight::Files {
-        looking.look_at_children(&mut changes)?;
+        directory.look_at_children(&mut changes)?;
     }
     if let Some(seen) = listed {
         if changes.is_empty() {
             // Refused memory, its names are listed again at the next look.
-            let place = looking.here.below.as_bytes();
+            let place = directory.here.below.as_bytes();
             let _noted = dirs.note(place, seen.by(host.now()));
         }
     }
@@ -82,7 +82,7 @@ pub(crate) fn look_in<H: Host, K: Held>(
 }
 
 /// A directory that is looked at, and open.
-struct Looking<'a, H: Host, K: Held> {
+struct OpenDirectory<'a, H: Host, K: Held> {
     host: &'a H,
     nodes: &'a Nodes<Global, Version<K>>,
     here: Here,
@@ -90,7 +90,7 @@ struct Looking<'a, H: Host, K: Held> {
 }
 
 /// By hand, as that of a tree.
-impl<'a, H: Host, K: Held> Drop for Looking<'a, H, K> {
+impl<'a, H: Host, K: Held> Drop for OpenDirectory<'a, H, K> {
     fn drop(self) {
         let Self {
             host: _,
@@ -101,7 +101,7 @@ impl<'a, H: Host, K: Held> Drop for Looking<'a, H, K> {
     }
 }
 
-impl<'a, H: Host, K: Held> Looking<'a, H, K> {
+impl<'a, H: Host, K: Held> OpenDirectory<'a, H, K> {
     /// Lists the names in it, and holds them against those that the tree has. Which of these are gone is seen by a look at each file as well.
     fn look_at_names(&self, sight: Sight, changes: &mut Changes) -> io::Result<()> {
         let octets = self.host.names(&self.folder)?;

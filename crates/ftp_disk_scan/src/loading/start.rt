@@ -12,8 +12,19 @@ use ftp_tree_nodes::Nodes;
 use std::alloc::Global;
 use std::io::{Error, ErrorKind};
 
-/// The files and directories below the folder of a host, as nodes, each file with its moment; how directories looked, the number of the last version of
-/// a file, and what is left out.
+/// What a tree of a disk begins with.
+pub struct Loaded<K: Held> {
+    /// The files and directories, each file with its moment.
+    pub nodes: Nodes<Global, Version<K>>,
+    /// How directories looked.
+    pub dirs: Dirs,
+    /// The number of the last version of a file.
+    pub version: u64,
+    /// What of the folder is left out.
+    pub left_out: LeftOut,
+}
+
+/// The files and directories below the folder of a host.
 ///
 /// Below each of the roots limits are counted as sessions at that root count them: what they leave can be loaded. What is below none of them is
 /// counted together, as one root. What is below two of them is counted at the lower one alone: who has the upper one may only look, so below that
@@ -28,8 +39,8 @@ pub fn load<H: Host, K: Held>(
     roots: &[Path<Global>],
     limits: Limits,
     odd: Odd,
-) -> Result<(Nodes<Global, Version<K>>, Dirs, u64, LeftOut), LoadFault>
-    ensures { IfOk result (λ loaded. loaded.0.limits ≡ limits) }
+) -> Result<Loaded<K>, LoadFault>
+    ensures { IfOk result (λ loaded. loaded.nodes.limits ≡ limits) }
 {
     let alloc = host.memory();
     let Ok(dirs) = Dirs::below(alloc, roots) else {
@@ -40,10 +51,15 @@ pub fn load<H: Host, K: Held>(
         dirs,
         version: 0,
     };
-    let (kept, left) = load_all(host, kept, odd)?;
+    let (kept, left_out) = load_all(host, kept, odd)?;
     let (mut nodes, dirs, version) = kept.into_parts();
     nodes.limit(limits);
-    Ok((nodes, dirs, version, left))
+    Ok(Loaded {
+        nodes,
+        dirs,
+        version,
+        left_out,
+    })
 }
 
 /// Takes in all that is below the folder.
@@ -74,6 +90,7 @@ fn folder_look<H: Host>(host: &H) -> Result<Look, LoadFault> {
     Err(LoadFault::at(host.memory(), b"".as_slice(), why))
 }
 
+/// What becomes of what can't be served, of which nothing was met yet.
 fn odds_of(odd: Odd) -> Odds {
     match odd {
         Odd::Refuse => Odds::Refuse,

@@ -1,4 +1,4 @@
-// What others changed at a path: found, and nothing of the tree is changed. No octet of a file is read.
+// The way to a path, name by name, until one is not as the tree has it; and what others changed there. Nothing of the tree is changed.
 use crate::loading::{
     Changes, Dirs, Findings, Had, Held, Here, Reason, Roots, Version, below_of, had_at,
 };
