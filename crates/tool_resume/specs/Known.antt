@@ -10,7 +10,7 @@ use Rattle.tool_resume.specs.declared.known_file.KnownMoment.TheVariants as Mome
 use Rattle.tool_resume.specs.declared.version.FileVersion.{FileVersion}
 use Rattle.tool_resume.specs.declared.version.Size.{Size}
 use Rattle.tool_resume.specs.declared.version.Size.TheVariants as Sizes
-use Rattle.tool_resume.specs.Trying.{is_counted}
+use Rattle.tool_resume.specs.Retry.{is_counted}
 use Rattle.tool_resume.specs.Version.{last_change}
 
 -- the size of a file of which nothing is known yet, in a transfer of which SIZE counts the octets or not

@@ -2,7 +2,7 @@
 pub mod Known
 pub mod Questions
 -- What the answers of a server say of a try of a transfer.
-pub mod Trying
+pub mod Retry
 -- Which file a server has, and how a download of it stands.
 pub mod Version
 -- What follows a try of an upload, and of a download.

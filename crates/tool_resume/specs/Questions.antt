@@ -4,7 +4,7 @@ use Rattle.ftp_operation.specs.declared.op.How.{How}
 use Rattle.ftp_operation.specs.declared.op.Op.TheVariants as Ops
 use Rattle.tool_session.specs.declared.request.Request.{Request}
 use Rattle.tool_session.specs.declared.request.Request.TheVariants as Requests
-use Rattle.tool_resume.specs.Trying.{is_counted}
+use Rattle.tool_resume.specs.Retry.{is_counted}
 
 -- SIZE of a path
 abbrev pub size_question : List ℕ → How → Request

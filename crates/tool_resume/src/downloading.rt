@@ -18,7 +18,7 @@ use crate::download_tries::{VersionCheck, is_spent};
 use crate::known_file::{KnownFile, KnownMoment, moment_told};
 use crate::noting::Noting;
 use crate::received::ReceivedOctets;
-use crate::trying::is_counted;
+use crate::retry::is_counted;
 use crate::version::{Arrival, FileVersion, LastChange, Size, arrived};
 use ftp_client_steps::MOST_TRIES;
 use ftp_facts::Moment;

@@ -2,7 +2,7 @@
 ghost use Rattle.std.specs.Prelude.{◌≡◌, ◌++◌, IfOk, OnOk};
 ghost use Rattle.tool_resume.specs.Questions.{asked_in_a_row, version_questions};
 
-use crate::trying::{is_counted, moment_request, size_request};
+use crate::retry::{is_counted, moment_request, size_request};
 use ftp_operation::How;
 use std::alloc::{AllocError, Global};
 use tool_session::Request;

@@ -3,7 +3,7 @@ ghost use Rattle.std.specs.Prelude.{◌≡◌};
 ghost use Rattle.tool_resume.specs.Known.{answers_more, asks_moment, asks_size, moment_by, size_by};
 ghost use Rattle.tool_resume.specs.Known.{is_moment_told, moment_told, seconds_told, unknown_file, version_of};
 
-use crate::trying::is_counted;
+use crate::retry::is_counted;
 use crate::version::{FileVersion, Size, last_change};
 use ftp_facts::Moment;
 use ftp_operation::{Answer, How};

@@ -12,12 +12,12 @@ mod laws;
 mod noting;
 mod overlap;
 mod received;
+mod retry;
 pub mod rows;
 mod sending;
 mod source;
 mod step;
 mod telling;
-mod trying;
 mod uploading;
 mod version;
 
@@ -28,6 +28,7 @@ pub use held::limit_held;
 pub use known_file::KnownMoment;
 pub use laws::{downloads_end, one_file_is_downloaded, one_file_is_uploaded, uploads_end};
 pub use received::ReceivedOctets;
+pub use retry::is_counted;
 pub use sending::Sending;
 pub use source::UploadSource;
 pub use step::{
@@ -35,7 +36,6 @@ pub use step::{
     part_owner,
 };
 pub use telling::{ToldPart, tell, tell_too_large};
-pub use trying::is_counted;
 pub use uploading::{Uploading, Wrong};
 pub use version::{
     Arrival, FileVersion, LastChange, Size, arrived, is_too_large, last_change, resumes, stays,

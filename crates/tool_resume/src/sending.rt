@@ -1,6 +1,6 @@
 // An upload that is asked ahead of its turn.
+use crate::retry::{is_counted, size_request};
 use crate::source::STAND_IN;
-use crate::trying::{is_counted, size_request};
 use ftp_client_stream::{ReaderSource, SourceTransfer};
 use ftp_facts::Text;
 use ftp_operation::{How, Op};

@@ -6,10 +6,10 @@ mod asking;
 mod finishing;
 mod front;
 
+use crate::retry::{ended_of, is_counted, size_request, there_of};
 use crate::source::UploadSource;
 use crate::step::{NextStep, There, TransferState, follows, is_size_asked_after};
 use crate::telling::{Had, ToldPart};
-use crate::trying::{ended_of, is_counted, size_request, there_of};
 use ftp_client_steps::MOST_TRIES;
 use ftp_operation::{Answer, How};
 use std::alloc::{AllocError, Global};

@@ -1,7 +1,7 @@
 // A download over a control connection of its own: what is asked for, and on which terms.
 ghost use Rattle.std.specs.Prelude.{◌≡◌};
 ghost use Rattle.tool_job.specs.single.Download.{is_output, limit_by, moment_wanted};
-ghost use Rattle.tool_resume.specs.Trying.{is_counted};
+ghost use Rattle.tool_resume.specs.Retry.{is_counted};
 
 use crate::single::leaving::leave;
 use crate::single::part::{keep_part, prepare};

@@ -5,7 +5,7 @@ ghost use Rattle.tool_resume.specs.Ahead.{is_foreseen};
 use crate::download_tries::VersionCheck;
 use crate::downloading::Downloading;
 use crate::known_file::{asks_moment, asks_size};
-use crate::trying::{moment_request, size_request};
+use crate::retry::{moment_request, size_request};
 use ftp_operation::Answer;
 use std::alloc::{AllocError, Global};
 use std::cell::Cell;

@@ -3,9 +3,9 @@ use crate::download_tries::{
     VersionCheck, counted_octets, follows_download, is_asked_after, is_said,
 };
 use crate::downloading::{DownloadTurn, Downloading, over_with};
+use crate::retry::ended_of;
 use crate::step::{Ended, NextStep};
 use crate::telling::ToldPart;
-use crate::trying::ended_of;
 use crate::version::size_told;
 use ftp_operation::Answer;
 use std::alloc::Global;

@@ -1,7 +1,7 @@
 // Which file the server has: its size and its moment, asked before and after a try.
 use crate::downloading::Downloading;
 use crate::known_file::{answers_more, asks_moment, asks_size, is_moment_told, moment_by, size_by};
-use crate::trying::{moment_request, size_request};
+use crate::retry::{moment_request, size_request};
 use crate::version::size_told;
 use ftp_operation::Answer;
 use std::alloc::{AllocError, Global};

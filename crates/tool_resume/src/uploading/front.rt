@@ -1,6 +1,6 @@
 // The end of what a server has of an upload, read back before the upload goes on behind it.
+use crate::retry::front_of;
 use crate::step::{FrontOwner, NextStep, behind_front, front_from};
-use crate::trying::front_of;
 use crate::uploading::Uploading;
 use ftp_operation::Op;
 use std::io;

@@ -1,9 +1,9 @@
-// What uploads and downloads that go on have in common: the questions that they ask, and what the answers say of a try.
+// What a retry asks, and what the answers say of the try before: the same of uploads and downloads.
 ghost use Rattle.std.specs.Prelude.{◌≡◌, IfOk, Some};
 ghost use Rattle.ftp_operation.specs.declared.answer.Answer.{Answer};
 ghost use Rattle.tool_resume.specs.declared.step.FrontOwner.{FrontOwner};
 ghost use Rattle.tool_resume.specs.Questions.{moment_question, size_question};
-ghost use Rattle.tool_resume.specs.Trying.{ended_by, is_counted, owner_by, there_by};
+ghost use Rattle.tool_resume.specs.Retry.{ended_by, is_counted, owner_by, there_by};
 
 use crate::step::{Ended, FrontOwner, There};
 use ftp_facts::Text;
