@@ -11,8 +11,8 @@ const MOST_ADDRESSES: usize = 1_024;
 /// How many seconds a refused login counts.
 const SECONDS_KEPT: u64 = 600;
 
-/// From this refused login on answers are slow.
-const SLOW_FROM: u8 = 10;
+/// From this refused login of an address on answers are slow, over all its connections.
+const SLOW_FROM_OF_ADDRESS: u8 = 10;
 
 /// How much later than the slow answer before it to the same address one goes, and how long that is waited for at most, in milliseconds.
 const APART_MILLIS: u64 = 1_000;
@@ -167,7 +167,7 @@ impl<A: Allocator + Copy> LoginLimiter<A> {
         // Witness: an equation (`is_slow`).
         ensures { result ≡ is_slow self.now address now }
     {
-        self.refused_of(address, now) >= SLOW_FROM
+        self.refused_of(address, now) >= SLOW_FROM_OF_ADDRESS
     }
 
     #[tactic(auto, unfolding(crate::specs::LoginLimiter::refused_of))]
@@ -229,5 +229,9 @@ fn next_wait(left: u64) -> u64
 fn one_more(count: u8) -> u8
     ensures { result ≡ one_more count }
 {
-    if count < SLOW_FROM { count + 1 } else { count }
+    if count < SLOW_FROM_OF_ADDRESS {
+        count + 1
+    } else {
+        count
+    }
 }

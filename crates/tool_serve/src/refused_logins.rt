@@ -8,8 +8,8 @@ use ftp_reply::code::NOT_LOGGED_IN;
 /// The code of a reply that asks for a password.
 const NEEDS_PASSWORD: u16 = 331;
 
-/// From this refused login on each answer waits.
-const SLOW_FROM: u8 = 3;
+/// From this refused login of a connection on each answer waits.
+const SLOW_FROM_OF_CONNECTION: u8 = 3;
 
 /// With this refused login the connection ends.
 const LAST: u8 = 10;
@@ -61,7 +61,7 @@ impl LoginHistory {
     pub(crate) fn pace(self) -> AnswerPace
         ensures { result ≡ answer_to self }
     {
-        if self.refused < SLOW_FROM {
+        if self.refused < SLOW_FROM_OF_CONNECTION {
             AnswerPace::AtOnce
         } else if self.refused < LAST {
             AnswerPace::Slow
