@@ -1,7 +1,6 @@
 //! Several sessions in one thread: one poll over all that they wait for, and then a turn of each that is ready, which can't wait itself.
 #![tactic(auto)]
 
-mod alone;
 mod crowd;
 pub mod laws;
 mod listening_port;
@@ -14,7 +13,6 @@ mod stopping;
 mod table;
 mod waiting;
 
-pub use alone::serve_alone;
 pub use order::TurnOrder;
 pub use rounds::serve_rounds;
 pub use session_limits::{Full, Input, SessionLimits};
