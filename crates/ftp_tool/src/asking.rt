@@ -9,7 +9,7 @@ use std::alloc::Global;
 use std::io;
 use std::io::Eprint;
 use tool_command::{
-    PLACE_OPTION, UsageError, asked_of, fetch_task_of, openings_of, url_in, urls_in,
+    ErrorStream, PLACE_OPTION, UsageError, asked_of, fetch_task_of, openings_of, url_in, urls_in,
 };
 use tool_get_put::{Each, FilePair, PlaceTask};
 use tool_job::{Simple, Target};
@@ -17,13 +17,13 @@ use tool_location::UrlPlace;
 use tool_session::Openings;
 use tool_terminal::{Shown, Status};
 
-/// Does what a subcommand asks for at one place, where standard error may be a terminal.
+/// Does what a subcommand asks for at one place.
 pub(crate) fn ask<R>(
     rt: &R,
     alloc: Global,
     name: &str,
     words: &ArgMatches<'_>,
-    is_terminal: bool,
+    errors: ErrorStream,
 ) -> io::Result<u8>
 where
     R: Programs + Eprint,
@@ -31,7 +31,7 @@ where
     let place = words.get_str("place").unwrap_or("");
     let openings = openings_of(words);
     match url_in(alloc, PLACE_OPTION, place) {
-        Ok(url) => match asked_of(words, place, url.as_ref(), &openings, is_terminal) {
+        Ok(url) => match asked_of(words, place, url.as_ref(), &openings, errors) {
             Ok(asked) => ask_at(rt, name, words, &asked),
             Err(refusal) => refuse(rt, refusal),
         },
@@ -107,7 +107,7 @@ fn ask_all<'a, R: Programs + Eprint>(
     let mut until = None;
     let places = places_of(words);
     for (place, url) in places.iter().zip(urls.iter()) {
-        let Ok(asked) = asked_of(words, *place, url.as_ref(), openings, false) else {
+        let Ok(asked) = asked_of(words, *place, url.as_ref(), openings, ErrorStream::Other) else {
             return Ok(Status::BadWords);
         };
         let asked = asked.within(&mut until);
@@ -130,7 +130,7 @@ fn remove_all<'a, R: Programs + Eprint>(
     let mut batch = Batch::new(alloc, Each::Remove);
     let mut worst = Status::Done;
     for (place, url) in places.iter().zip(urls.iter()) {
-        let Ok(asked) = asked_of(words, *place, url.as_ref(), openings, false) else {
+        let Ok(asked) = asked_of(words, *place, url.as_ref(), openings, ErrorStream::Other) else {
             return Ok(Status::BadWords);
         };
         if asked.at_once < 2 || places.len() < 2 {

@@ -10,7 +10,8 @@ use std::alloc::Global;
 use std::io;
 use std::io::Eprint;
 use tool_command::{
-    PLACE_OPTION, UsageError, asked_of, each_got, get_task_of, is_matched, openings_of, urls_in,
+    ErrorStream, PLACE_OPTION, UsageError, asked_of, each_got, get_task_of, is_matched,
+    openings_of, urls_in,
 };
 use tool_get_put::FilePair;
 use tool_job::{Target, Targets};
@@ -23,7 +24,7 @@ pub(crate) fn get<R>(
     rt: &R,
     alloc: Global,
     words: &ArgMatches<'_>,
-    is_terminal: bool,
+    errors: ErrorStream,
 ) -> io::Result<u8>
 where
     R: Programs + Eprint,
@@ -35,7 +36,7 @@ where
         openings: &openings,
         target,
         into: places.len() > 1 || says_directory(target) || rt.is_folder(target),
-        is_terminal,
+        errors,
         is_alone: places.len() < 2,
         targets: &targets,
     };
@@ -93,7 +94,7 @@ struct Goal<'a> {
     target: &'a str,
     /// Whether they go into the target.
     into: bool,
-    is_terminal: bool,
+    errors: ErrorStream,
     /// Whether one place alone is asked at.
     is_alone: bool,
     /// The names under which files go, where several places are asked at.
@@ -124,8 +125,7 @@ fn get_all<'a, R: Programs + Eprint>(
     let mut until = None;
     let mut batch = Batch::new(alloc, each_got(words, goal.claimed()));
     for (place, url) in places.iter().zip(urls.iter()) {
-        let Ok(asked) = asked_of(words, *place, url.as_ref(), goal.openings, goal.is_terminal)
-        else {
+        let Ok(asked) = asked_of(words, *place, url.as_ref(), goal.openings, goal.errors) else {
             return Ok(Status::BadWords);
         };
         let asked = asked.within(&mut until);

@@ -9,8 +9,8 @@ use std::alloc::Global;
 use std::io;
 use std::io::{Eprint, IsTerminal, Write};
 use tool_command::{
-    Program, UsageError, mirror_of, openings_of, program_of, rounds_of, script_server_of,
-    script_user_of, serving_of, settings_of, task_of, url_in,
+    ErrorStream, Program, UsageError, mirror_of, openings_of, program_of, rounds_of,
+    script_server_of, script_user_of, serving_of, settings_of, task_of, url_in,
 };
 use tool_location::UrlPlace;
 use tool_terminal::Status;
@@ -29,6 +29,11 @@ where
     let Some((name, inner)) = words.subcommand() else {
         return refuse(rt, UsageError::Number);
     };
+    let errors = if faults.is_terminal() {
+        ErrorStream::Terminal
+    } else {
+        ErrorStream::Other
+    };
     match program_of(name) {
         Program::Serve => serve(rt, inner),
         Program::Loop => number_of(rt.play_loop()),
@@ -36,9 +41,9 @@ where
         Program::Password => make_field(rt, inner, faults),
         Program::Run => run_script(rt, inner),
         Program::Mirror => mirror(rt, alloc, inner),
-        Program::Get => get(rt, alloc, inner, faults.is_terminal()),
-        Program::Put => put(rt, alloc, inner, faults.is_terminal()),
-        Program::Ask => ask(rt, alloc, name, inner, faults.is_terminal()),
+        Program::Get => get(rt, alloc, inner, errors),
+        Program::Put => put(rt, alloc, inner, errors),
+        Program::Ask => ask(rt, alloc, name, inner, errors),
         Program::AskEach => ask_each(rt, alloc, name, inner),
         Program::Task => perform_task(rt, words, faults),
     }

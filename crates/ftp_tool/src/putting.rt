@@ -9,7 +9,7 @@ use clap::ArgMatches;
 use std::alloc::Global;
 use std::io;
 use std::io::Eprint;
-use tool_command::{PLACE_OPTION, asked_of, openings_of, url_in};
+use tool_command::{ErrorStream, PLACE_OPTION, asked_of, openings_of, url_in};
 use tool_get_put::{Each, FilePair, PlaceTask};
 use tool_job::Target;
 use tool_location::{Location, place_for};
@@ -20,7 +20,7 @@ pub(crate) fn put<R>(
     rt: &R,
     alloc: Global,
     words: &ArgMatches<'_>,
-    is_terminal: bool,
+    errors: ErrorStream,
 ) -> io::Result<u8>
 where
     R: Programs + Eprint,
@@ -31,7 +31,7 @@ where
     };
     let openings = openings_of(words);
     match url_in(alloc, PLACE_OPTION, place) {
-        Ok(url) => match asked_of(words, place, url.as_ref(), &openings, is_terminal) {
+        Ok(url) => match asked_of(words, place, url.as_ref(), &openings, errors) {
             Ok(asked) => put_where(rt, alloc, files, &asked),
             Err(refusal) => refuse(rt, refusal),
         },

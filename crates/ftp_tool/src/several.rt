@@ -5,7 +5,7 @@ ghost use Rattle.tool_location.specs.Placing.{says_directory};
 use clap::ArgMatches;
 use std::alloc::{AllocError, Global};
 use std::io;
-use tool_command::{BadValue, PLACE_OPTION, UsageError, asked_of, is_matched};
+use tool_command::{BadValue, ErrorStream, PLACE_OPTION, UsageError, asked_of, is_matched};
 use tool_job::{Target, Targets, source_of};
 use tool_location::{Location, UrlPlace, is_url, last_part, place_for, says_directory};
 use tool_session::Openings;
@@ -43,7 +43,7 @@ pub(crate) fn is_any_matched<'a>(
     openings: &'a Openings,
 ) -> bool {
     for (place, url) in places.iter().zip(urls.iter()) {
-        if let Ok(asked) = asked_of(words, *place, url.as_ref(), openings, false) {
+        if let Ok(asked) = asked_of(words, *place, url.as_ref(), openings, ErrorStream::Other) {
             if is_matched(words, asked.place) {
                 return true;
             }
@@ -61,7 +61,7 @@ pub(crate) fn check_places<'a>(
     into: bool,
 ) -> Result<(), UsageError<'a>> {
     for (place, url) in places.iter().zip(urls.iter()) {
-        let asked = asked_of(words, *place, url.as_ref(), openings, false)?;
+        let asked = asked_of(words, *place, url.as_ref(), openings, ErrorStream::Other)?;
         if into {
             check_name(*place, asked.place)?;
         }
@@ -80,7 +80,7 @@ pub(crate) fn check_targets<'a>(
     targets: &Targets,
 ) -> Result<(), UsageError<'a>> {
     for (place, url) in places.iter().zip(urls.iter()) {
-        let asked = asked_of(words, *place, url.as_ref(), openings, false)?;
+        let asked = asked_of(words, *place, url.as_ref(), openings, ErrorStream::Other)?;
         if is_matched(words, asked.place) {
             continue;
         }

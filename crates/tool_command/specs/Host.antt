@@ -5,10 +5,11 @@ use Rattle.std.specs.List.{list_all, list_any}
 use Rattle.std.specs.Net.Grammar.{IsIpText}
 use Rattle.std.specs.declared.net.IpAddr.{IpAddr}
 
--- the octets `:` and `.`
+-- the octet `:`
 abbrev pub is_colon : ℕ → Bool
 is_colon octet = octet == 58
 
+-- the octet `.`
 abbrev pub is_point : ℕ → Bool
 is_point octet = octet == 46
 

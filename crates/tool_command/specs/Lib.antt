@@ -1,5 +1,6 @@
 pub mod Amount
-pub mod Crowd
+pub mod AtOnce
+pub mod ClientValues
 pub mod Host
 pub mod Numbers
 pub mod Serving

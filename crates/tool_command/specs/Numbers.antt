@@ -1,5 +1,5 @@
--- What the values of options of `serve` and `run` say (own choice).
-use Rattle.std.specs.Prelude.{◌≡◌, ◌==◌, ◌<◌, ◌≤◌, ◌^◌, ℕ, Bool, List, codes, length}
+-- What numbers, ports and counts say as values of options (own choice).
+use Rattle.std.specs.Prelude.{◌≡◌, ◌==◌, ◌<◌, ◌≤◌, ◌^◌, ⊤, ℕ, Bool, List, Option, Some, None, codes, length}
 use Rattle.std.specs.List.{after_first, before_first, position_or_len}
 use Rattle.std.specs.Str.Parse.{IsNumeral, digits_value}
 use Rattle.tool_serve.specs.declared.sessions.SessionCount.{SessionCount}
@@ -9,6 +9,18 @@ use Rattle.tool_serve.specs.declared.sessions.SessionCount.TheVariants.{Count, F
 abbrev pub SaysBelow : ℕ → List ℕ → ℕ → Type 0
 SaysBelow limit word n = IsNumeral 10 word × (n ≡ digits_value 10 word) × (n < limit)
 
+-- a number below 2 ^ 32 is what its word says, and without one this one
+abbrev pub SaysNumberOr : Option (List ℕ) → ℕ → ℕ → Type 0
+SaysNumberOr None unsaid number = number ≡ unsaid
+SaysNumberOr (Some word) unsaid number = SaysBelow (2 ^ 32) word number
+
+-- a number below 2 ^ 32, if a word is given
+abbrev pub SaysIfGiven : Option (List ℕ) → Option ℕ → Type 0
+SaysIfGiven None None = ⊤
+SaysIfGiven None (Some number) = ⊥
+SaysIfGiven (Some word) None = ⊥
+SaysIfGiven (Some word) (Some number) = SaysBelow (2 ^ 32) word number
+
 -- a port, where 0 stands for one that the system chooses
 abbrev pub SaysPortOrZero : List ℕ → ℕ → Type 0
 SaysPortOrZero word port = SaysBelow (2 ^ 16) word port
@@ -17,6 +29,7 @@ SaysPortOrZero word port = SaysBelow (2 ^ 16) word port
 abbrev pub SaysServerPort : List ℕ → ℕ → Type 0
 SaysServerPort word port = SaysPortOrZero word port × (1 ≤ port)
 
+-- the octet `-`
 abbrev pub is_hyphen : ℕ → Bool
 is_hyphen octet = octet == 45
 

@@ -3,15 +3,15 @@ use Rattle.std.specs.Prelude.{◌≡◌, ◌^◌, ◌-◌, ⊤, ℕ, List, Optio
 use Rattle.std.specs.Net.Grammar.{IsIpText}
 use Rattle.std.specs.declared.net.IpAddr.{IpAddr}
 use Rattle.tool_command.specs.Amount.{SaysMost}
-use Rattle.tool_command.specs.Crowd.{SaysAtOnce, SaysPerHost}
-use Rattle.tool_command.specs.declared.serving.LimitWords.{LimitWords}
-use Rattle.tool_command.specs.declared.serving.Scope.{Scope}
-use Rattle.tool_command.specs.declared.serving.Scope.TheVariants.{Any, Usual}
-use Rattle.tool_command.specs.declared.serving.ServeWords.{ServeWords}
-use Rattle.tool_command.specs.declared.serving.WaitWords.{WaitWords}
+use Rattle.tool_command.specs.AtOnce.{SaysAtOnce, SaysPerHost}
+use Rattle.tool_command.specs.declared.serve_values.LimitWords.{LimitWords}
+use Rattle.tool_command.specs.declared.serve_values.Scope.{Scope}
+use Rattle.tool_command.specs.declared.serve_values.Scope.TheVariants.{Any, Usual}
+use Rattle.tool_command.specs.declared.serve_values.ServeWords.{ServeWords}
+use Rattle.tool_command.specs.declared.serve_values.WaitWords.{WaitWords}
 use Rattle.tool_serve.specs.declared.serving.Serving.{Serving}
 use Rattle.tool_polling.specs.declared.session_timeouts.TimeLimits.{TimeLimits as Waits}
-use Rattle.tool_command.specs.Numbers.{SaysBelow, SaysPortOrZero, SaysPorts, SaysSessions}
+use Rattle.tool_command.specs.Numbers.{SaysBelow, SaysNumberOr, SaysPortOrZero, SaysPorts, SaysSessions}
 use Rattle.tool_serve.specs.declared.sessions.SessionCount.{SessionCount}
 use Rattle.tool_serve.specs.declared.sessions.SessionCount.TheVariants.{Count, Forever}
 use Rattle.ftp_tree.specs.Tree.{default_limits}
@@ -19,26 +19,21 @@ use Rattle.ftp_tree.specs.declared.limits.Limits.{Limits}
 use Rattle.ftp_disk_scan.specs.declared.loading.fault.Odd.{Odd}
 use Rattle.ftp_disk_scan.specs.declared.loading.fault.Odd.TheVariants.{LeaveOut}
 
--- a number of seconds is what its word says, below 2 ^ 32, and without one this one
-abbrev pub SaysSeconds : Option (List ℕ) → ℕ → ℕ → Type 0
-SaysSeconds None unsaid seconds = seconds ≡ unsaid
-SaysSeconds (Some word) unsaid seconds = SaysBelow (2 ^ 32) word seconds
-
 -- what holds where no word says it: where only so many sessions are served there is no limit of time, which 0 stands for
 abbrev pub unsaid_waits : SessionCount → Waits
 unsaid_waits (Count n) = record { login = 0; idle = 0; idle_while_waited = 0; session_while_waited = 0; login_while_waited = 0 }
 unsaid_waits Forever = record { login = 30; idle = 300; idle_while_waited = 15; session_while_waited = 60; login_while_waited = 10 }
 
--- each of the five is what its word says, or what holds without one
+-- each of the five is what its word says, in seconds, or what holds without one
 pub record AreWaits (words : WaitWords) (sessions : SessionCount) (waits : Waits) : Type 0 where
-  pub login : SaysSeconds (option_map (λ word. word.now) words.login) (unsaid_waits sessions).login waits.login
-  pub idle : SaysSeconds (option_map (λ word. word.now) words.idle) (unsaid_waits sessions).idle waits.idle
+  pub login : SaysNumberOr (option_map (λ word. word.now) words.login) (unsaid_waits sessions).login waits.login
+  pub idle : SaysNumberOr (option_map (λ word. word.now) words.idle) (unsaid_waits sessions).idle waits.idle
   pub idle_while_waited :
-      SaysSeconds (option_map (λ word. word.now) words.idle_while_waited) (unsaid_waits sessions).idle_while_waited waits.idle_while_waited
+      SaysNumberOr (option_map (λ word. word.now) words.idle_while_waited) (unsaid_waits sessions).idle_while_waited waits.idle_while_waited
   pub session_while_waited :
-      SaysSeconds (option_map (λ word. word.now) words.session_while_waited) (unsaid_waits sessions).session_while_waited waits.session_while_waited
+      SaysNumberOr (option_map (λ word. word.now) words.session_while_waited) (unsaid_waits sessions).session_while_waited waits.session_while_waited
   pub login_while_waited :
-      SaysSeconds (option_map (λ word. word.now) words.login_while_waited) (unsaid_waits sessions).login_while_waited waits.login_while_waited
+      SaysNumberOr (option_map (λ word. word.now) words.login_while_waited) (unsaid_waits sessions).login_while_waited waits.login_while_waited
 
 -- a limit is what its word says, and without one this one
 abbrev pub SaysLimit : Option (List ℕ) → ℕ → ℕ → Type 0

@@ -6,7 +6,8 @@ ghost use Rattle.tool_command.specs.Amount.{EndsInUnit, SaysAmount, SaysMost, Sa
 
 /// A decimal number below 2^64, as it is written: digits alone, leading zeros read, no sign.
 pub(crate) fn octets_of(text: &str) -> Option<u64>
-    ensures { SomeIff result (IsNumeral 10 text.now × (digits_value 10 text.now < 2 ^ 64)) (digits_value 10 text.now) }
+    ensures { SomeIff result
+        (IsNumeral 10 text.now × (digits_value 10 text.now < 2 ^ 64)) (digits_value 10 text.now) }
 {
     if text.starts_with('+') {
         return None;
@@ -29,16 +30,19 @@ fn times(digits: &str, unit: u64) -> Option<u64>
 /// What stands before a letter at the end of a word.
 fn before(word: &str, letter: char) -> Option<&str>
     requires { letter < 128 }
-    ensures { MatchOption result ((front : List ℕ) → word.now ≢ front ++ (letter ∷ [])) (λ front. word.now ≡ front.now ++ (letter ∷ [])) }
+    ensures { MatchOption result
+        ((front : List ℕ) → word.now ≢ front ++ (letter ∷ []))
+        (λ front. word.now ≡ front.now ++ (letter ∷ [])) }
 {
     word.strip_suffix(letter)
 }
 
-/// The digits before the letter of a power of 1,024 at the end of a word, and that power.
-fn parted(word: &str) -> Option<(&str, u64)>
-    ensures some { IfSome result (λ parts. EndsInUnit word.now parts.0.now parts.1) }
-    ensures above { IfSome result (λ parts. 0 < parts.1) }
-    ensures none { IfNone result ((digits : List ℕ) (unit : ℕ) → ¬ EndsInUnit word.now digits unit) }
+/// The digits before the letter of a power of 1,024 at the end of a word, and that power; none where it ends in no such letter.
+fn unit_ending(word: &str) -> Option<(&str, u64)>
+    ensures some { IfSome result (λ ending. EndsInUnit word.now ending.0.now ending.1) }
+    ensures above { IfSome result (λ ending. 0 < ending.1) }
+    ensures none { IfNone result ((digits : List ℕ) (unit : ℕ)
+        → ¬ EndsInUnit word.now digits unit) }
 {
     if let Some(digits) = before(word, 'K') {
         return Some((digits, 1_024));
@@ -58,7 +62,7 @@ pub(crate) fn amount_of(word: &str) -> Option<u64>
     ensures some { IfSome result (λ n. SaysAmount word.now n) }
     ensures none { IfNone result ((n : ℕ) → ¬ SaysAmount word.now n) }
 {
-    match parted(word) {
+    match unit_ending(word) {
         Some((digits, unit)) => times(digits, unit),
         None => times(word, 1),
     }

@@ -6,7 +6,7 @@ use crate::pairing::PAIR;
 use crate::password::PASSWORD;
 use crate::running::RUN;
 use crate::serving::{SERVE, serve_options};
-use crate::words::{Form, MODE, MOST, STRU, Subcommand, TYPE, ValueForm, Word, subcommand_of};
+use crate::words::{MODE, MOST, STRU, Subcommand, TYPE, ValueKind, Word, WordKind, subcommand_of};
 use clap::Command;
 use std::alloc::{AllocError, Global};
 
@@ -17,7 +17,7 @@ const DIALOGUE: Subcommand<'static> = Subcommand {
     help: help::DIALOGUE,
     words: &[Word {
         name: "piece",
-        form: Form::Else(ValueForm::Number("N", 0, MOST), "0"),
+        kind: WordKind::Else(ValueKind::Number("N", 0, MOST), "0"),
         help: "octets that are read at a time, or 0 for what a read gives",
     }],
 };
@@ -38,27 +38,27 @@ const FRAME: Subcommand<'static> = Subcommand {
     words: &[
         Word {
             name: "type",
-            form: Form::Needed(TYPE),
+            kind: WordKind::Needed(TYPE),
             help: "ASCII or image",
         },
         Word {
             name: "stru",
-            form: Form::Needed(STRU),
+            kind: WordKind::Needed(STRU),
             help: "file or record structure",
         },
         Word {
             name: "mode",
-            form: Form::Needed(MODE),
+            kind: WordKind::Needed(MODE),
             help: "stream or block mode",
         },
         Word {
             name: "marks",
-            form: Form::Flag,
+            kind: WordKind::Flag,
             help: "writes restart markers, in type I with file structure and block mode",
         },
         Word {
             name: "read",
-            form: Form::Flag,
+            kind: WordKind::Flag,
             help: "reads the octets of a data connection from standard input and writes the file",
         },
     ],

@@ -3,9 +3,9 @@ use crate::help;
 use crate::place::{host_in, location_in, user_in, wanted_of};
 use crate::refusal::UsageError;
 use crate::words::{
-    ACTIVE, EXTENDED, Form, LIMIT, LIMIT_RATE, MAX_TIME, MODE, NO_EXTENDED, PARALLEL,
-    PASSWORD_FILE, QUIET, STRU, Subcommand, TIMEOUT, TYPE, USER, ValueForm, Word, at_once_in,
-    chosen, how_of, limit_in, rate_in, representation_in, text_in, timeout_in, until_in,
+    ACTIVE, EXTENDED, LIMIT, LIMIT_RATE, MAX_TIME, MODE, NO_EXTENDED, PARALLEL, PASSWORD_FILE,
+    QUIET, STRU, Subcommand, TIMEOUT, TYPE, USER, ValueKind, Word, WordKind, at_once_in, chosen,
+    how_of, limit_in, rate_in, representation_in, text_in, timeout_in, until_in,
 };
 use clap::ArgMatches;
 use ftp_operation::How;
@@ -15,6 +15,7 @@ use tool_listing::is_pattern;
 use tool_location::{Location, UrlPlace};
 use tool_session::Openings;
 
+/// The words of `get`.
 pub const GET: Subcommand<'static> = Subcommand {
     name: "get",
     about: "downloads files from a server",
@@ -23,34 +24,35 @@ pub const GET: Subcommand<'static> = Subcommand {
     words: &[
         Word {
             name: "places",
-            form: Form::NeededPlaces(ValueForm::Text("HOST:PORT/PATH")),
+            kind: WordKind::NeededPlaces(ValueKind::Text("HOST:PORT/PATH")),
             help: "what is fetched, as a place or a URL; the last of several words is FILE or FOLDER/, where it goes",
         },
         Word {
             name: "keep",
-            form: Form::Flag,
+            kind: WordKind::Flag,
             help: "keeps what came of a download that is not whole, in FILE.ftp-part",
         },
         Word {
             name: "continue",
-            form: Form::Flag,
+            kind: WordKind::Flag,
             help: "goes on behind a part that was kept, and keeps what came",
         },
         Word {
             name: "moment",
-            form: Form::Flag,
+            kind: WordKind::Flag,
             help: "the last change of FILE is at the server's moment of it",
         },
         LIMIT_RATE,
         PARALLEL,
         Word {
             name: "no-glob",
-            form: Form::Letter('g'),
+            kind: WordKind::Letter('g'),
             help: "takes * and ? in the last name of PATH as they stand",
         },
     ],
 };
 
+/// The words of `put`.
 pub const PUT: Subcommand<'static> = Subcommand {
     name: "put",
     about: "uploads files to a server",
@@ -59,7 +61,7 @@ pub const PUT: Subcommand<'static> = Subcommand {
     words: &[
         Word {
             name: "files",
-            form: Form::NeededPlaces(ValueForm::Name("FILE")),
+            kind: WordKind::NeededPlaces(ValueKind::Name("FILE")),
             help: "what is read, - is standard input; the last word is HOST:PORT/PATH or a URL, where it goes",
         },
         LIMIT_RATE,
@@ -67,6 +69,7 @@ pub const PUT: Subcommand<'static> = Subcommand {
     ],
 };
 
+/// The words of `ls`.
 pub const LS: Subcommand<'static> = Subcommand {
     name: "ls",
     about: "lists a directory or a file of a server",
@@ -76,17 +79,18 @@ pub const LS: Subcommand<'static> = Subcommand {
         PLACE,
         Word {
             name: "long",
-            form: Form::Flag,
+            kind: WordKind::Flag,
             help: "writes kind, size, moment and name in columns",
         },
         Word {
             name: "json",
-            form: Form::Flag,
+            kind: WordKind::Flag,
             help: "writes an object of JSON for each entry, in a line",
         },
     ],
 };
 
+/// The words of `cat`.
 pub const CAT: Subcommand<'static> = Subcommand {
     name: "cat",
     about: "writes a file of a server to standard output",
@@ -95,6 +99,7 @@ pub const CAT: Subcommand<'static> = Subcommand {
     words: &[PLACE],
 };
 
+/// The words of `size`.
 pub const SIZE: Subcommand<'static> = Subcommand {
     name: "size",
     about: "writes how many octets a file of a server has",
@@ -103,6 +108,7 @@ pub const SIZE: Subcommand<'static> = Subcommand {
     words: &[PLACE],
 };
 
+/// The words of `rm`.
 pub const RM: Subcommand<'static> = Subcommand {
     name: "rm",
     about: "removes files of a server",
@@ -111,6 +117,7 @@ pub const RM: Subcommand<'static> = Subcommand {
     words: &[PLACES, PARALLEL],
 };
 
+/// The words of `mkdir`.
 pub const MKDIR: Subcommand<'static> = Subcommand {
     name: "mkdir",
     about: "makes directories of a server",
@@ -120,12 +127,13 @@ pub const MKDIR: Subcommand<'static> = Subcommand {
         PLACES,
         Word {
             name: "parents",
-            form: Form::Letter('p'),
+            kind: WordKind::Letter('p'),
             help: "makes those above it too; one that stands is as well",
         },
     ],
 };
 
+/// The words of `rmdir`.
 pub const RMDIR: Subcommand<'static> = Subcommand {
     name: "rmdir",
     about: "removes empty directories of a server",
@@ -134,6 +142,7 @@ pub const RMDIR: Subcommand<'static> = Subcommand {
     words: &[PLACES],
 };
 
+/// The words of `mv`.
 pub const MV: Subcommand<'static> = Subcommand {
     name: "mv",
     about: "gives a file or a directory of a server another path",
@@ -143,21 +152,23 @@ pub const MV: Subcommand<'static> = Subcommand {
         PLACE,
         Word {
             name: "path",
-            form: Form::NeededPlace(ValueForm::Name("PATH")),
+            kind: WordKind::NeededPlace(ValueKind::Name("PATH")),
             help: "its path from then on, at the same server",
         },
     ],
 };
 
+/// The place of a subcommand that asks at one.
 const PLACE: Word<'static> = Word {
     name: "place",
-    form: Form::NeededPlace(ValueForm::Text("HOST:PORT/PATH")),
+    kind: WordKind::NeededPlace(ValueKind::Text("HOST:PORT/PATH")),
     help: "the server, its port (21 where none is written), and the path there; or ftp://USER@HOST:PORT/PATH",
 };
 
+/// Those of one that asks at several.
 const PLACES: Word<'static> = Word {
     name: "places",
-    form: Form::NeededPlaces(ValueForm::Text("HOST:PORT/PATH")),
+    kind: WordKind::NeededPlaces(ValueKind::Text("HOST:PORT/PATH")),
     help: "the server, its port (21 where none is written), and the path there; or ftp://USER@HOST:PORT/PATH",
 };
 
@@ -177,7 +188,7 @@ const OPTIONS: &[Word<'static>] = &[
     NO_EXTENDED,
     Word {
         name: "progress",
-        form: Form::Flag,
+        kind: WordKind::Flag,
         help: "tells how far a transfer is, each second; without it where standard error is a terminal",
     },
     QUIET,
@@ -186,28 +197,39 @@ const OPTIONS: &[Word<'static>] = &[
     LIMIT,
     Word {
         name: "type",
-        form: Form::Else(TYPE, "I"),
+        kind: WordKind::Else(TYPE, "I"),
         help: "",
     },
     Word {
         name: "stru",
-        form: Form::Else(STRU, "F"),
+        kind: WordKind::Else(STRU, "F"),
         help: "",
     },
     Word {
         name: "mode",
-        form: Form::Else(MODE, "S"),
+        kind: WordKind::Else(MODE, "S"),
         help: "",
     },
 ];
 
-/// What is asked at a place, which is this URL, if it is one, by data connections that are asked for so. At a terminal progress is told.
+/// What standard error is.
+#[derive(Clone, Copy)]
+pub enum ErrorStream {
+    /// A terminal, where progress is told.
+    Terminal,
+    /// Anything else, where it is told for `--progress` alone.
+    Other,
+}
+
+/// What is asked at a place, which is this URL, if it is one, by data connections that are asked for so.
+///
+/// Fails where the place is none, or a value is none of its option.
 pub fn asked_of<'a>(
     words: &'a ArgMatches<'_>,
     place: &'a str,
     url: Option<&'a UrlPlace>,
     openings: &'a Openings,
-    is_terminal: bool,
+    errors: ErrorStream,
 ) -> Result<Target<'a>, UsageError<'a>> {
     let location = asked_at(place, url)?;
     let timeout = timeout_in(words)?;
@@ -223,7 +245,7 @@ pub fn asked_of<'a>(
         openings,
         timeout,
         until,
-        progress: is_terminal || words.get_flag("progress"),
+        progress: matches!(errors, ErrorStream::Terminal) || words.get_flag("progress"),
         rate,
         limit,
         at_once,
@@ -241,7 +263,7 @@ fn asked_at<'a>(place: &'a str, url: Option<&'a UrlPlace>) -> Result<Location<'a
 /// How a transfer goes; `clap` lets no other letters through than these.
 fn how_in<'a>(words: &ArgMatches<'_>) -> Result<How, UsageError<'a>> {
     match representation_in(words) {
-        Some(form) => Ok(how_of(words, form)),
+        Some(representation) => Ok(how_of(words, representation)),
         None => Err(UsageError::Number),
     }
 }

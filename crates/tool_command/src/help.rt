@@ -3,6 +3,7 @@
 /// The version of the program.
 pub const VERSION: &str = "0.1.0";
 
+/// Of `dialogue`.
 pub const DIALOGUE: &str = "\
 Input: the octets that a client sends over a control connection, each line with CR LF at its end.
 Output: the greeting, and the reply to each line, by the server over an empty tree; no data connection is ever opened.
@@ -11,6 +12,7 @@ Status: 0 done; 1 done, and a reply of 4yz or 5yz was written; 2 bad command lin
 Example:
   printf 'USER anonymous\\r\\nMKD d\\r\\nQUIT\\r\\n' | ftp_tool dialogue";
 
+/// Of `facts`.
 pub const FACTS: &str = "\
 Input: the lines of a machine listing (RFC 3659, section 7.2), each with LF or CR LF at its end.
 Output: for each line its entry, with the known facts in one order, or its fault, as F1 NoSpace; each with LF at its end.
@@ -19,6 +21,7 @@ Status: 0 done; 1 done, and a line was faulty; 2 bad command line; 3 a read, a w
 Example:
   printf 'size=3;type=file; a b\\n' | ftp_tool facts";
 
+/// Of `frame`.
 pub const FRAME: &str = "\
 Input: a file, or with --read the octets of a data connection (RFC 959, sections 3.1, 3.4 and 3.5).
 Output: its octets on a data connection, or with --read the file. The fault of a wire goes to standard error, as M1 BadEscape(2).
@@ -27,6 +30,7 @@ Status: 0 done; 1 a wire had a fault or ended early; 2 bad command line; 3 a rea
 Example:
   printf 'a\\nb' | ftp_tool frame --type I --stru R --mode B | od -An -tx1";
 
+/// Of `serve`.
 pub const SERVE: &str = "\
 Reads the names of the folder, and serves control connections, several at once; what clients change is changed in the folder first.
 Who may log in: those of the file of accounts, each below its root; it is read anew for each session. Without one guest with the password
@@ -61,6 +65,7 @@ Example:
   ftp_tool serve --port 2121 --dir . --sessions forever
   ftp_tool serve --port 21 --dir /srv/files --sessions forever --any --host 0.0.0.0 --accounts /etc/ftp_tool.accounts --log";
 
+/// Of `run`.
 pub const RUN: &str = "\
 A is four numbers from 0 to 255 with points between them, as 127.0.0.1, or IPv6, as ::1; no name, and no other form of these.
 Input: a script, lines with LF at their ends, also at the last. The first is login USER PASS, but with --user no line is, and passwords are
@@ -77,6 +82,7 @@ memory was refused.
 Example:
   printf 'login anonymous a@b\\nput IFSpn f abc\\nget IFSpn f\\n' | ftp_tool run --host 127.0.0.1 --port 2121";
 
+/// Of `loop`.
 pub const LOOP: &str = "\
 A client and a server over an empty tree, in one process, over loopback sockets; guest with the password secret and anonymous may log in.
 Input: a script, each line with LF at its end, also the last. The first is login USER PASS; each other an operation, with SP between fields:
@@ -90,6 +96,7 @@ Status: 0 done; 1 done, and an operation was refused or failed; 2 bad command li
 Example:
   printf 'login guest secret\\nput IFSpn f abc\\nget IFSpn f\\n' | ftp_tool loop";
 
+/// Of `pair`.
 pub const PAIR: &str = "\
 A client and a server over an empty tree, in one process, over memory; guest with the password secret and anonymous may log in.
 Input: a script, as for loop.
@@ -101,6 +108,7 @@ Status: 0 done; 1 done, and an operation was refused or failed; 2 bad command li
 Example:
   printf 'login guest secret\\nput IFSpn f abc\\nget IFSpn f\\n' | ftp_tool pair --transcript";
 
+/// Of `password`.
 pub const PASSWORD: &str = "\
 Input: a password, one line of 1 to 255 octets without NUL, with LF, CR LF or nothing after it.
 Output: a field that it opens, for a file of accounts: SHA-crypt by SHA-512, as openssl passwd -6 writes it, with 16 letters of salt of the
@@ -113,6 +121,7 @@ Example:
   stty -echo; head -n 1 | ftp_tool password; stty echo
   echo \"mirror:$(ftp_tool password < ftp.pass):/:r\" > ftp.accounts";
 
+/// Of `get`.
 pub const GET: &str = "\
 HOST is an address or a name, an IPv6 address in brackets; what has a colon, or digits and points alone, is no name, so 127.1 is refused.
 PATH is sent to the server as it stands behind the slash. A URL names the same,
@@ -165,6 +174,7 @@ Example:
   ftp_tool get 127.0.0.1:2121/pub/a.txt 127.0.0.1:2121/pub/b.txt incoming/
   ftp_tool get '127.0.0.1:2121/pub/*.csv' incoming/ --parallel 4";
 
+/// Of `put`.
 pub const PUT: &str = "\
 FILE is - for standard input. A PATH that is empty or ends in / is a directory: each file goes into it by its own name, over a control
 connection of its own, or with --parallel N over N of them at once, as with get; one that fails does not stop the others, and the status is
@@ -180,6 +190,7 @@ Example:
   FTP_PASSWORD=secret ftp_tool put a.txt 127.0.0.1:2121/a.txt --user guest
   FTP_PASSWORD=secret ftp_tool put a.txt b.txt 127.0.0.1:2121/in/ --user guest";
 
+/// Of `ls`.
 pub const LS: &str = "\
 HOST, PATH, passwords, status, progress, data connections and what is done where the control connection ends are as with get; no PATH is
 the directory of the login.
@@ -194,12 +205,14 @@ name, as .. or a/b, is left out, and a note says how many are.
 Example:
   ftp_tool ls 127.0.0.1:2121/pub";
 
+/// Of `cat`.
 pub const CAT: &str = "\
 As get HOST:PORT/PATH -: the file goes to standard output, once all of it came.
 
 Example:
   ftp_tool cat 127.0.0.1:2121/pub/a.txt | wc -c";
 
+/// Of `size`.
 pub const SIZE: &str = "\
 Output: how many octets the file has by the server's word (SIZE, RFC 3659, section 4), in the type of --type. It is asked once, over one
 control connection. HOST, PATH, passwords and status are as with get.
@@ -207,6 +220,7 @@ control connection. HOST, PATH, passwords and status are as with get.
 Example:
   ftp_tool size 127.0.0.1:2121/pub/a.txt";
 
+/// Of `rm`.
 pub const RM: &str = "\
 By DELE, each file asked once, over a control connection of its own: where that ends before the reply, the file may be gone, and the status
 is 3. One that fails does not stop the others, and the status is the worst. With --parallel N the files of one server are removed over N
@@ -215,6 +229,7 @@ control connections at once, 8 at most; what is told is the same, in the same or
 Example:
   ftp_tool rm 127.0.0.1:2121/a.txt 127.0.0.1:2121/b.txt";
 
+/// Of `mkdir`.
 pub const MKDIR: &str = "\
 By MKD, each directory asked once, over a control connection of its own: where that ends before the reply, it may stand, and the status is 3.
 One that fails does not stop the others, and the status is the worst. With --parents, or -p, CWD asks first whether it stands, which is as
@@ -224,6 +239,7 @@ Example:
   ftp_tool mkdir 127.0.0.1:2121/in 127.0.0.1:2121/out
   ftp_tool mkdir -p 127.0.0.1:2121/in/2026/11";
 
+/// Of `rmdir`.
 pub const RMDIR: &str = "\
 By RMD, each directory asked once, over a control connection of its own: where that ends before the reply, it may be gone, and the status is 3.
 One that fails does not stop the others, and the status is the worst. HOST, PATH, passwords and status are as with get.
@@ -231,9 +247,38 @@ One that fails does not stop the others, and the status is the worst. HOST, PATH
 Example:
   ftp_tool rmdir 127.0.0.1:2121/in 127.0.0.1:2121/out";
 
+/// Of `mv`.
 pub const MV: &str = "\
 By RNFR and RNTO, asked once, over one control connection: where that ends before the reply, it may be done, and the status is 3. PATH is
 sent as it stands. HOST, PATH, passwords and status are as with get.
 
 Example:
   ftp_tool mv 127.0.0.1:2121/a.csv.part a.csv";
+
+/// Of `mirror`.
+pub const MIRROR: &str = "\
+Copies what is missing in TARGET or differs there, with all directories below SOURCE. One of both is HOST:PORT/PATH or a URL, as with get; the other
+is a folder of this machine, and begins with / or with a point where it would be read as HOST/PATH.
+From a server a file is copied where its size or its moment differs, and the copy has the server's moment then. To a server one is copied
+where its size differs or it was changed after the server's. With --checksum sizes and octets are compared, for which each file is fetched.
+A file that is cut on its way down goes on, as with get; one of more octets than --limit fails. With --delete what SOURCE has not is removed
+from TARGET, here once the server says of it alone that it has none (MLST, or SIZE of a file), and so is what stands there as a file where
+SOURCE has a directory, or the other way round; without it that is refused. --exclude leaves alone what meets GLOB, at both ends: * is any octets but a
+slash, ? is one; a GLOB with a slash is of a path below SOURCE, and any other is of a name. Links of this machine are not followed.
+--dry-run changes nothing, and writes what would be done on standard output. With --json each copy, each directory that is made and each
+removal is an object there, {\"deed\":\"copy\",\"path\":\"d/a\"}, make or remove, once it is done; what gave way is removed as NAME.ftp-old.
+A file that fails does not stop the others.
+One control connection is used; where it ends, the rest is done over another one, as with get. With --parallel N there are N of them at once, 8 at
+most: what is copied from a server next, and the next listings, are fetched over those that are free; what is told and done is the same, in the same
+order. Where the server gives fewer, it goes on over those. Where the server does not know MLSD, it is asked LIST, in the columns of ls -l, and
+SIZE and MDTM of each file for what that does not tell. A line that is no entry is left out and told: what has its name here stays, and where it
+has no name nothing of its directory is removed.
+A file of this machine is written beside its name, and moved over it once it is whole and on the disk, as with get. With --no-flush it is moved
+before it is on the disk, which is faster: after a power cut a file may be cut, and another run mends that. Passwords, --timeout, --max-time,
+--limit-rate and data connections are as with get.
+Output: on standard error why something was not done, and at the end how much was; with --quiet the former alone.
+Status: 0 done; 1 something was refused or failed; 2 bad command line or login; 3 the control connection or a device failed, or memory was
+refused.
+
+Example:
+  ftp_tool mirror 127.0.0.1:2121/ /backup/out --delete --user mirror --password-file ~/ftp.pass";

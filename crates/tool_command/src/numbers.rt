@@ -1,10 +1,23 @@
-// Ports, and how many sessions, as words of a command line say them.
-ghost use Rattle.std.specs.Prelude.{◌≡◌, ℕ, List, IfSome, IfNone};
-ghost use Rattle.tool_command.specs.Numbers.{SaysPortOrZero, SaysPorts, SaysServerPort, SaysSessions};
+// Numbers, ports, and how many sessions, as words of a command line say them.
+ghost use Rattle.std.specs.Prelude.{◌≡◌, ℕ, List, IfSome, IfNone, option_map};
+ghost use Rattle.tool_command.specs.Numbers.{SaysNumberOr, SaysPortOrZero, SaysPorts, SaysServerPort, SaysSessions};
 ghost use Rattle.tool_serve.specs.declared.sessions.SessionCount.{SessionCount};
 
 use tool_codec::number_of;
 use tool_serve::SessionCount;
+
+/// The number that a word says, or this one where there is no word.
+pub(crate) fn number_or(word: Option<&str>, unsaid: u32) -> Option<u32>
+    ensures some { IfSome result (λ number.
+        SaysNumberOr (option_map (λ word. word.now) word.entry) unsaid number) }
+    ensures none { IfNone result ((other number : ℕ)
+        → ¬ SaysNumberOr (option_map (λ word. word.now) word.entry) other number) }
+{
+    match word {
+        Some(word) => number_of(word),
+        None => Some(unsaid),
+    }
+}
 
 /// A port, or 0 for one that the system chooses.
 pub(crate) fn port_of(word: &str) -> Option<u16>

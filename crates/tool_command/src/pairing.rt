@@ -1,6 +1,6 @@
 // The subcommand `pair`: its words.
 use crate::help;
-use crate::words::{Form, MOST, Subcommand, ValueForm, Word, number_in};
+use crate::words::{MOST, Subcommand, ValueKind, Word, WordKind, number_in};
 use clap::ArgMatches;
 use tool_pair::PairSettings;
 
@@ -13,17 +13,17 @@ pub const PAIR: Subcommand<'static> = Subcommand {
     words: &[
         Word {
             name: "piece",
-            form: Form::Else(ValueForm::Number("N", 0, MOST), "0"),
+            kind: WordKind::Else(ValueKind::Number("N", 0, MOST), "0"),
             help: "octets that go each way of each connection in a round, or 0 for all",
         },
         Word {
             name: "transcript",
-            form: Form::Flag,
+            kind: WordKind::Flag,
             help: "writes the lines of the control connection before the reports",
         },
         Word {
             name: "roots",
-            form: Form::Flag,
+            kind: WordKind::Flag,
             help: "guest is at /guest and anonymous at /pub, which are made at the start",
         },
     ],

@@ -6,7 +6,7 @@ use std::alloc::Global;
 use tool_location::{Location, UrlPlace, is_url, place_of, url_place_of};
 use tool_login::User;
 
-/// The URL that a word is; none where it is none.
+/// The URL that a word is; none where it is none. Fails where no file is named by it, or memory is refused; `option` is told then.
 pub fn url_in<'a>(
     alloc: Global,
     option: &'a str,
@@ -21,7 +21,7 @@ pub fn url_in<'a>(
     }
 }
 
-/// The same, of each word.
+/// The same of each word, in their order.
 pub fn urls_in<'a>(
     alloc: Global,
     option: &'a str,

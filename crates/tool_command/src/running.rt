@@ -4,7 +4,7 @@ use crate::host::is_address;
 use crate::numbers::server_port_of;
 use crate::refusal::UsageError;
 use crate::words::{
-    Form, PASSWORD_FILE, Subcommand, TIMEOUT, ValueForm, Word, text_in, timeout_in,
+    PASSWORD_FILE, Subcommand, TIMEOUT, ValueKind, Word, WordKind, text_in, timeout_in,
 };
 use clap::ArgMatches;
 use tool_login::User;
@@ -19,17 +19,17 @@ pub const RUN: Subcommand<'static> = Subcommand {
     words: &[
         Word {
             name: "host",
-            form: Form::Needed(ValueForm::Name("A")),
+            kind: WordKind::Needed(ValueKind::Name("A")),
             help: "the address of the server: four numbers with points between them, or IPv6",
         },
         Word {
             name: "port",
-            form: Form::Needed(ValueForm::Number("N", 1, 65_535)),
+            kind: WordKind::Needed(ValueKind::Number("N", 1, 65_535)),
             help: "the port that it listens at, 1 to 65535",
         },
         Word {
             name: "user",
-            form: Form::Given(ValueForm::Text("U")),
+            kind: WordKind::Given(ValueKind::Text("U")),
             help: "who logs in; the script then has no line of a login",
         },
         PASSWORD_FILE,

@@ -30,11 +30,13 @@ pub fn task_of(matches: &ArgMatches<'_>) -> Option<CommandTask> {
     }
 }
 
+/// A dialogue, with the octets of a read as `--piece` says.
 fn dialogue_of(words: &ArgMatches<'_>) -> Option<CommandTask> {
     let piece = number_in(words, "piece")?;
     Some(CommandTask::Dialogue { piece })
 }
 
+/// A file to its octets on a data connection or back, as its three letters and `--read` say.
 fn frame_of(words: &ArgMatches<'_>) -> Option<CommandTask> {
     let form = representation_in(words)?;
     let direction = Direction::new(words.get_flag("read"), words.get_flag("marks"));

@@ -1,5 +1,10 @@
 // Words of a command line, as tables, and what `clap` makes of them.
-use crate::amount::{amount_of, octets_of};
+ghost use Rattle.std.specs.Prelude.{◌≡◌, [], ℕ, List, None, Some, IfOk, OnErr, codes};
+ghost use Rattle.clap.specs.Words.{first_value, found_of, one_text};
+ghost use Rattle.tool_command.specs.ClientValues.{SaysOctetLimit, SaysRate};
+
+use crate::client_values::{max_time_by, octet_limit_by, rate_by, timeout_by};
+use crate::numbers::number_or;
 use crate::refusal::UsageError;
 use clap::builder::{ValueParser, ValueRange};
 use clap::{Arg, ArgAction, ArgMatches, Command};
@@ -10,86 +15,92 @@ use tool_session::{Opening, Openings};
 use tool_sockets::monotonic_millis;
 use tool_terminal::Verbosity;
 
-/// The letters of types, structures and modes (RFC 959, section 5.3.2), and the most that a number may be.
-pub const TYPE: ValueForm<'static> = ValueForm::One("A|I", &["A", "I"]);
+/// The letters of types (RFC 959, section 5.3.2).
+pub const TYPE: ValueKind<'static> = ValueKind::One("A|I", &["A", "I"]);
 
-pub const STRU: ValueForm<'static> = ValueForm::One("F|R", &["F", "R"]);
+/// Those of structures.
+pub const STRU: ValueKind<'static> = ValueKind::One("F|R", &["F", "R"]);
 
-pub const MODE: ValueForm<'static> = ValueForm::One("S|B", &["S", "B"]);
+/// Those of modes.
+pub const MODE: ValueKind<'static> = ValueKind::One("S|B", &["S", "B"]);
 
+/// The most that a number may be.
 pub const MOST: u64 = 4_294_967_295;
 
 /// For how many seconds a server may be silent, for all programs of a client.
 pub const TIMEOUT: Word<'static> = Word {
     name: "timeout",
-    form: Form::Else(ValueForm::Number("SECONDS", 0, MOST), "60"),
+    kind: WordKind::Else(ValueKind::Number("SECONDS", 0, MOST), "60"),
     help: "ends a control connection whose server says, takes and sends nothing for so long; 0: never",
 };
 
 /// For how many seconds all may take, for all programs of a client that ask at a place.
 pub const MAX_TIME: Word<'static> = Word {
     name: "max-time",
-    form: Form::Given(ValueForm::Number("SECONDS", 0, MOST)),
+    kind: WordKind::Given(ValueKind::Number("SECONDS", 0, MOST)),
     help: "ends what is asked after so many seconds in all, over all control connections; 0, and without it: never",
 };
 
 /// Who logs in, for all programs of a client that ask at a place.
 pub const USER: Word<'static> = Word {
     name: "user",
-    form: Form::Given(ValueForm::Text("U")),
+    kind: WordKind::Given(ValueKind::Text("U")),
     help: "who logs in; else whom a URL or .netrc names, and else anonymous",
 };
 
 /// Where its password is, for the same.
 pub const PASSWORD_FILE: Word<'static> = Word {
     name: "password-file",
-    form: Form::Given(ValueForm::Text("F")),
+    kind: WordKind::Given(ValueKind::Text("F")),
     help: "a file of mode 600 with the password",
 };
 
 /// Who opens the data connection, and by which commands, for the same.
 pub const ACTIVE: Word<'static> = Word {
     name: "active",
-    form: Form::Flag,
+    kind: WordKind::Flag,
     help: "the server opens the data connection",
 };
 
+/// That EPSV and EPRT alone are sent, for the same.
 pub const EXTENDED: Word<'static> = Word {
     name: "extended",
-    form: Form::Flag,
+    kind: WordKind::Flag,
     help: "data connections by EPSV and EPRT alone; else by PASV and PORT where the server does not know them",
 };
 
+/// That PASV and PORT alone are, for the same.
 pub const NO_EXTENDED: Word<'static> = Word {
     name: "no-extended",
-    form: Form::Flag,
+    kind: WordKind::Flag,
     help: "data connections over IPv4 by PASV and PORT alone",
 };
 
 /// What of standard error is told, for all programs of a client that ask at a place.
 pub const QUIET: Word<'static> = Word {
     name: "quiet",
-    form: Form::Letter('q'),
+    kind: WordKind::Letter('q'),
     help: "tells errors alone: no progress, no notes, no summary",
 };
 
 /// The most octets of a file.
 pub const LIMIT: Word<'static> = Word {
     name: "limit",
-    form: Form::Given(ValueForm::Number("OCTETS", 0, MOST_OCTETS)),
+    kind: WordKind::Given(ValueKind::Number("OCTETS", 0, MOST_OCTETS)),
     help: "the most octets of a file; of one that is held in memory 1 GiB where none are said",
 };
 
 /// How fast a transfer may be.
 pub const LIMIT_RATE: Word<'static> = Word {
     name: "limit-rate",
-    form: Form::Given(ValueForm::Name("OCTETS[K|M|G|T]")),
+    kind: WordKind::Given(ValueKind::Name("OCTETS[K|M|G|T]")),
     help: "the most octets a second over a data connection, K, M, G and T are powers of 1,024; 0, and without it: no limit",
 };
 
+/// Over how many control connections at once.
 pub const PARALLEL: Word<'static> = Word {
     name: "parallel",
-    form: Form::Else(ValueForm::Number("N", 1, 8), "1"),
+    kind: WordKind::Else(ValueKind::Number("N", 1, 8), "1"),
     help: "how many control connections there are at once, 1 to 8",
 };
 
@@ -98,7 +109,7 @@ const MOST_OCTETS: u64 = 999_999_999_999_999_999;
 
 /// The name of a value, and what it has to be.
 #[derive(Clone, Copy)]
-pub enum ValueForm<'a> {
+pub enum ValueKind<'a> {
     /// Any text.
     Text(&'a str),
     /// Any text but the empty one.
@@ -109,59 +120,59 @@ pub enum ValueForm<'a> {
     One(&'a str, &'a [&'a str]),
 }
 
-impl<'a> ValueForm<'a> {
+impl<'a> ValueKind<'a> {
     fn name(self) -> &'a str {
         match self {
-            ValueForm::Text(name) | ValueForm::Name(name) => name,
-            ValueForm::Number(name, _, _) => name,
-            ValueForm::One(name, _) => name,
+            ValueKind::Text(name) | ValueKind::Name(name) => name,
+            ValueKind::Number(name, _, _) => name,
+            ValueKind::One(name, _) => name,
         }
     }
 
     fn parser(self) -> ValueParser<'a> {
         match self {
-            ValueForm::Text(_) => ValueParser::String,
-            ValueForm::Name(_) => ValueParser::NonEmptyString,
-            ValueForm::Number(_, first, last) => ValueParser::Unsigned(first, last),
-            ValueForm::One(_, words) => ValueParser::Names(words),
+            ValueKind::Text(_) => ValueParser::String,
+            ValueKind::Name(_) => ValueParser::NonEmptyString,
+            ValueKind::Number(_, first, last) => ValueParser::Unsigned(first, last),
+            ValueKind::One(_, words) => ValueParser::Names(words),
         }
     }
 }
 
 /// What a word of a command line is.
 #[derive(Clone, Copy)]
-pub enum Form<'a> {
+pub enum WordKind<'a> {
     /// An option without a value.
     Flag,
     /// The same, which one letter says too.
     Letter(char),
     /// An option with a value.
-    Given(ValueForm<'a>),
+    Given(ValueKind<'a>),
     /// An option with a value, which may be there several times.
-    Many(ValueForm<'a>),
+    Many(ValueKind<'a>),
     /// An option that has to be there, with a value.
-    Needed(ValueForm<'a>),
+    Needed(ValueKind<'a>),
     /// An option with a value, and the value where it is not there.
-    Else(ValueForm<'a>, &'a str),
+    Else(ValueKind<'a>, &'a str),
     /// A word that is no option and has to be there.
-    NeededPlace(ValueForm<'a>),
+    NeededPlace(ValueKind<'a>),
     /// Words that are no options, of which one has to be there; options may stand between them. Nothing comes after them: `clap` would take the last one
     /// before an option for what comes.
-    NeededPlaces(ValueForm<'a>),
+    NeededPlaces(ValueKind<'a>),
 }
 
-impl<'a> Form<'a> {
+impl<'a> WordKind<'a> {
     /// What becomes of a value.
     fn action(self) -> ArgAction {
         match self {
-            Form::Many(_) | Form::NeededPlaces(_) => ArgAction::Append,
+            WordKind::Many(_) | WordKind::NeededPlaces(_) => ArgAction::Append,
             _ => ArgAction::Set,
         }
     }
 
     fn is_needed(self) -> bool {
         match self {
-            Form::Needed(_) | Form::NeededPlace(_) | Form::NeededPlaces(_) => true,
+            WordKind::Needed(_) | WordKind::NeededPlace(_) | WordKind::NeededPlaces(_) => true,
             _ => false,
         }
     }
@@ -171,7 +182,7 @@ impl<'a> Form<'a> {
 #[derive(Clone, Copy)]
 pub struct Word<'a> {
     pub name: &'a str,
-    pub form: Form<'a>,
+    pub kind: WordKind<'a>,
     pub help: &'a str,
 }
 
@@ -217,19 +228,23 @@ fn put_args<'a>(
     Ok(())
 }
 
+/// What `clap` makes of a word.
 fn arg_of<'a>(alloc: Global, word: Word<'a>) -> Arg<'a> {
-    match word.form {
-        Form::Flag => flag(alloc, word),
-        Form::Letter(letter) => flag(alloc, word).short(letter),
-        Form::Given(value) | Form::Many(value) | Form::Needed(value) => option(alloc, word, value),
-        Form::Else(value, other) => option(alloc, word, value).default_value(other),
-        Form::NeededPlace(value) => place(alloc, word, value),
-        Form::NeededPlaces(value) => {
-            place(alloc, word, value).num_args(ValueRange::from(1usize..))
+    match word.kind {
+        WordKind::Flag => flag(alloc, word),
+        WordKind::Letter(letter) => flag(alloc, word).short(letter),
+        WordKind::Given(value) | WordKind::Many(value) | WordKind::Needed(value) => option(
+            alloc, word, value,
+        ),
+        WordKind::Else(value, other) => option(alloc, word, value).default_value(other),
+        WordKind::NeededPlace(value) => value_arg(alloc, word, value),
+        WordKind::NeededPlaces(value) => {
+            value_arg(alloc, word, value).num_args(ValueRange::from(1usize..))
         }
     }
 }
 
+/// An option without a value.
 fn flag<'a>(alloc: Global, word: Word<'a>) -> Arg<'a> {
     Arg::new(alloc, word.name)
         .help(word.help)
@@ -237,21 +252,27 @@ fn flag<'a>(alloc: Global, word: Word<'a>) -> Arg<'a> {
         .action(ArgAction::SetTrue)
 }
 
-fn option<'a>(alloc: Global, word: Word<'a>, value: ValueForm<'a>) -> Arg<'a> {
-    place(alloc, word, value).long(word.name)
+/// An option with a value.
+fn option<'a>(alloc: Global, word: Word<'a>, value: ValueKind<'a>) -> Arg<'a> {
+    value_arg(alloc, word, value).long(word.name)
 }
 
-fn place<'a>(alloc: Global, word: Word<'a>, value: ValueForm<'a>) -> Arg<'a> {
+/// A word with a value, which is no option yet.
+fn value_arg<'a>(alloc: Global, word: Word<'a>, value: ValueKind<'a>) -> Arg<'a> {
     Arg::new(alloc, word.name)
         .help(word.help)
         .value_name(value.name())
         .value_parser(value.parser())
-        .action(word.form.action())
-        .required(word.form.is_needed())
+        .action(word.kind.action())
+        .required(word.kind.is_needed())
 }
 
 /// The first where an option without a value is there, and else the second.
-pub fn chosen<T: Copy>(matches: &ArgMatches<'_>, option: &str, given: T, other: T) -> T {
+pub fn chosen<T: Copy>(matches: &ArgMatches<'_>, option: &str, given: T, other: T) -> T
+    // Witness: equations; `edits/an_option_that_is_given_is_not_heeded`.
+    ensures given { one_text (found_of matches.now) option.now ≡ Some (codes "true") → result ≡ given }
+    ensures other { one_text (found_of matches.now) option.now ≡ None → result ≡ other }
+{
     if matches.get_flag(option) {
         given
     } else {
@@ -268,7 +289,12 @@ pub fn told_of(matches: &ArgMatches<'_>) -> Verbosity {
 }
 
 /// The text that an option has; empty where it is not there.
-pub fn text_in<'a>(matches: &'a ArgMatches<'_>, option: &str) -> &'a str {
+pub fn text_in<'a>(matches: &'a ArgMatches<'_>, option: &str) -> &'a str
+    // Witness: equations; `edits/no_option_has_a_text`.
+    ensures some { (text : List ℕ) → first_value (found_of matches.now) option.now ≡ Some text
+        → result.now ≡ text }
+    ensures none { first_value (found_of matches.now) option.now ≡ None → result.now ≡ [] }
+{
     match matches.get_str(option) {
         Some(text) => text,
         None => "",
@@ -282,43 +308,21 @@ pub fn number_in(matches: &ArgMatches<'_>, option: &str) -> Option<u32> {
 
 /// The seconds of `--timeout`; refused where they are no number.
 pub fn timeout_in<'a>(matches: &'a ArgMatches<'_>) -> Result<u32, UsageError<'a>> {
-    let timeout = text_in(matches, "timeout");
-    match number_of(timeout) {
-        Some(seconds) => Ok(seconds),
-        None => Err(UsageError::of(
-            "--timeout <SECONDS>",
-            timeout,
-            "decimal digits alone are wanted",
-        )),
-    }
+    timeout_by(text_in(matches, "timeout"))
 }
 
 /// Until when all is to be done, as `--max-time` says from now on, in milliseconds of the monotonic clock; none where it says none.
 pub fn until_in<'a>(matches: &'a ArgMatches<'_>) -> Result<Option<u64>, UsageError<'a>> {
-    let text = text_in(matches, "max-time");
-    if text.is_empty() {
+    let Some(seconds) = max_time_by(matches.get_str("max-time"))? else {
         return Ok(None);
-    }
-    match number_of(text) {
-        Some(0) => Ok(None),
-        Some(seconds) => {
-            let millis = u64::from(seconds) * 1_000;
-            Ok(Some(monotonic_millis().saturating_add(millis)))
-        }
-        None => Err(UsageError::of(
-            "--max-time <SECONDS>",
-            text,
-            "decimal digits alone are wanted",
-        )),
-    }
+    };
+    let millis = u64::from(seconds) * 1_000;
+    Ok(Some(monotonic_millis().saturating_add(millis)))
 }
 
 /// How many control connections there are at once, as `--parallel` says, and one where it is none of the options.
 pub fn at_once_in<'a>(matches: &'a ArgMatches<'_>) -> Result<u32, UsageError<'a>> {
-    if text_in(matches, "parallel").is_empty() {
-        return Ok(1);
-    }
-    match number_in(matches, "parallel") {
+    match number_or(matches.get_str("parallel"), 1) {
         Some(count) => Ok(count),
         None => Err(UsageError::Number),
     }
@@ -346,31 +350,23 @@ pub fn openings_of(matches: &ArgMatches<'_>) -> Openings {
 }
 
 /// The most octets that a file may have, as `--limit` says, and any number where it is not there; refused where they are no number.
-pub fn limit_in<'a>(matches: &'a ArgMatches<'_>) -> Result<u64, UsageError<'a>> {
-    let limit = text_in(matches, "limit");
-    if limit.is_empty() {
-        return Ok(u64::MAX);
-    }
-    match octets_of(limit) {
-        Some(octets) => Ok(octets),
-        None => Err(UsageError::of("--limit <OCTETS>", limit, "decimal digits alone are wanted")),
-    }
+pub fn limit_in<'a>(matches: &'a ArgMatches<'_>) -> Result<u64, UsageError<'a>>
+    ensures some { IfOk result (λ most.
+        SaysOctetLimit (first_value (found_of matches.now) (codes "limit")) most) }
+    ensures none { OnErr result ((most : ℕ)
+        → ¬ SaysOctetLimit (first_value (found_of matches.now) (codes "limit")) most) }
+{
+    octet_limit_by(matches.get_str("limit"))
 }
 
 /// The most octets a second, as `--limit-rate` says, and 0 where it is not there; refused where they are no number.
-pub fn rate_in<'a>(matches: &'a ArgMatches<'_>) -> Result<u64, UsageError<'a>> {
-    let text = text_in(matches, "limit-rate");
-    if text.is_empty() {
-        return Ok(0);
-    }
-    match amount_of(text) {
-        Some(rate) => Ok(rate),
-        None => Err(UsageError::of(
-            "--limit-rate <OCTETS[K|M|G|T]>",
-            text,
-            "decimal digits are wanted, and K, M, G or T after them or nothing, less than 2^64 in all",
-        )),
-    }
+pub fn rate_in<'a>(matches: &'a ArgMatches<'_>) -> Result<u64, UsageError<'a>>
+    ensures some { IfOk result (λ rate.
+        SaysRate (first_value (found_of matches.now) (codes "limit-rate")) rate) }
+    ensures none { OnErr result ((rate : ℕ)
+        → ¬ SaysRate (first_value (found_of matches.now) (codes "limit-rate")) rate) }
+{
+    rate_by(matches.get_str("limit-rate"))
 }
 
 /// Type, structure and mode, each by its letter.

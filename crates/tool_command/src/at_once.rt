@@ -1,6 +1,6 @@
 // How many clients `serve` serves at once, as its words say it.
 ghost use Rattle.std.specs.Prelude.{◌≡◌, ℕ, IfOk, OnErr, option_map};
-ghost use Rattle.tool_command.specs.Crowd.{SaysAtOnce, SaysPerHost, unsaid_at_once, unsaid_per_host};
+ghost use Rattle.tool_command.specs.AtOnce.{SaysAtOnce, SaysPerHost, unsaid_at_once, unsaid_per_host};
 
 use crate::refusal::UsageError;
 use tool_codec::number_of;
@@ -11,8 +11,10 @@ pub(crate) fn at_once_by(
     word: Option<&str>,
     sessions: SessionCount,
 ) -> Result<usize, UsageError<'_>>
-    ensures some { IfOk result (λ count. SaysAtOnce (option_map (λ word. word.now) word.entry) sessions count) }
-    ensures none { OnErr result ((count : ℕ) → ¬ SaysAtOnce (option_map (λ word. word.now) word.entry) sessions count) }
+    ensures some { IfOk result (λ count.
+        SaysAtOnce (option_map (λ word. word.now) word.entry) sessions count) }
+    ensures none { OnErr result ((count : ℕ)
+        → ¬ SaysAtOnce (option_map (λ word. word.now) word.entry) sessions count) }
 {
     let Some(word) = word else {
         return Ok(unsaid_at_once(sessions));
@@ -25,8 +27,10 @@ pub(crate) fn at_once_by(
 
 /// How many of them from one address: where nothing is said, one less than in all, but one at least.
 pub(crate) fn per_host_by(word: Option<&str>, at_once: usize) -> Result<usize, UsageError<'_>>
-    ensures some { IfOk result (λ count. SaysPerHost (option_map (λ word. word.now) word.entry) at_once count) }
-    ensures none { OnErr result ((count : ℕ) → ¬ SaysPerHost (option_map (λ word. word.now) word.entry) at_once count) }
+    ensures some { IfOk result (λ count.
+        SaysPerHost (option_map (λ word. word.now) word.entry) at_once count) }
+    ensures none { OnErr result ((count : ℕ)
+        → ¬ SaysPerHost (option_map (λ word. word.now) word.entry) at_once count) }
 {
     let Some(word) = word else {
         return Ok(unsaid_per_host(at_once));
@@ -41,6 +45,7 @@ pub(crate) fn per_host_by(word: Option<&str>, at_once: usize) -> Result<usize, U
     }
 }
 
+/// How many at once where no word says it.
 fn unsaid_at_once(sessions: SessionCount) -> usize
     ensures { result ≡ unsaid_at_once sessions }
 {
@@ -50,6 +55,7 @@ fn unsaid_at_once(sessions: SessionCount) -> usize
     }
 }
 
+/// How many of one address where no word says it.
 fn unsaid_per_host(at_once: usize) -> usize
     ensures { result ≡ unsaid_per_host at_once }
 {

@@ -4,7 +4,7 @@ use Rattle.tool_command.specs.Numbers.{SaysBelow}
 use Rattle.tool_serve.specs.declared.sessions.SessionCount.{SessionCount}
 use Rattle.tool_serve.specs.declared.sessions.SessionCount.TheVariants.{Count, Forever}
 
--- a number from 1 to 64
+-- a number of clients, from 1 to 64
 abbrev pub SaysCount : List ℕ → ℕ → Type 0
 SaysCount word count = SaysBelow (2 ^ 32) word count × (1 ≤ count) × (count ≤ 64)
 
@@ -13,6 +13,7 @@ abbrev pub unsaid_at_once : SessionCount → ℕ
 unsaid_at_once (Count n) = 1
 unsaid_at_once Forever = 32
 
+-- how many are served at once is what its word says, or what holds without one
 abbrev pub SaysAtOnce : Option (List ℕ) → SessionCount → ℕ → Type 0
 SaysAtOnce None sessions count = count ≡ unsaid_at_once sessions
 SaysAtOnce (Some word) sessions count = SaysCount word count
@@ -21,6 +22,7 @@ SaysAtOnce (Some word) sessions count = SaysCount word count
 abbrev pub unsaid_per_host : ℕ → ℕ
 unsaid_per_host at_once = max 1 (at_once - 1)
 
+-- how many of one address is what its word says, or what holds without one
 abbrev pub SaysPerHost : Option (List ℕ) → ℕ → ℕ → Type 0
 SaysPerHost None at_once count = count ≡ unsaid_per_host at_once
 SaysPerHost (Some word) at_once count = SaysCount word count

@@ -1,6 +1,6 @@
 use Rattle.std.proofs.Common.{option_map, subst}
 use Rattle.tool_command.specs.Serving.{SaysLimit}
-use Rattle.tool_command.proofs.serving.most_by.Goals as goal
+use Rattle.tool_command.proofs.serve_values.most_by.Goals as goal
 
 pub returns-in-None-clause-none : goal.returns-in-None-clause-none
 returns-in-None-clause-none c =
