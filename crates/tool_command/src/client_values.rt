@@ -31,11 +31,13 @@ pub(crate) fn max_time_by(word: Option<&str>) -> Result<Option<u32>, UsageError<
     let Some(word) = word else {
         return Ok(None);
     };
-    match number_of(word) {
-        Some(0) => Ok(None),
-        Some(seconds) => Ok(Some(seconds)),
-        None => Err(UsageError::of("--max-time <SECONDS>", word, DIGITS_WANTED)),
+    let Some(seconds) = number_of(word) else {
+        return Err(UsageError::of("--max-time <SECONDS>", word, DIGITS_WANTED));
+    };
+    if seconds == 0 {
+        return Ok(None);
     }
+    Ok(Some(seconds))
 }
 
 /// The most octets of a file.
