@@ -166,7 +166,7 @@ impl Changes {
 /// What a look found.
 pub struct Findings {
     /// The place that was asked for.
-    asked: String<Global>,
+    pub(crate) asked: String<Global>,
     changes: Changes,
     /// How the directory there, or that it is in, looked before its names were listed, if they were.
     listed: Option<Seen>,
@@ -194,7 +194,8 @@ impl Findings {
         listed: Option<Seen>,
         why: Option<Reason>,
     ) -> Findings
-        ensures { result.changes ≡ changes }
+        ensures asked { result.asked ≡ asked }
+        ensures changes { result.changes ≡ changes }
     {
         Findings {
             asked,

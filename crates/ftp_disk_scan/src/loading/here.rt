@@ -1,12 +1,17 @@
 // A directory that is looked at or walked.
+ghost use Rattle.std.specs.Prelude.{◌≡◌, ◌++◌, OnOk, codes, string_bytes};
+
 use crate::loading::roots::Roots;
 use ftp_path::{Path, PathFault};
 use std::alloc::{AllocError, Global};
 
-/// A directory: its place on the disk, and its path below the deepest root that is at it or above it.
+/// A directory, as a place on the disk and as a path of the tree.
 pub struct Here {
+    /// Its place on the disk: a `/` before each name.
     pub below: String<Global>,
+    /// The deepest root that is at it or above it.
     pub root: Path<Global>,
+    /// Its path below that root.
     pub path: Path<Global>,
 }
 
@@ -48,7 +53,11 @@ impl Here {
     }
 
     /// Writes the place of a name in it.
-    pub fn put_place(&self, name: &str, place: &mut String<Global>) -> Result<(), AllocError> {
+    pub fn put_place(&self, name: &str, place: &mut String<Global>) -> Result<(), AllocError>
+        // Witness: an equation; `edits/a_name_stands_beside_its_directory`.
+        ensures { OnOk result
+            (string_bytes place.new ≡ string_bytes self.now.below ++ codes "/" ++ name.now) }
+    {
         place.clear();
         place.push_str(self.below.as_str())?;
         place.push_str("/")?;

@@ -1,4 +1,7 @@
 // The way to a path, name by name, until one is not as the tree has it; and what others changed there. Nothing of the tree is changed.
+ghost use Rattle.std.specs.Prelude.{◌≡◌, ◌++◌, IfOk, string_bytes};
+ghost use Rattle.ftp_path.specs.Path.{joined};
+
 use crate::loading::{
     Changes, Dirs, Findings, Had, Held, Here, Reason, Roots, Version, below_of, had_at,
 };
@@ -24,7 +27,10 @@ pub fn look_at<H: Host, K: Held, B: Allocator + Copy, C: Allocator + Copy>(
     root: &Path<B>,
     path: &Path<C>,
     sight: Sight,
-) -> io::Result<Findings> {
+) -> io::Result<Findings>
+    // Witness: an equation; `edits/a_look_is_of_the_root`.
+    ensures { IfOk result (λ findings. string_bytes findings.asked ≡ joined root.now ++ joined path.now) }
+{
     let asked = below_of(host.memory(), root, path)?;
     match go_down(host, nodes, &dirs.roots, asked.as_str())? {
         Way::Differs(changes) => Ok(Findings::new(asked, changes, None, None)),
@@ -42,7 +48,9 @@ pub fn look_at<H: Host, K: Held, B: Allocator + Copy, C: Allocator + Copy>(
 }
 
 /// What was found in a directory.
-fn findings_of(asked: String<Global>, found: Within) -> Findings {
+fn findings_of(asked: String<Global>, found: Within) -> Findings
+    ensures { result.asked ≡ asked }
+{
     let (changes, listed) = found.into_parts();
     Findings::new(asked, changes, listed, None)
 }
