@@ -33,6 +33,7 @@ use Rattle.laws_dialogues.proofs.LoginTurns.{no_asking, asked_text}
 use Rattle.laws_dialogues.proofs.Offering.{down_job}
 use Rattle.laws_dialogues.proofs.ServerTurns.{aside_idle, cleared}
 use Rattle.laws_agreement.specs.Stages.{Sent, Granted, Denied, NoReply, Unclosed, Lost, Giving, Given, Refusing, Unopened, Stage, PortAsked, PortTold, Dials, Restarts, Retrieves, Carries, Rises, Tells, Answers, Holds, AtFetch, Early, Dialled, Ported, at_port, early_far, PortWanted, PortSaid, PortTaken, PortDenied, Awaits, Unaccepted, Dismissed}
+use Rattle.laws_agreement.proofs.Placing.{at_stage}
 use Rattle.laws_agreement.proofs.Sessions.{fixed, forgotten_on, idle_at, linked_on}
 use Rattle.laws_agreement.proofs.UploadAsked.{no_line, stor_broken, stor_open}
 
@@ -71,20 +72,8 @@ module _ (read : Reading) (reads : IsReading read) (state : State) (ask : Ask) (
         },
         inr (
           Restarts at Granted early,
-          record {
-            near = h.near;
-            session = linked_on b.far.session (early_far b.near.here early) false Pendings.Nothing (Pendings.Restart at) h.session;
-            steady = h.steady;
-            timed = h.timed;
-            ready = h.ready;
-            link = h.link;
-            to_server = h.to_server;
-            to_client = h.to_client;
-            came = h.came;
-            marked = h.marked;
-            way_is = refl;
-            fine = (h.fine.0, none);
-          },
+          at_stage h.near (linked_on b.far.session (early_far b.near.here early) false Pendings.Nothing (Pendings.Restart at) h.session) h.steady h.timed
+              h.ready h.link h.to_server h.to_client h.came h.marked refl (h.fine.0, none),
         ),
       )
       by_why (Some why) some = (
@@ -96,20 +85,8 @@ module _ (read : Reading) (reads : IsReading read) (state : State) (ask : Ask) (
         },
         inr (
           Restarts at (Denied why) early,
-          record {
-            near = h.near;
-            session = linked_on b.far.session (early_far b.near.here early) false Pendings.Nothing Pendings.Nothing h.session;
-            steady = h.steady;
-            timed = h.timed;
-            ready = h.ready;
-            link = h.link;
-            to_server = h.to_server;
-            to_client = h.to_client;
-            came = h.came;
-            marked = h.marked;
-            way_is = refl;
-            fine = (h.fine.0, some);
-          },
+          at_stage h.near (linked_on b.far.session (early_far b.near.here early) false Pendings.Nothing Pendings.Nothing h.session) h.steady h.timed h.ready
+              h.link h.to_server h.to_client h.came h.marked refl (h.fine.0, some),
         ),
       )
 
@@ -132,20 +109,9 @@ module _ (read : Reading) (reads : IsReading read) (state : State) (ask : Ask) (
         },
         inr (
           Carries (record { course = Unopened; came = []; queue = [] }),
-          record {
-            near = h.near ∙ ap (λ job. busy job (NearData.Over Endings.Broken) b.near) (down_job ask down Replies.Nothing);
-            session = linked_on b.far.session FarData.Free false (offset_pending ask.offset) Pendings.Nothing h.session;
-            steady = h.steady;
-            timed = h.timed;
-            ready = h.ready;
-            link = h.link;
-            to_server = h.to_server;
-            to_client = h.to_client;
-            came = h.came;
-            marked = h.marked;
-            way_is = refl;
-            fine = (refl, refl);
-          },
+          at_stage (h.near ∙ ap (λ job. busy job (NearData.Over Endings.Broken) b.near) (down_job ask down Replies.Nothing))
+              (linked_on b.far.session FarData.Free false (offset_pending ask.offset) Pendings.Nothing h.session) h.steady h.timed h.ready h.link h.to_server
+              h.to_client h.came h.marked refl (refl, refl),
         ),
       )
       by_why (Some why) some = (
@@ -157,20 +123,9 @@ module _ (read : Reading) (reads : IsReading read) (state : State) (ask : Ask) (
         },
         inr (
           Carries (record { course = Refusing why (Lost false); came = []; queue = [] }),
-          record {
-            near = h.near ∙ ap (λ job. busy job (NearData.Over Endings.Broken) b.near) (down_job ask down Replies.Nothing);
-            session = forgotten_on b.far.session FarData.Free (offset_pending ask.offset) h.session;
-            steady = h.steady;
-            timed = h.timed;
-            ready = h.ready;
-            link = h.link;
-            to_server = h.to_server;
-            to_client = h.to_client;
-            came = h.came;
-            marked = h.marked;
-            way_is = refl;
-            fine = (good.refuses.refused state why h.fine some, (refl, refl));
-          },
+          at_stage (h.near ∙ ap (λ job. busy job (NearData.Over Endings.Broken) b.near) (down_job ask down Replies.Nothing))
+              (forgotten_on b.far.session FarData.Free (offset_pending ask.offset) h.session) h.steady h.timed h.ready h.link h.to_server h.to_client h.came
+              h.marked refl (good.refuses.refused state why h.fine some, (refl, refl)),
         ),
       )
 
@@ -199,20 +154,9 @@ module _ (read : Reading) (reads : IsReading read) (state : State) (ask : Ask) (
         },
         inr (
           Carries (record { course = Given NoReply false; came = []; queue = [] }),
-          record {
-            near = h.near ∙ ap (λ job. busy job NearData.Open b.near) (down_job ask down Replies.Nothing);
-            session = λ i. record (forgotten (giving ask.listed [] b.far)) { closing = (h.session i).closing || true; life = (h.session i).life };
-            steady = h.steady;
-            timed = h.timed;
-            ready = h.ready;
-            link = h.link;
-            to_server = h.to_server;
-            to_client = h.to_client;
-            came = h.came;
-            marked = h.marked;
-            way_is = refl;
-            fine = ((none, answers.refused state h.fine ∙ none, answers), sym empty, tt);
-          },
+          at_stage (h.near ∙ ap (λ job. busy job NearData.Open b.near) (down_job ask down Replies.Nothing))
+              (λ i. record (forgotten (giving ask.listed [] b.far)) { closing = (h.session i).closing || true; life = (h.session i).life }) h.steady h.timed
+              h.ready h.link h.to_server h.to_client h.came h.marked refl ((none, answers.refused state h.fine ∙ none, answers), sym empty, tt),
         ),
       )
       by_why None none (octet ∷ more) some = (
@@ -224,20 +168,9 @@ module _ (read : Reading) (reads : IsReading read) (state : State) (ask : Ask) (
         },
         inr (
           Carries (record { course = Giving false octet more; came = []; queue = [] }),
-          record {
-            near = h.near ∙ ap (λ job. busy job NearData.Open b.near) (down_job ask down Replies.Nothing);
-            session = λ i. record (giving ask.listed (octet ∷ more) b.far) { closing = (h.session i).closing; life = (h.session i).life };
-            steady = h.steady;
-            timed = h.timed;
-            ready = h.ready;
-            link = h.link;
-            to_server = h.to_server;
-            to_client = h.to_client;
-            came = h.came;
-            marked = h.marked;
-            way_is = refl;
-            fine = ((none, answers.refused state h.fine ∙ none, answers), sym some, tt);
-          },
+          at_stage (h.near ∙ ap (λ job. busy job NearData.Open b.near) (down_job ask down Replies.Nothing))
+              (λ i. record (giving ask.listed (octet ∷ more) b.far) { closing = (h.session i).closing; life = (h.session i).life }) h.steady h.timed h.ready
+              h.link h.to_server h.to_client h.came h.marked refl ((none, answers.refused state h.fine ∙ none, answers), sym some, tt),
         ),
       )
       by_why (Some why) some octets is = (
@@ -249,20 +182,9 @@ module _ (read : Reading) (reads : IsReading read) (state : State) (ask : Ask) (
         },
         inr (
           Carries (record { course = Refusing why Unclosed; came = []; queue = [] }),
-          record {
-            near = h.near ∙ ap (λ job. busy job NearData.Open b.near) (down_job ask down Replies.Nothing);
-            session = forgotten_on b.far.session FarData.Ready (offset_pending ask.offset) h.session;
-            steady = h.steady;
-            timed = h.timed;
-            ready = h.ready;
-            link = h.link;
-            to_server = h.to_server;
-            to_client = h.to_client;
-            came = h.came;
-            marked = h.marked;
-            way_is = refl;
-            fine = (good.refuses.refused state why h.fine some, (refl, refl));
-          },
+          at_stage (h.near ∙ ap (λ job. busy job NearData.Open b.near) (down_job ask down Replies.Nothing))
+              (forgotten_on b.far.session FarData.Ready (offset_pending ask.offset) h.session) h.steady h.timed h.ready h.link h.to_server h.to_client h.came
+              h.marked refl (good.refuses.refused state why h.fine some, (refl, refl)),
         ),
       )
 
@@ -285,20 +207,9 @@ module _ (read : Reading) (reads : IsReading read) (state : State) (ask : Ask) (
         },
         inr (
           Awaits port false,
-          record {
-            near = h.near;
-            session = λ i. record (connecting (carried ask.sends ask state) (at_port b.near.here port) b.far) { closing = (h.session i).closing; life = (h.session i).life };
-            steady = h.steady;
-            timed = h.timed;
-            ready = h.ready;
-            link = h.link;
-            to_server = h.to_server;
-            to_client = h.to_client;
-            came = tt;
-            marked = h.marked;
-            way_is = refl;
-            fine = (none, h.fine);
-          },
+          at_stage h.near
+              (λ i. record (connecting (carried ask.sends ask state) (at_port b.near.here port) b.far) { closing = (h.session i).closing; life = (h.session i).life })
+              h.steady h.timed h.ready h.link h.to_server h.to_client tt h.marked refl (none, h.fine),
         ),
       )
       by_why (Some why) some = (
@@ -310,20 +221,8 @@ module _ (read : Reading) (reads : IsReading read) (state : State) (ask : Ask) (
         },
         inr (
           Dismissed port why,
-          record {
-            near = h.near;
-            session = forgotten_on b.far.session (FarData.Active (at_port b.near.here port)) (offset_pending ask.offset) h.session;
-            steady = h.steady;
-            timed = h.timed;
-            ready = h.ready;
-            link = h.link;
-            to_server = h.to_server;
-            to_client = h.to_client;
-            came = tt;
-            marked = h.marked;
-            way_is = refl;
-            fine = good.refuses.refused state why h.fine some;
-          },
+          at_stage h.near (forgotten_on b.far.session (FarData.Active (at_port b.near.here port)) (offset_pending ask.offset) h.session) h.steady h.timed
+              h.ready h.link h.to_server h.to_client tt h.marked refl (good.refuses.refused state why h.fine some),
         ),
       )
 
@@ -368,20 +267,9 @@ module _ (read : Reading) (reads : IsReading read) (state : State) (ask : Ask) (
         },
         inr (
           PortTaken port (is_standing connection),
-          record {
-            near = h.near;
-            session = λ i. record (at_endpoint (at_port b.near.here port) b.far) { closing = (h.session i).closing || is_standing (h.session i).connection; life = (h.session i).life };
-            steady = h.steady;
-            timed = h.timed;
-            ready = (h.ready known, known);
-            link = h.link;
-            to_server = h.to_server;
-            to_client = h.to_client;
-            came = tt;
-            marked = h.marked;
-            way_is = refl;
-            fine = tt;
-          },
+          at_stage h.near
+              (λ i. record (at_endpoint (at_port b.near.here port) b.far) { closing = (h.session i).closing || is_standing (h.session i).connection; life = (h.session i).life })
+              h.steady h.timed (h.ready known, known) h.link h.to_server h.to_client tt h.marked refl tt,
         ),
       )
       by_known false unknown = (
@@ -393,20 +281,8 @@ module _ (read : Reading) (reads : IsReading read) (state : State) (ask : Ask) (
         },
         inr (
           PortDenied port connection,
-          record {
-            near = h.near;
-            session = linked_on b.far.session connection false pending Pendings.Nothing h.session;
-            steady = h.steady;
-            timed = h.timed;
-            ready = tt;
-            link = h.link;
-            to_server = h.to_server;
-            to_client = h.to_client;
-            came = tt;
-            marked = h.marked;
-            way_is = refl;
-            fine = (h.fine.0, unknown);
-          },
+          at_stage h.near (linked_on b.far.session connection false pending Pendings.Nothing h.session) h.steady h.timed tt h.link h.to_server h.to_client tt
+              h.marked refl (h.fine.0, unknown),
         ),
       )
 

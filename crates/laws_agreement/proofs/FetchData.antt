@@ -32,6 +32,7 @@ use Rattle.laws_agreement.proofs.CrossKeeps.{abort_crosses, rows_heard}
 use Rattle.laws_agreement.proofs.FetchLink.{Leads, hearing, listening, near_acts, fits_more, far_linked}
 use Rattle.laws_agreement.proofs.PeekBegins.{halts_at}
 use Rattle.laws_agreement.proofs.PeekTakes.{HasBegun, TakesAll, TakesEnough, halted, octets_come, receiving}
+use Rattle.laws_agreement.proofs.Placing.{at_stage}
 
 -- ---- where octets are given or taken
 
@@ -145,40 +146,16 @@ module _ (read : Reading) (state : State) (ask : Ask) (good : IsAsk ask) (sound 
           let given : List ℕ = queue ++ take n (octet ∷ more) in
           placed _ (record b { far = f; data_to_client = given }) (Answering (replies_in (Giving begun next later_on))) c (Giving begun next later_on) came given refl
           (λ i. record (world_at b (Answering (replies_in (Giving begun octet more))) c) { far = gives_some ask.listed n octet more b.far quiet c.owed h.session next later_on left i; data_to_client = moves i }) fits
-          (record {
-            near = h.near;
-            session = refl;
-            steady = h.steady;
-            timed = h.timed;
-            ready = h.ready;
-            link = h.link;
-            to_server = h.to_server;
-            to_client = refl;
-            came = h.came;
-            marked = h.marked;
-            way_is = refl;
-            fine = (h.fine.0, goes_on n came queue (octet ∷ more) (next ∷ later_on) _ left h.fine.1, h.fine.2);
-          })
+          (at_stage h.near refl h.steady h.timed h.ready h.link h.to_server refl h.came h.marked refl
+          (h.fine.0, goes_on n came queue (octet ∷ more) (next ∷ later_on) _ left h.fine.1, h.fine.2))
       by_left [] left =
           let f : Far = far_linked (linked FarData.Free true Pendings.Nothing b.far.session) b.far in
           let given : List ℕ = queue ++ take n (octet ∷ more) in
           placed _ (record b { far = f; data_to_client = given }) (Answering (replies_in (Given (heard_by begun) false))) (record c { owed = c.owed ++ reply_octets (fixed_reply Texts.Complete) })
           (Given (heard_by begun) false) came given refl
           (λ i. record (world_at b (Answering (replies_in (Giving begun octet more))) c) { far = gives_all ask.listed n octet more b.far quiet c.owed h.session left i; data_to_client = moves i }) (by_begun begun fits)
-          (record {
-            near = h.near;
-            session = refl;
-            steady = h.steady;
-            timed = h.timed;
-            ready = h.ready;
-            link = h.link;
-            to_server = h.to_server;
-            to_client = refl;
-            came = h.came;
-            marked = h.marked;
-            way_is = refl;
-            fine = (h.fine.0, ap (λ l. came ++ l) (sym (append-nil given)) ∙ goes_on n came queue (octet ∷ more) [] _ left h.fine.1, h.fine.2);
-          })
+          (at_stage h.near refl h.steady h.timed h.ready h.link h.to_server refl h.came h.marked refl
+          (h.fine.0, ap (λ l. came ++ l) (sym (append-nil given)) ∙ goes_on n came queue (octet ∷ more) [] _ left h.fine.1, h.fine.2))
 
   -- where the server has given all octets, no more are given and the stage stays
   given_pulls : (n : ℕ) (heard : Heard) (left : Bool) (came queue : List ℕ) (b : World) (c : Cut) → Fits (Answering (replies_in (Given heard left))) c
@@ -259,20 +236,8 @@ module _ (read : Reading) (state : State) (ask : Ask) (good : IsAsk ask) (sound 
       → Stands (carry (Giving begun octet more) came queue) (Answering (replies_in (Giving begun octet more))) b → Pushes n (replies_in (Giving begun octet more)) b c
   giving_pushes n begun octet more came queue b c few fits h =
       comes n (Giving begun octet more) (heard_by begun) came queue b c refl fits h.near h.to_client h.fine.2
-      (λ short. record {
-        near = refl;
-        session = h.session;
-        steady = h.steady;
-        timed = h.timed;
-        ready = h.ready;
-        link = h.link;
-        to_server = h.to_server;
-        to_client = refl;
-        came = counts_on n b.came came queue few h.came;
-        marked = h.marked;
-        way_is = refl;
-        fine = (h.fine.0, comes_on n came queue (octet ∷ more) _ h.fine.1, short);
-      }) (by_begun begun h)
+      (λ short. at_stage refl h.session h.steady h.timed h.ready h.link h.to_server refl (counts_on n b.came came queue few h.came) h.marked refl
+      (h.fine.0, comes_on n came queue (octet ∷ more) _ h.fine.1, short)) (by_begun begun h)
     where
       by_begun : (begun : Bool) → Stands (carry (Giving begun octet more) came queue) (Answering (replies_in (Giving begun octet more))) b
           → HasBegun state ask b.near (heard_by begun) → (first rest : List ℕ) → take n queue ≡ first ++ rest → is_filled ask.op ask.settings (came ++ first) ≡ true
@@ -330,20 +295,10 @@ module _ (read : Reading) (state : State) (ask : Ask) (good : IsAsk ask) (sound 
       → Stands (carry (Given heard left) came queue) (Answering (replies_in (Given heard left))) b → Pushes n (replies_in (Given heard left)) b c
   given_pushes n heard left came queue b c few fits h =
       comes n (Given heard left) heard came queue b c refl fits (h.near ∙ opened left came) h.to_client h.fine.2
-      (λ short. record {
-        near = sym (opened left (came ++ take n queue));
-        session = h.session;
-        steady = h.steady;
-        timed = h.timed;
-        ready = h.ready;
-        link = h.link;
-        to_server = h.to_server;
-        to_client = refl;
-        came = counts_on n b.came came queue few h.came;
-        marked = h.marked ∙ unmarked left (counted (length came)) ∙ sym (unmarked left (counted (length (came ++ take n queue))));
-        way_is = refl;
-        fine = (h.fine.0, comes_all n came queue _ h.fine.1, short);
-      }) (by_heard heard h)
+      (λ short. at_stage (sym (opened left (came ++ take n queue))) h.session h.steady h.timed h.ready h.link h.to_server refl
+      (counts_on n b.came came queue few h.came)
+      (h.marked ∙ unmarked left (counted (length came)) ∙ sym (unmarked left (counted (length (came ++ take n queue))))) refl
+      (h.fine.0, comes_all n came queue _ h.fine.1, short)) (by_heard heard h)
     where
       -- the client holds an open link
       opened : (left : Bool) (came : List ℕ) → busy (fetching ask.op (replied_of heard) ask.settings came) (near_link (left_tie left)) b.near ≡ receiving state ask b.near heard came

@@ -29,6 +29,7 @@ use Rattle.laws_agreement.specs.Stages.{Sent, Granted, Denied, NoReply, OneReply
 use Rattle.laws_agreement.proofs.Breaks.{behind_break, giving_break, left_breaks, left_ends, opened_breaks}
 use Rattle.laws_agreement.proofs.Fates.{said_fares, judged_whole, judged_cut, cut_told, cut_fares}
 use Rattle.laws_agreement.proofs.FetchLink.{Leads, fits_more, offer_breaks, rest_breaks, near_ends, near_breaks, near_ends_all, near_breaks_all, far_linked, ready_breaks, giving_breaks}
+use Rattle.laws_agreement.proofs.Placing.{at_stage}
 use Rattle.laws_agreement.proofs.UploadEvents.{lift_breaks, lift_ends}
 
 -- ---- how the link can't stand
@@ -78,20 +79,8 @@ module _ (read : Reading) (state : State) (ask : Ask)
       placed (own ++ Broken b.came ∷ []) _ (behind_break n f b) way c (Restarts at restart (Dialled false))
       (opened_breaks b way c n f fits h.link (subst (λ v. Leads near.data_fault v n) (sym h.near) (rest_breaks ask.op b.near))
       (ready_breaks b.far (Stages.pending_at state ask (Restarts at restart (Dialled true))) h.session)) fits
-      (record {
-        near = refl;
-        session = by_restart restart;
-        steady = h.steady;
-        timed = h.timed;
-        ready = h.ready;
-        link = refl;
-        to_server = refl;
-        to_client = refl;
-        came = h.came;
-        marked = marked_so (Broken b.came) h.marked ∙ ap (λ k. Broken k ∷ []) h.came;
-        way_is = h.way_is;
-        fine = h.fine;
-      })
+      (at_stage refl (by_restart restart) h.steady h.timed h.ready refl refl refl h.came (marked_so (Broken b.came) h.marked ∙ ap (λ k. Broken k ∷ []) h.came)
+      h.way_is h.fine)
     where
       by_restart : (restart : Restart)
           → linked FarData.Free false (Stages.pending_at state ask (Restarts at restart (Dialled true))) b.far.session
@@ -108,20 +97,7 @@ module _ (read : Reading) (state : State) (ask : Ask)
       placed (own ++ Broken b.came ∷ []) _ (behind_break n f b) way c (Retrieves (Dialled false))
       (opened_breaks b way c n f fits h.link (subst (λ v. Leads near.data_fault v n) (sym h.near) (offer_breaks ask.op (carrying ask.sends ask.settings) b.near))
       (ready_breaks b.far (offset_pending ask.offset) h.session)) fits
-      (record {
-        near = refl;
-        session = refl;
-        steady = h.steady;
-        timed = h.timed;
-        ready = h.ready;
-        link = refl;
-        to_server = refl;
-        to_client = refl;
-        came = h.came;
-        marked = marked_so (Broken b.came) h.marked ∙ ap (λ k. Broken k ∷ []) h.came;
-        way_is = h.way_is;
-        fine = h.fine;
-      })
+      (at_stage refl refl h.steady h.timed h.ready refl refl refl h.came (marked_so (Broken b.came) h.marked ∙ ap (λ k. Broken k ∷ []) h.came) h.way_is h.fine)
 
   abbrev carry : Course → (came queue : List ℕ) → Stage
   carry course came queue = Carries (record { course = course; came = came; queue = queue })
@@ -137,20 +113,8 @@ module _ (read : Reading) (state : State) (ask : Ask)
       (giving_break Texts.Broken b (replies_in (Giving begun octet more)) (replies_in (Severed begun)) c n f fits h.link
       (subst (λ v. Leads near.data_fault v n) (sym h.near) (near_breaks ask.op ask.settings came b.near begun))
       (giving_breaks ask.listed b.far Pendings.Nothing octet more h.session quiet c.owed)) (by_begun begun fits)
-      (record {
-        near = refl;
-        session = refl;
-        steady = h.steady;
-        timed = h.timed;
-        ready = h.ready;
-        link = refl;
-        to_server = refl;
-        to_client = refl;
-        came = h.came;
-        marked = broken_so b came h.marked h.came;
-        way_is = refl;
-        fine = (h.fine.0, ((queue ++ octet ∷ more, h.fine.1), refl));
-      })
+      (at_stage refl refl h.steady h.timed h.ready refl refl refl h.came (broken_so b came h.marked h.came) refl
+      (h.fine.0, ((queue ++ octet ∷ more, h.fine.1), refl)))
     where
       by_begun : (begun : Bool) → Fits (Answering (replies_in (Giving begun octet more))) c
           → Fits (Answering (replies_in (Severed begun))) (record c { owed = c.owed ++ reply_octets (fixed_reply Texts.Broken) })
@@ -164,20 +128,7 @@ module _ (read : Reading) (state : State) (ask : Ask)
       let n : Near = near_at (carry (Ended begun false) came []) b.near in
       placed (own ++ Broken b.came ∷ []) _ (behind_break n b.far b) way c (carry (Ended begun false) came [])
       (left_breaks b way c n fits h.link (subst (λ v. Leads near.data_fault v n) (sym h.near) (near_breaks ask.op ask.settings came b.near begun))) fits
-      (record {
-        near = refl;
-        session = h.session;
-        steady = h.steady;
-        timed = h.timed;
-        ready = h.ready;
-        link = refl;
-        to_server = refl;
-        to_client = refl;
-        came = h.came;
-        marked = broken_so b came h.marked h.came;
-        way_is = same;
-        fine = (h.fine.0, ((queue, h.fine.1), refl));
-      })
+      (at_stage refl h.session h.steady h.timed h.ready refl refl refl h.came (broken_so b came h.marked h.came) same (h.fine.0, ((queue, h.fine.1), refl)))
 
   -- a break behind both replies leads to the stage of the answer that tells what was cut
   given_all_broken : (came queue : List ℕ) (way : Way) (b : World) (c : Cut) → Fits way c → Stands own (carry (Given BothReplies true) came queue) way b → Breaks way b c
@@ -187,20 +138,8 @@ module _ (read : Reading) (state : State) (ask : Ask)
       placed (own ++ Broken b.came ∷ []) _ (behind_break n b.far b) way c (Answers (cut_told state ask good came) no_link)
       (left_breaks b way c n fits h.link (subst (λ v. Leads near.data_fault v n) (sym h.near)
       (near_breaks_all ask.op ask.settings came b.near (cut_told state ask good came) (judged_cut state ask good h.fine.0.2 226 came (inl refl) sound h.fine.0.0 (queue, h.fine.1))))) fits
-      (record {
-        near = refl;
-        session = h.session;
-        steady = h.steady;
-        timed = h.timed;
-        ready = tt;
-        link = refl;
-        to_server = refl;
-        to_client = refl;
-        came = tt;
-        marked = subst (λ l. length l ≤ 1) (sym marked) (omega arith);
-        way_is = h.way_is;
-        fine = (cut_fares state ask good h.fine.0.2 (own ++ Broken b.came ∷ []) came h.ready.1 h.fine.0.1 h.fine.0.0 (queue, h.fine.1) marked, refl);
-      })
+      (at_stage refl h.session h.steady h.timed tt refl refl refl tt (subst (λ l. length l ≤ 1) (sym marked) (omega arith)) h.way_is
+      (cut_fares state ask good h.fine.0.2 (own ++ Broken b.came ∷ []) came h.ready.1 h.fine.0.1 h.fine.0.0 (queue, h.fine.1) marked, refl))
 
   -- a break of the closed link under a refusal leads to the refusal with the link lost by a break
   refusing_broken : (why : Refusal) (came queue : List ℕ) (way : Way) (b : World) (c : Cut) → Fits way c → Stands own (carry (Refusing why Closed) came queue) way b → Breaks way b c
@@ -208,20 +147,7 @@ module _ (read : Reading) (state : State) (ask : Ask)
       let n : Near = near_at (carry (Refusing why (Lost false)) came []) b.near in
       placed (own ++ Broken b.came ∷ []) _ (behind_break n b.far b) way c (carry (Refusing why (Lost false)) came [])
       (left_breaks b way c n fits h.link (subst (λ v. Leads near.data_fault v n) (sym h.near) (near_breaks ask.op ask.settings came b.near false))) fits
-      (record {
-        near = refl;
-        session = h.session;
-        steady = h.steady;
-        timed = h.timed;
-        ready = h.ready;
-        link = refl;
-        to_server = refl;
-        to_client = refl;
-        came = h.came;
-        marked = broken_so b came h.marked h.came;
-        way_is = h.way_is;
-        fine = (h.fine.0, (h.fine.1.0, refl));
-      })
+      (at_stage refl h.session h.steady h.timed h.ready refl refl refl h.came (broken_so b came h.marked h.came) h.way_is (h.fine.0, (h.fine.1.0, refl)))
 
   -- a break at any course of the octets leads to a stage, if the course does not pass and a link stands
   carry_breaks : (course : Course) (came queue : List ℕ) (way : Way) (b : World) (c : Cut) → Fits way c → Stands own (carry course came queue) way b
@@ -279,20 +205,7 @@ module _ (read : Reading) (state : State) (ask : Ask)
       let n : Near = near_at (carry (Ended begun true) came []) b.near in
       placed own _ (record b { near = n; link = Gone; data_to_server = []; data_to_client = [] }) way c (carry (Ended begun true) came [])
       (left_ends b way c n fits (subst (λ v. Leads near.data_end v n) (sym h.near) (near_ends ask.op ask.settings came b.near begun))) fits
-      (record {
-        near = refl;
-        session = h.session;
-        steady = h.steady;
-        timed = h.timed;
-        ready = h.ready;
-        link = refl;
-        to_server = refl;
-        to_client = refl;
-        came = h.came;
-        marked = h.marked;
-        way_is = same;
-        fine = (h.fine.0, all_came came queue _ empty h.fine.1, refl);
-      })
+      (at_stage refl h.session h.steady h.timed h.ready refl refl refl h.came h.marked same (h.fine.0, all_came came queue _ empty h.fine.1, refl))
 
   -- the end behind the last octet and both replies leads to the stage of the answer
   given_all_ended : (came queue : List ℕ) (way : Way) (b : World) (c : Cut) → Fits way c → Stands own (carry (Given BothReplies true) came queue) way b → queue ≡ [] → EndsAt way b c
@@ -303,20 +216,8 @@ module _ (read : Reading) (state : State) (ask : Ask)
       (left_ends b way c n fits (subst (λ v. Leads near.data_end v n) (sym h.near)
       (near_ends_all ask.op ask.settings came b.near said
       (judged_whole state ask good h.fine.0.2 came (mark_in (no_octets ask.settings) None came) sound h.ready.1 h.fine.0.0 (all_came came queue _ empty h.fine.1))))) fits
-      (record {
-        near = refl;
-        session = h.session;
-        steady = h.steady;
-        timed = h.timed;
-        ready = tt;
-        link = refl;
-        to_server = refl;
-        to_client = refl;
-        came = tt;
-        marked = subst (λ l. length l ≤ 1) (sym h.marked) (omega arith);
-        way_is = h.way_is;
-        fine = (said_fares state ask good h.fine.0.2 own h.ready.1 h.fine.0.1, refl);
-      })
+      (at_stage refl h.session h.steady h.timed tt refl refl refl tt (subst (λ l. length l ≤ 1) (sym h.marked) (omega arith)) h.way_is
+      (said_fares state ask good h.fine.0.2 own h.ready.1 h.fine.0.1, refl))
 
   -- the end of the closed link under a refusal leads to the refusal with the link lost by a clean end
   refusing_ended : (why : Refusal) (came queue : List ℕ) (way : Way) (b : World) (c : Cut) → Fits way c → Stands own (carry (Refusing why Closed) came queue) way b → EndsAt way b c
@@ -324,20 +225,7 @@ module _ (read : Reading) (state : State) (ask : Ask)
       let n : Near = near_at (carry (Refusing why (Lost true)) came []) b.near in
       placed own _ (record b { near = n; link = Gone; data_to_server = []; data_to_client = [] }) way c (carry (Refusing why (Lost true)) came [])
       (left_ends b way c n fits (subst (λ v. Leads near.data_end v n) (sym h.near) (near_ends ask.op ask.settings came b.near false))) fits
-      (record {
-        near = refl;
-        session = h.session;
-        steady = h.steady;
-        timed = h.timed;
-        ready = h.ready;
-        link = refl;
-        to_server = refl;
-        to_client = refl;
-        came = h.came;
-        marked = h.marked;
-        way_is = h.way_is;
-        fine = (h.fine.0, (h.fine.1.0, refl));
-      })
+      (at_stage refl h.session h.steady h.timed h.ready refl refl refl h.came h.marked h.way_is (h.fine.0, (h.fine.1.0, refl)))
 
   -- the end of the link that the server has closed leads each stage that does not pass to a stage, if no octets are left
   pub stage_ends : (stage : Stage) (way : Way) (b : World) (c : Cut) → Fits way c → Stands own stage way b → is_closed_by_far b.link ≡ true → is_passing stage ≡ false → b.data_to_client ≡ []

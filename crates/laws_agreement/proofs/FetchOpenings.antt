@@ -44,6 +44,7 @@ use Rattle.laws_agreement.proofs.Fates.{refused_link_fares}
 use Rattle.laws_agreement.proofs.FetchLink.{fits_more, far_linked}
 use Rattle.laws_agreement.proofs.Keeps.{line_is_some, anew}
 use Rattle.laws_agreement.proofs.PeekBegins.{halts_at}
+use Rattle.laws_agreement.proofs.Placing.{at_stage}
 use Rattle.laws_agreement.proofs.Still.{no_octets as no_cut}
 use Rattle.laws_agreement.proofs.UploadOpenings.{upload_accepted}
 
@@ -131,20 +132,9 @@ module _ (read : Reading) (state : State) (ask : Ask) (good : IsAsk ask) (sound 
     -- a refused link is placed, with the mark of a refusal
     pub refused_placed : PlacedAt (At (own ++ Refused ∷ [])) (link_refused w)
     unfolding refused_base
-    refused_placed = placed (own ++ Refused ∷ []) (link_refused w) refused_base rest no_cut (Answers NotOpened port_aside) refused_is (tt, (refl, refl)) (record {
-      near = refl;
-      session = h.session;
-      steady = h.steady;
-      timed = h.timed;
-      ready = tt;
-      link = h.link;
-      to_server = h.to_server;
-      to_client = h.to_client;
-      came = tt;
-      marked = subst (λ l. length l ≤ 1) (sym (marked_so Refused h.marked)) (omega arith);
-      way_is = refl;
-      fine = (refused_link_fares state ask good (own ++ Refused ∷ []) (marked_so Refused h.marked), refl);
-    })
+    refused_placed = placed (own ++ Refused ∷ []) (link_refused w) refused_base rest no_cut (Answers NotOpened port_aside) refused_is (tt, (refl, refl)) (at_stage
+    refl h.session h.steady h.timed tt h.link h.to_server h.to_client tt (subst (λ l. length l ≤ 1) (sym (marked_so Refused h.marked)) (omega arith)) refl
+    (refused_link_fares state ask good (own ++ Refused ∷ []) (marked_so Refused h.marked), refl))
 
     -- the command that follows the opening is a line
     opened_line : IsLine (line_of (opened_command ask.offset ask))
@@ -167,34 +157,11 @@ module _ (read : Reading) (state : State) (ask : Ask) (good : IsAsk ask) (sound 
     opened_placed = by_offset ask.offset refl
       where
         by_offset : (o : Option ℕ) → ask.offset ≡ o → PlacedAt (At own) (link_opens w)
-        by_offset None e = opened_at (Retrieves (Dialled true)) (record {
-          near = ap (λ o. busy (opened_job o ask) NearData.Open b.near) e;
-          session = ap (λ o. linked FarData.Ready false o b.far.session) (sym (ap offset_pending e));
-          steady = h.steady;
-          timed = h.timed;
-          ready = h.ready;
-          link = refl;
-          to_server = h.to_server;
-          to_client = h.to_client;
-          came = refl;
-          marked = h.marked;
-          way_is = ap (λ o. Asking (line_of (opened_command o ask))) e;
-          fine = subst (IsPlacedAt ask.settings) (sym e) tt;
-        })
-        by_offset (Some at) e = opened_at (Restarts at Sent (Dialled true)) (record {
-          near = ap (λ o. busy (opened_job o ask) NearData.Open b.near) e;
-          session = refl;
-          steady = h.steady;
-          timed = h.timed;
-          ready = h.ready;
-          link = refl;
-          to_server = h.to_server;
-          to_client = h.to_client;
-          came = refl;
-          marked = h.marked;
-          way_is = ap (λ o. Asking (line_of (opened_command o ask))) e;
-          fine = (e, tt);
-        })
+        by_offset None e = opened_at (Retrieves (Dialled true)) (at_stage (ap (λ o. busy (opened_job o ask) NearData.Open b.near) e)
+        (ap (λ o. linked FarData.Ready false o b.far.session) (sym (ap offset_pending e))) h.steady h.timed h.ready refl h.to_server h.to_client refl h.marked
+        (ap (λ o. Asking (line_of (opened_command o ask))) e) (subst (IsPlacedAt ask.settings) (sym e) tt))
+        by_offset (Some at) e = opened_at (Restarts at Sent (Dialled true)) (at_stage (ap (λ o. busy (opened_job o ask) NearData.Open b.near) e) refl h.steady
+        h.timed h.ready refl h.to_server h.to_client refl h.marked (ap (λ o. Asking (line_of (opened_command o ask))) e) (e, tt))
 
   -- ---- the server has connected to the client's port, or could not
 
@@ -251,20 +218,8 @@ module _ (read : Reading) (state : State) (ask : Ask) (good : IsAsk ask) (sound 
         let far : far.data_opened b.near.here (still b.far) ≡ still f = accepts_far down (octet ∷ more) wire ∙ ap later (giving_on ask.listed octet more (still f)) in
         let opened : link_opens w ≡ world_at (accepted_base f) rest no_cut =
         ap link_opens is ∙ (λ i. record (accepted_base f) { near = accepts_near down false short i; far = far i; control_to_server = []; control_to_client = [] }) in
-        placed own (link_opens w) (accepted_base f) rest no_cut (carry (Giving true octet more) [] []) opened (tt, (refl, refl)) (record {
-          near = refl;
-          session = refl;
-          steady = h.steady;
-          timed = h.timed;
-          ready = h.ready;
-          link = refl;
-          to_server = h.to_server;
-          to_client = h.to_client;
-          came = refl;
-          marked = h.marked;
-          way_is = refl;
-          fine = (taken answers, sym wire, short);
-        })
+        placed own (link_opens w) (accepted_base f) rest no_cut (carry (Giving true octet more) [] []) opened (tt, (refl, refl)) (at_stage refl refl h.steady
+        h.timed h.ready refl h.to_server h.to_client refl h.marked refl (taken answers, sym wire, short))
 
     -- where none is to be given, the link that came is placed at the stage after the close
     accepts_none : ask.sends ≡ Down → HasAnswer ask → is_filled op ask.settings [] ≡ false → ask.wire state ≡ [] → PlacedAt (At own) (link_opens w)
@@ -278,20 +233,7 @@ module _ (read : Reading) (state : State) (ask : Ask) (good : IsAsk ask) (sound 
         placed own (link_opens w) (accepted_base f) (Answering (fixed_reply Texts.Complete ∷ [])) (record { held = []; moving = []; owed = owed })
         (carry (Given OneReply false) [] []) opened
         (fits_more [] (fixed_reply Texts.Complete) no_cut (replies_are_written b.far.session (Kinds.Fixed Texts.Complete) (fixed_reply Texts.Complete) tt refl) (tt, (refl, refl)))
-        (record {
-          near = refl;
-          session = refl;
-          steady = h.steady;
-          timed = h.timed;
-          ready = h.ready;
-          link = refl;
-          to_server = h.to_server;
-          to_client = h.to_client;
-          came = refl;
-          marked = h.marked;
-          way_is = refl;
-          fine = (taken answers, sym wire, short);
-        })
+        (at_stage refl refl h.steady h.timed h.ready refl h.to_server h.to_client refl h.marked refl (taken answers, sym wire, short))
 
     -- the same of a Peek that asks for no octet
     halt_base : Far → World
@@ -385,17 +327,4 @@ module _ (read : Reading) (state : State) (ask : Ask) (good : IsAsk ask) (sound 
         placed (own ++ Refused ∷ []) (link_refused w) unaccepted_base (Answering (fixed_reply Texts.NoConnection ∷ [])) (record { held = []; moving = []; owed = owed })
         (Unaccepted port) refused
         (fits_more [] (fixed_reply Texts.NoConnection) no_cut (replies_are_written b.far.session (Kinds.Fixed Texts.NoConnection) (fixed_reply Texts.NoConnection) tt refl) (tt, (refl, refl)))
-        (record {
-          near = h.near;
-          session = refl;
-          steady = h.steady;
-          timed = h.timed;
-          ready = h.ready;
-          link = h.link;
-          to_server = h.to_server;
-          to_client = h.to_client;
-          came = tt;
-          marked = marked_so Refused h.marked;
-          way_is = refl;
-          fine = tt;
-        })
+        (at_stage h.near refl h.steady h.timed h.ready h.link h.to_server h.to_client tt (marked_so Refused h.marked) refl tt)

@@ -35,6 +35,7 @@ use Rattle.laws_agreement.specs.Stages as Stages
 use Rattle.laws_agreement.specs.Stages.{Over, NoReply, OneReply, BothReplies, replied_of, Gap, gap_tie, left_tie, Unclosed, Closed, Lost, Course, Giving, Given, Ended, Severed, Refusing, Unopened, heard_of, tie_of, gives_on, is_parting, link_of, is_to_close, far_leaves, far_parting, link_left, replies_in, Leaving, LinkLeft, LinkParting, Stage, Carries, Answers, near_link, far_link, tie_marks, Flows, Holds, no_link, pending_left, AtServed}
 use Rattle.laws_agreement.proofs.PeekBegins.{halts_at}
 use Rattle.laws_agreement.proofs.Fates.{refused_fares, said_fares, judged_whole, judged_cut, cut_told, cut_fares, broken_link_fares}
+use Rattle.laws_agreement.proofs.Placing.{at_stage}
 
 -- ---- what is on the way
 
@@ -100,20 +101,9 @@ module _ (read : Reading) (state : State) (ask : Ask) (good : IsAsk ask) (sound 
     (
       inr (
         carry next came queue,
-        record {
-          near = refl;
-          session = h.session ∙ (λ i. linked (sym link i) (is_parting (sym tie i)) Pendings.Nothing b.far.session);
-          steady = h.steady;
-          timed = h.timed;
-          ready = h.ready;
-          link = h.link ∙ ap link_of (sym tie);
-          to_server = h.to_server;
-          to_client = h.to_client;
-          came = h.came;
-          marked = h.marked ∙ ap (λ t. tie_marks t (counted (length came))) (sym tie);
-          way_is = ap Answering rows;
-          fine = flows;
-        },
+        at_stage refl (h.session ∙ (λ i. linked (sym link i) (is_parting (sym tie i)) Pendings.Nothing b.far.session)) h.steady h.timed h.ready
+            (h.link ∙ ap link_of (sym tie)) h.to_server h.to_client h.came (h.marked ∙ ap (λ t. tie_marks t (counted (length came))) (sym tie))
+            (ap Answering rows) flows,
       ),
       refl,
     ),
@@ -134,20 +124,8 @@ module _ (read : Reading) (state : State) (ask : Ask) (good : IsAsk ask) (sound 
     (
       inr (
         Answers said leaves,
-        record {
-          near = refl;
-          session = h.session ∙ (λ i. linked (sym link i) (sym parting i) (sym pends i) b.far.session);
-          steady = h.steady;
-          timed = h.timed;
-          ready = tt;
-          link = h.link ∙ sym left;
-          to_server = h.to_server;
-          to_client = h.to_client ∙ empty;
-          came = tt;
-          marked = marked;
-          way_is = refl;
-          fine = fares;
-        },
+        at_stage refl (h.session ∙ (λ i. linked (sym link i) (sym parting i) (sym pends i) b.far.session)) h.steady h.timed tt (h.link ∙ sym left) h.to_server
+            (h.to_client ∙ empty) tt marked refl fares,
       ),
       refl,
     ),

@@ -23,6 +23,7 @@ use Rattle.laws_agreement.proofs.FetchTurns.{fetch_goes}
 use Rattle.laws_agreement.proofs.Keeps.{pulls_to_server, pulls_to_client, pushes_to_server, pushes_to_client}
 use Rattle.laws_agreement.proofs.PeekHears.{OnOrTold, crossed_halts}
 use Rattle.laws_agreement.proofs.PeekServed.{halt_serves}
+use Rattle.laws_agreement.proofs.Placing.{at_stage}
 use Rattle.laws_agreement.proofs.Still.{rest_placed}
 use Rattle.laws_agreement.proofs.UploadServed.{declined_closes, risen_closes}
 use Rattle.laws_agreement.proofs.UploadTold.{tells_served}
@@ -287,20 +288,7 @@ module _ (read : Reading) (reads : IsReading read) (from : State) (begun : List 
   -- what is lent is of no matter
   pub holds_taken : (w : World) (f : Fetching w) (octets : List ℕ) (stage : Stage) (way : Way) (b : World) → Holds f.now f.ask f.own stage way b
       → Holds f.now f.ask f.own stage way (record b { taken = octets })
-  holds_taken w f octets stage way b h = record {
-    near = h.near;
-    session = h.session;
-    steady = h.steady;
-    timed = h.timed;
-    ready = h.ready;
-    link = h.link;
-    to_server = h.to_server;
-    to_client = h.to_client;
-    came = h.came;
-    marked = h.marked;
-    way_is = h.way_is;
-    fine = h.fine;
-  }
+  holds_taken w f octets stage way b h = at_stage h.near h.session h.steady h.timed h.ready h.link h.to_server h.to_client h.came h.marked h.way_is h.fine
 
   -- how far it is stays the same with other octets lent
   here_taken : (w : World) (f : Fetching w) (octets : List ℕ) (way : Way) (b : World) → At w f way b → At w f way (record b { taken = octets })

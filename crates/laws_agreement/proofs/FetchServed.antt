@@ -39,6 +39,7 @@ use Rattle.laws_agreement.specs.Cut.{Cut, Flows as FlowsOf, Fits, world_at, Plac
 use Rattle.laws_agreement.specs.Stages as Stages
 use Rattle.laws_agreement.specs.Stages.{Course, Giving, Given, Ended, Severed, Refusing, Unopened, Unclosed, Closed, Lost, Heard, replies_in, Stage, PortAsked, PortTold, Dials, Restarts, Retrieves, Carries, Rises, Tells, Answers, is_passing, Holds, AtFetch, IsLasting, Dialled, Ported, at_port, PortWanted, PortSaid, PortTaken, PortDenied, Awaits, Unaccepted, Dismissed}
 use Rattle.laws_agreement.proofs.FetchLink.{far_linked, fits_more}
+use Rattle.laws_agreement.proofs.Placing.{at_stage}
 use Rattle.laws_agreement.proofs.Rests.{Rests, after_rests, near_form, near_rests, giving_rests, aside_rests, offer_rests, rests_of}
 use Rattle.laws_agreement.proofs.UploadRests.{lift_rests}
 use Rattle.laws_agreement.proofs.Still.{IsSeen, seen_placed, AreSet, IsStill, still_as, after_as_is, no_octets, logging_set}
@@ -225,20 +226,7 @@ module _ (read : Reading) (state : State) (ask : Ask) (plan : HasPlan ask) (own 
           fits = fits_more [] (port_reply extended b.near.peer port) no_octets written (tt, (refl, refl));
           here = inr (
             PortTold port,
-            record {
-              near = refl;
-              session = refl;
-              steady = h.steady;
-              timed = h.timed;
-              ready = h.ready;
-              link = refl;
-              to_server = h.to_server;
-              to_client = h.to_client;
-              came = tt;
-              marked = h.marked;
-              way_is = refl;
-              fine = (some, small);
-            },
+            at_stage refl refl h.steady h.timed h.ready refl h.to_server h.to_client tt h.marked refl (some, small),
           );
         };
         lasts = refl;
@@ -308,20 +296,7 @@ module _ (read : Reading) (state : State) (ask : Ask) (plan : HasPlan ask) (own 
           fits = (port_line_is state op port b.near b.far h.steady high small, subst (λ l. FlowsOf (written_line line) [] l []) (append-nil (written_line line)) (anew (written_line line) [] (line_is_some line)));
           here = inr (
             PortSaid port connection pending,
-            record {
-              near = refl;
-              session = refl;
-              steady = h.steady;
-              timed = h.timed;
-              ready = h.ready;
-              link = refl;
-              to_server = h.to_server;
-              to_client = h.to_client;
-              came = tt;
-              marked = h.marked;
-              way_is = refl;
-              fine = (h.fine, (high, small));
-            },
+            at_stage refl refl h.steady h.timed h.ready refl h.to_server h.to_client tt h.marked refl (h.fine, (high, small)),
           );
         };
         lasts = refl;
@@ -383,20 +358,7 @@ module _ (read : Reading) (state : State) (ask : Ask) (plan : HasPlan ask) (own 
           fits = subst (λ way. Fits way c) h.way_is s.fits;
           here = inr (
             PortTaken port false,
-            record {
-              near = h.near;
-              session = refl;
-              steady = h.steady;
-              timed = h.timed;
-              ready = h.ready;
-              link = refl;
-              to_server = h.to_server;
-              to_client = h.to_client;
-              came = tt;
-              marked = h.marked;
-              way_is = refl;
-              fine = tt;
-            },
+            at_stage h.near refl h.steady h.timed h.ready refl h.to_server h.to_client tt h.marked refl tt,
           );
         };
         lasts = refl;
@@ -475,20 +437,7 @@ module _ (read : Reading) (state : State) (ask : Ask) (plan : HasPlan ask) (own 
       let seen = seen_placed At w s in
       closes_to (Given heard false) (Given heard true) came queue w s h
       (near_rests w _ _ (near_form s.base w seen _ _ h.near) refl) (ap report_of_job (seen.job ∙ ap (λ v. v.job) h.near)) h.session h.link refl refl
-      (record {
-        near = h.near;
-        session = refl;
-        steady = h.steady;
-        timed = h.timed;
-        ready = h.ready;
-        link = refl;
-        to_server = h.to_server;
-        to_client = h.to_client;
-        came = h.came;
-        marked = h.marked;
-        way_is = refl;
-        fine = h.fine;
-      })
+      (at_stage h.near refl h.steady h.timed h.ready refl h.to_server h.to_client h.came h.marked refl h.fine)
 
   -- where the server has refused and the link is still to be closed it closes the link, and that stage lasts
   pub refusing_closes : (why : Refusal) (came queue : List ℕ) (w : World) → (s : PlacedAt At w) → Stands (carry (Refusing why Unclosed) came queue) s.way s.base → Served w (after_event w)
@@ -497,17 +446,4 @@ module _ (read : Reading) (state : State) (ask : Ask) (plan : HasPlan ask) (own 
       let seen = seen_placed At w s in
       closes_to (Refusing why Unclosed) (Refusing why Closed) came queue w s h
       (near_rests w _ _ (near_form s.base w seen _ _ h.near) refl) (ap report_of_job (seen.job ∙ ap (λ v. v.job) h.near)) h.session h.link refl refl
-      (record {
-        near = h.near;
-        session = refl;
-        steady = h.steady;
-        timed = h.timed;
-        ready = h.ready;
-        link = refl;
-        to_server = h.to_server;
-        to_client = h.to_client;
-        came = h.came;
-        marked = h.marked;
-        way_is = refl;
-        fine = h.fine;
-      })
+      (at_stage h.near refl h.steady h.timed h.ready refl h.to_server h.to_client h.came h.marked refl h.fine)

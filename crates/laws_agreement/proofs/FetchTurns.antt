@@ -40,6 +40,7 @@ use Rattle.laws_agreement.specs.Stages.{Over, Sent, Granted, Denied, LinkOpen, S
 use Rattle.laws_agreement.proofs.Fates.{refused_fares, unknown_fares, refused_link_fares}
 use Rattle.laws_agreement.proofs.FetchAsked.{asked_at}
 use Rattle.laws_agreement.proofs.FetchReplies.{at_first, carry_heard, none_more, one_more}
+use Rattle.laws_agreement.proofs.Placing.{at_stage}
 use Rattle.laws_agreement.proofs.Still.{way_some}
 use Rattle.laws_agreement.proofs.UploadReplies.{lift_heard}
 
@@ -69,60 +70,23 @@ module _ (read : Reading) (reads : IsReading read) (state : State) (ask : Ask) (
   opens b link to_server to_client none timed (inl goal) = (
     inr (
       PortAsked goal.closing,
-      record {
-        near = goal.near;
-        session = goal.session;
-        steady = goal.steady;
-        timed = timed;
-        ready = (goal.set, goal.known);
-        link = link;
-        to_server = to_server;
-        to_client = to_client;
-        came = tt;
-        marked = none;
-        way_is = refl;
-        fine = tt;
-      },
+      at_stage goal.near goal.session goal.steady timed (goal.set, goal.known) link to_server to_client tt none refl tt,
     ),
     refl,
   )
   opens b link to_server to_client none timed (inr (inl goal)) = (
     inr (
       PortWanted goal.connection goal.pending,
-      record {
-        near = goal.near;
-        session = goal.session;
-        steady = goal.steady;
-        timed = timed;
-        ready = goal.set;
-        link = link;
-        to_server = to_server;
-        to_client = to_client;
-        came = tt;
-        marked = none;
-        way_is = refl;
-        fine = goal.aside;
-      },
+      at_stage goal.near goal.session goal.steady timed goal.set link to_server to_client tt none refl goal.aside,
     ),
     refl,
   )
   opens b link to_server to_client none timed (inr (inr (unknown, goal))) = (
     inr (
       Answers (Refused 530) (Aside false b.far.session.connection b.far.session.pending),
-      record {
-        near = goal.near;
-        session = λ i. record b.far.session { closing = goal.stands.far.closing i; life = goal.stands.far.life i };
-        steady = steady_at state b.near b.far goal.stands;
-        timed = timed;
-        ready = tt;
-        link = link;
-        to_server = to_server;
-        to_client = to_client;
-        came = tt;
-        marked = none_more own none;
-        way_is = refl;
-        fine = (unknown_fares state ask good own unknown, goal.stands.far.aside);
-      },
+      at_stage goal.near (λ i. record b.far.session { closing = goal.stands.far.closing i; life = goal.stands.far.life i })
+          (steady_at state b.near b.far goal.stands) timed tt link to_server to_client tt (none_more own none) refl
+          (unknown_fares state ask good own unknown, goal.stands.far.aside),
     ),
     refl,
   )
@@ -177,20 +141,7 @@ module _ (read : Reading) (reads : IsReading read) (state : State) (ask : Ask) (
     (
       inr (
         Dials port,
-        record {
-          near = refl;
-          session = h.session;
-          steady = h.steady;
-          timed = h.timed;
-          ready = h.ready;
-          link = h.link;
-          to_server = h.to_server;
-          to_client = h.to_client;
-          came = tt;
-          marked = h.marked;
-          way_is = refl;
-          fine = tt;
-        },
+        at_stage refl h.session h.steady h.timed h.ready h.link h.to_server h.to_client tt h.marked refl tt,
       ),
       refl,
     ),
@@ -209,20 +160,8 @@ module _ (read : Reading) (reads : IsReading read) (state : State) (ask : Ask) (
     (
       inr (
         Retrieves early,
-        record {
-          near = refl;
-          session = h.session ∙ ap (λ o. linked (early_far b.near.here early) false (offset_pending o) b.far.session) (sym h.fine.0);
-          steady = h.steady;
-          timed = h.timed;
-          ready = h.ready;
-          link = h.link;
-          to_server = h.to_server;
-          to_client = h.to_client;
-          came = h.came;
-          marked = h.marked;
-          way_is = refl;
-          fine = subst (IsPlacedAt ask.settings) (sym h.fine.0) h.fine.1;
-        },
+        at_stage refl (h.session ∙ ap (λ o. linked (early_far b.near.here early) false (offset_pending o) b.far.session) (sym h.fine.0)) h.steady h.timed
+            h.ready h.link h.to_server h.to_client h.came h.marked refl (subst (IsPlacedAt ask.settings) (sym h.fine.0) h.fine.1),
       ),
       refl,
     ),
@@ -241,20 +180,8 @@ module _ (read : Reading) (reads : IsReading read) (state : State) (ask : Ask) (
     (
       inr (
         Answers (Refused (code_of why)) LinkOpen,
-        record {
-          near = refl;
-          session = h.session;
-          steady = h.steady;
-          timed = h.timed;
-          ready = tt;
-          link = h.link;
-          to_server = h.to_server;
-          to_client = h.to_client;
-          came = tt;
-          marked = h.marked;
-          way_is = refl;
-          fine = λ any. refused_fares state ask good any why h.ready.1 (good.refuses.unplaced state at why h.fine.0 h.fine.1);
-        },
+        at_stage refl h.session h.steady h.timed tt h.link h.to_server h.to_client tt h.marked refl
+            (λ any. refused_fares state ask good any why h.ready.1 (good.refuses.unplaced state at why h.fine.0 h.fine.1)),
       ),
       refl,
     ),
@@ -270,20 +197,8 @@ module _ (read : Reading) (reads : IsReading read) (state : State) (ask : Ask) (
     (
       inr (
         Answers (Refused (code_of why)) no_link,
-        record {
-          near = refl;
-          session = h.session;
-          steady = h.steady;
-          timed = h.timed;
-          ready = tt;
-          link = h.link;
-          to_server = h.to_server;
-          to_client = h.to_client;
-          came = tt;
-          marked = one_more own (Broken 0) h.marked;
-          way_is = refl;
-          fine = (refused_fares state ask good own why h.ready.1 (good.refuses.unplaced state at why h.fine.0 h.fine.1), refl);
-        },
+        at_stage refl h.session h.steady h.timed tt h.link h.to_server h.to_client tt (one_more own (Broken 0) h.marked) refl
+            (refused_fares state ask good own why h.ready.1 (good.refuses.unplaced state at why h.fine.0 h.fine.1), refl),
       ),
       refl,
     ),
@@ -299,20 +214,8 @@ module _ (read : Reading) (reads : IsReading read) (state : State) (ask : Ask) (
     (
       inr (
         Answers (Refused (code_of why)) (port_left (FarData.Active (at_port b.near.here port))),
-        record {
-          near = refl;
-          session = h.session;
-          steady = h.steady;
-          timed = h.timed;
-          ready = tt;
-          link = h.link;
-          to_server = h.to_server;
-          to_client = h.to_client;
-          came = tt;
-          marked = none_more own h.marked;
-          way_is = refl;
-          fine = (refused_fares state ask good own why h.ready.1 (good.refuses.unplaced state at why h.fine.0 h.fine.1), refl);
-        },
+        at_stage refl h.session h.steady h.timed tt h.link h.to_server h.to_client tt (none_more own h.marked) refl
+            (refused_fares state ask good own why h.ready.1 (good.refuses.unplaced state at why h.fine.0 h.fine.1), refl),
       ),
       refl,
     ),
@@ -346,40 +249,18 @@ module _ (read : Reading) (reads : IsReading read) (state : State) (ask : Ask) (
       by_offset None e = (
         inr (
           Retrieves (Ported port),
-          record {
-            near = ap (λ o. busy (opened_job o ask) (NearData.Listening port) b.near) e;
-            session = h.session ∙ ap (λ o. linked (FarData.Active (at_port b.near.here port)) false o b.far.session) (sym (ap offset_pending e));
-            steady = h.steady;
-            timed = h.timed;
-            ready = h.ready;
-            link = h.link;
-            to_server = h.to_server;
-            to_client = h.to_client;
-            came = tt;
-            marked = h.marked;
-            way_is = ap (λ o. Asking (line_of (opened_command o ask))) e;
-            fine = subst (IsPlacedAt ask.settings) (sym e) tt;
-          },
+          at_stage (ap (λ o. busy (opened_job o ask) (NearData.Listening port) b.near) e)
+              (h.session ∙ ap (λ o. linked (FarData.Active (at_port b.near.here port)) false o b.far.session) (sym (ap offset_pending e))) h.steady h.timed
+              h.ready h.link h.to_server h.to_client tt h.marked (ap (λ o. Asking (line_of (opened_command o ask))) e)
+              (subst (IsPlacedAt ask.settings) (sym e) tt),
         ),
         refl,
       )
       by_offset (Some at) e = (
         inr (
           Restarts at Sent (Ported port),
-          record {
-            near = ap (λ o. busy (opened_job o ask) (NearData.Listening port) b.near) e;
-            session = h.session;
-            steady = h.steady;
-            timed = h.timed;
-            ready = h.ready;
-            link = h.link;
-            to_server = h.to_server;
-            to_client = h.to_client;
-            came = tt;
-            marked = h.marked;
-            way_is = ap (λ o. Asking (line_of (opened_command o ask))) e;
-            fine = (e, tt);
-          },
+          at_stage (ap (λ o. busy (opened_job o ask) (NearData.Listening port) b.near) e) h.session h.steady h.timed h.ready h.link h.to_server h.to_client tt
+              h.marked (ap (λ o. Asking (line_of (opened_command o ask))) e) (e, tt),
         ),
         refl,
       )
@@ -399,20 +280,7 @@ module _ (read : Reading) (reads : IsReading read) (state : State) (ask : Ask) (
     (
       inr (
         Answers said (port_left connection),
-        record {
-          near = refl;
-          session = session;
-          steady = steady;
-          timed = h.timed;
-          ready = tt;
-          link = link;
-          to_server = to_server;
-          to_client = to_client;
-          came = tt;
-          marked = marked;
-          way_is = refl;
-          fine = (fares, aside);
-        },
+        at_stage refl session steady h.timed tt link to_server to_client tt marked refl (fares, aside),
       ),
       refl,
     ),
@@ -431,20 +299,7 @@ module _ (read : Reading) (reads : IsReading read) (state : State) (ask : Ask) (
     (
       inr (
         Awaits port true,
-        record {
-          near = refl;
-          session = h.session;
-          steady = h.steady;
-          timed = h.timed;
-          ready = h.ready;
-          link = h.link;
-          to_server = h.to_server;
-          to_client = h.to_client;
-          came = tt;
-          marked = h.marked;
-          way_is = refl;
-          fine = h.fine;
-        },
+        at_stage refl h.session h.steady h.timed h.ready h.link h.to_server h.to_client tt h.marked refl h.fine,
       ),
       refl,
     ),

@@ -11,6 +11,7 @@ pub mod Agreeing
 pub mod Quiet
 pub mod Fates
 pub mod Downloads
+pub mod Placing
 pub mod PeekAsks
 pub mod Asks
 pub mod Beginning

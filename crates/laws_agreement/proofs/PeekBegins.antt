@@ -11,6 +11,7 @@ use Rattle.laws_agreement.specs.Crossing.{AreCut, Cuts, crossing_at}
 use Rattle.laws_agreement.specs.PeekStages.{AtHalt, Halt, Halts, MarksFit, QueueFits, halt_asked, halt_far, halt_near, halt_rows, halt_tie}
 use Rattle.laws_agreement.specs.Stages.{IsTaken, is_parting, link_of}
 use Rattle.laws_agreement.proofs.Fates.{said_fares}
+use Rattle.laws_agreement.proofs.Placing.{at_halt}
 
 -- both ends where ABOR was sent, behind octets that are a front of the text and enough
 pub halts_at : (state : State) (ask : Ask) (good : IsAsk ask) (sound : IsSound state) (own : List Mark) (halt : Halt) (came queue : List ℕ) (b : World)
@@ -19,19 +20,9 @@ pub halts_at : (state : State) (ask : Ask) (good : IsAsk ask) (sound : IsSound s
     → IsTimely ask.sends b.far.context.moment → state.known ≡ true
     → b.link ≡ link_of (halt_tie halt) → b.data_to_server ≡ [] → b.data_to_client ≡ queue → QueueFits halt queue → MarksFit halt own → IsTaken state ask
     → IsFront came (ask.wire state) → is_filled ask.op ask.settings came ≡ true → Halts state ask own halt (ask.said state) came queue b
-halts_at state ask good sound own halt came queue b near session steady timed known link to_server to_client empty marked taken front enough = record {
-  near = near;
-  session = session;
-  steady = steady;
-  timed = timed;
-  link = link;
-  to_server = to_server;
-  to_client = to_client;
-  empty = empty;
-  marked = marked;
-  settled = taken.2.filled state came sound taken.0 front enough;
-  fares = λ any. said_fares state ask good taken.2 any known taken.1;
-}
+halts_at state ask good sound own halt came queue b near session steady timed known link to_server to_client empty marked taken front enough =
+    at_halt near session steady timed link to_server to_client empty marked (taken.2.filled state came sound taken.0 front enough)
+    (λ any. said_fares state ask good taken.2 any known taken.1)
 
 -- a world where it stands so, with a cut that fits
 pub halt_at : (state : State) (ask : Ask) (own : List Mark) (w : World) (halt : Halt) (said : Said) (came queue : List ℕ) (b : World) (c : Cuts)

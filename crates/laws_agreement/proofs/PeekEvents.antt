@@ -40,6 +40,7 @@ use Rattle.laws_agreement.proofs.FetchLink.{Leads, far_linked, giving_breaks, he
 use Rattle.laws_agreement.proofs.Keeps.{no_push_to_server}
 use Rattle.laws_agreement.proofs.PeekHears.{OnOrTold, told_at}
 use Rattle.laws_agreement.proofs.PeekLink.{abort_over, fixed, one_more}
+use Rattle.laws_agreement.proofs.Placing.{at_halt, at_stage}
 use Rattle.laws_agreement.proofs.Still.{no_octets}
 
 -- ---- the client's calls
@@ -103,19 +104,7 @@ module _ (read : Reading) (reads : IsReading read) (state : State) (ask : Ask) (
         control_to_client = c.down.moving;
       }) (aborts_giving read reads b.far c.down.owed ask.listed octet more h.session))
       (abort_over (fixed_reply Texts.Broken ∷ fixed_reply Texts.AbortDone ∷ []) _ two)
-      (record {
-        near = h.near;
-        session = refl;
-        steady = h.steady;
-        timed = h.timed;
-        link = h.link;
-        to_server = h.to_server;
-        to_client = h.to_client;
-        empty = tt;
-        marked = h.marked;
-        settled = h.settled;
-        fares = h.fares;
-      })
+      (at_halt h.near refl h.steady h.timed h.link h.to_server h.to_client tt h.marked h.settled h.fares)
 
   -- what it owes of the final reply leaves room for the reply to ABOR
   has_room : (whole heard : Bool) (c : Cuts) → FlowsRow (final_rows whole heard []) c.down.held (coming c.down) → nat_le (length c.down.owed) 4096 ≡ true
@@ -156,45 +145,9 @@ module _ (read : Reading) (reads : IsReading read) (state : State) (ask : Ask) (
       on : (gap : Gap) → Stands own (Gave whole heard true gap) said came queue b
           → Stands own (Gave whole heard false gap) said came queue
           (record b { far = far_linked (linked FarData.Free (is_parting (gap_tie gap)) Pendings.Nothing b.far.session) b.far })
-      on Unclosed h = record {
-        near = h.near;
-        session = refl;
-        steady = h.steady;
-        timed = h.timed;
-        link = h.link;
-        to_server = h.to_server;
-        to_client = h.to_client;
-        empty = tt;
-        marked = h.marked;
-        settled = h.settled;
-        fares = h.fares;
-      }
-      on Closed h = record {
-        near = h.near;
-        session = refl;
-        steady = h.steady;
-        timed = h.timed;
-        link = h.link;
-        to_server = h.to_server;
-        to_client = h.to_client;
-        empty = tt;
-        marked = h.marked;
-        settled = h.settled;
-        fares = h.fares;
-      }
-      on (Lost clean) h = record {
-        near = h.near;
-        session = refl;
-        steady = h.steady;
-        timed = h.timed;
-        link = h.link;
-        to_server = h.to_server;
-        to_client = h.to_client;
-        empty = h.empty;
-        marked = h.marked;
-        settled = h.settled;
-        fares = h.fares;
-      }
+      on Unclosed h = at_halt h.near refl h.steady h.timed h.link h.to_server h.to_client tt h.marked h.settled h.fares
+      on Closed h = at_halt h.near refl h.steady h.timed h.link h.to_server h.to_client tt h.marked h.settled h.fares
+      on (Lost clean) h = at_halt h.near refl h.steady h.timed h.link h.to_server h.to_client h.empty h.marked h.settled h.fares
 
   -- the server takes octets of ABOR
   pub halt_pushes_up : (n : ℕ) (w : World) → OnWay w → OnWay (pushed read ControlToServer n w)
@@ -262,19 +215,7 @@ module _ (read : Reading) (reads : IsReading read) (state : State) (ask : Ask) (
         far = giving_breaks ask.listed b.far Pendings.Nothing octet more h.session (crossing_at b c).far.ear c.down.owed i;
       }))
       (one_more true [] (fixed_reply Texts.Broken) c (fixed read state ask own b.far Texts.Broken) fits)
-      (record {
-        near = refl;
-        session = refl;
-        steady = h.steady;
-        timed = h.timed;
-        link = refl;
-        to_server = refl;
-        to_client = refl;
-        empty = refl;
-        marked = one_mark (Broken b.came) h.marked;
-        settled = h.settled;
-        fares = h.fares;
-      })
+      (at_halt refl refl h.steady h.timed refl refl refl refl (one_mark (Broken b.came) h.marked) h.settled h.fares)
 
   -- the server had closed the link
   closed_breaks : (b : World) (c : Cuts) (n : Near) → b.link ≡ ClosedByFar → Leads near.data_fault b.near n
@@ -300,19 +241,7 @@ module _ (read : Reading) (reads : IsReading read) (state : State) (ask : Ask) (
           inl (halt_at state ask (Marked a.base) _ (Gave whole heard asked (Lost false)) a.said a.came [] (behind_break n a.base.far a.base) a.cuts
           (closed_breaks a.base a.cuts n h.link (subst (λ v. Leads near.data_fault v n) (sym h.near)
           (breaks_so ask.op ask.settings a.came a.base.near whole heard))) fits
-          (record {
-            near = refl;
-            session = h.session;
-            steady = h.steady;
-            timed = h.timed;
-            link = refl;
-            to_server = refl;
-            to_client = refl;
-            empty = refl;
-            marked = one_mark (Broken a.base.came) h.marked;
-            settled = h.settled;
-            fares = h.fares;
-          }))
+          (at_halt refl h.session h.steady h.timed refl refl refl refl (one_mark (Broken a.base.came) h.marked) h.settled h.fares))
       by_halt (Gave whole heard asked (Lost clean)) fits h lasts some = absurd (no_link_stands a.base.link h.link some)
       by_halt (Halted whole false) fits h lasts some = absurd (cc)
       by_halt (Halted whole true) fits h lasts some =
@@ -320,20 +249,7 @@ module _ (read : Reading) (reads : IsReading read) (state : State) (ask : Ask) (
           inr (told_at read state ask (Marked a.base) _ (behind_break n a.base.far a.base) a.cuts a.said
           (closed_breaks a.base a.cuts n h.link (subst (λ v. Leads near.data_fault v n) (sym h.near)
           (told_breaks ask.op ask.settings a.came a.base.near (final_code whole) a.said h.settled))) fits
-          (record {
-            near = refl;
-            session = h.session;
-            steady = h.steady;
-            timed = h.timed;
-            ready = tt;
-            link = refl;
-            to_server = refl;
-            to_client = refl;
-            came = tt;
-            marked = one_mark (Broken a.base.came) h.marked;
-            way_is = refl;
-            fine = (h.fares (Marked a.base), refl);
-          }))
+          (at_stage refl h.session h.steady h.timed tt refl refl refl tt (one_mark (Broken a.base.came) h.marked) refl (h.fares (Marked a.base), refl)))
 
   -- ---- the end
 
@@ -361,19 +277,7 @@ module _ (read : Reading) (reads : IsReading read) (state : State) (ask : Ask) (
           let n : Near = halt_near state ask (Gave whole heard asked (Lost true)) a.came a.base.near in
           inl (halt_at state ask own _ (Gave whole heard asked (Lost true)) a.said a.came [] (behind_end n a.base) a.cuts
           (closed_ends a.base a.cuts n (subst (λ v. Leads near.data_end v n) (sym h.near) (ends_so ask.op ask.settings a.came a.base.near whole heard))) fits
-          (record {
-            near = refl;
-            session = h.session;
-            steady = h.steady;
-            timed = h.timed;
-            link = refl;
-            to_server = refl;
-            to_client = refl;
-            empty = refl;
-            marked = none_more own h.marked;
-            settled = h.settled;
-            fares = h.fares;
-          }))
+          (at_halt refl h.session h.steady h.timed refl refl refl refl (none_more own h.marked) h.settled h.fares))
       by_halt (Gave whole heard asked (Lost clean)) fits h lasts left = absurd (not_left a.base.link _ h.link refl left)
       by_halt (Halted whole false) fits h lasts left = absurd (cc)
       by_halt (Halted whole true) fits h lasts left =
@@ -381,17 +285,4 @@ module _ (read : Reading) (reads : IsReading read) (state : State) (ask : Ask) (
           inr (told_at read state ask own _ (behind_end n a.base) a.cuts a.said
           (closed_ends a.base a.cuts n (subst (λ v. Leads near.data_end v n) (sym h.near)
           (told_ends ask.op ask.settings a.came a.base.near (final_code whole) a.said h.settled))) fits
-          (record {
-            near = refl;
-            session = h.session;
-            steady = h.steady;
-            timed = h.timed;
-            ready = tt;
-            link = refl;
-            to_server = refl;
-            to_client = refl;
-            came = tt;
-            marked = none_more own h.marked;
-            way_is = refl;
-            fine = (h.fares own, refl);
-          }))
+          (at_stage refl h.session h.steady h.timed tt refl refl refl tt (none_more own h.marked) refl (h.fares own, refl)))

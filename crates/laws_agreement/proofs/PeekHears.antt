@@ -24,6 +24,7 @@ use Rattle.laws_agreement.specs.PeekStages.{AtHalt, Gave, Gives, Halt, Halted, H
 use Rattle.laws_agreement.specs.Stages.{Answers, AtFetch, Closed, Gap, Holds, Lost, Unclosed, no_link}
 use Rattle.laws_agreement.proofs.PeekBegins.{halt_at}
 use Rattle.laws_agreement.proofs.CrossKeeps.{RowGoes, RowStays, abort_anew, as_rest, heard_at, none_heard, pulled_down, pulls_down, pushed_coming, pushed_down, row_none, row_step}
+use Rattle.laws_agreement.proofs.Placing.{at_halt, at_stage}
 use Rattle.laws_agreement.proofs.Still.{no_octets}
 
 module _ (read : Reading) (state : State) (ask : Ask) (own : List Mark) where
@@ -46,20 +47,8 @@ module _ (read : Reading) (state : State) (ask : Ask) (own : List Mark) where
   pub answers_at : (whole heard asked clean : Bool) (said : Said) (came queue : List ℕ) (b : World)
       → Stands (Gave whole heard asked (Lost clean)) said came queue b
       → Holds state ask own (Answers said no_link) rest (record b { near = leaving said false b.near })
-  answers_at whole heard asked clean said came queue b h = record {
-    near = refl;
-    session = h.session;
-    steady = h.steady;
-    timed = h.timed;
-    ready = tt;
-    link = h.link;
-    to_server = h.to_server;
-    to_client = h.to_client ∙ h.empty;
-    came = tt;
-    marked = h.marked;
-    way_is = refl;
-    fine = (h.fares own, refl);
-  }
+  answers_at whole heard asked clean said came queue b h =
+      at_stage refl h.session h.steady h.timed tt h.link h.to_server (h.to_client ∙ h.empty) tt h.marked refl (h.fares own, refl)
 
   -- ---- replies are heard
 
@@ -111,36 +100,12 @@ module _ (read : Reading) (state : State) (ask : Ask) (own : List Mark) where
             → OnOrTold (heard_at b up ear gathered xs ys owed)
         by_gap Unclosed h row =
             open_link false (halt_near state ask (Halted whole false) came b.near)
-            (record {
-              near = refl;
-              session = h.session;
-              steady = h.steady;
-              timed = h.timed;
-              link = h.link;
-              to_server = h.to_server;
-              to_client = h.to_client;
-              empty = tt;
-              marked = h.marked;
-              settled = h.settled;
-              fares = h.fares;
-            })
+            (at_halt refl h.session h.steady h.timed h.link h.to_server h.to_client tt h.marked h.settled h.fares)
             (ap (λ v. answered 226 (fixed_reply Texts.AbortDone).lines (owing up.owed v)) h.near
             ∙ abort_open ask.op ask.settings came b.near _ up.owed (fixed_reply Texts.AbortDone).lines) row
         by_gap Closed h row =
             open_link true (halt_near state ask (Halted whole true) came b.near)
-            (record {
-              near = refl;
-              session = h.session;
-              steady = h.steady;
-              timed = h.timed;
-              link = h.link;
-              to_server = h.to_server;
-              to_client = h.to_client;
-              empty = tt;
-              marked = h.marked;
-              settled = h.settled;
-              fares = h.fares;
-            })
+            (at_halt refl h.session h.steady h.timed h.link h.to_server h.to_client tt h.marked h.settled h.fares)
             (ap (λ v. answered 226 (fixed_reply Texts.AbortDone).lines (owing up.owed v)) h.near
             ∙ abort_open ask.op ask.settings came b.near _ up.owed (fixed_reply Texts.AbortDone).lines) row
         by_gap (Lost clean) h row =
@@ -191,46 +156,10 @@ module _ (read : Reading) (state : State) (ask : Ask) (own : List Mark) where
 
         on : (gap : Gap) → Stands (Gave whole false asked gap) said came queue b
             → Stands (Gave whole true asked gap) said came queue (record b { near = heard_next whole asked gap b })
-        on Unclosed h = record {
-          near = refl;
-          session = h.session;
-          steady = h.steady;
-          timed = h.timed;
-          link = h.link;
-          to_server = h.to_server;
-          to_client = h.to_client;
-          empty = tt;
-          marked = h.marked;
-          settled = h.settled;
-          fares = h.fares;
-        }
-        on Closed h = record {
-          near = refl;
-          session = h.session;
-          steady = h.steady;
-          timed = h.timed;
-          link = h.link;
-          to_server = h.to_server;
-          to_client = h.to_client;
-          empty = tt;
-          marked = h.marked;
-          settled = h.settled;
-          fares = h.fares;
-        }
+        on Unclosed h = at_halt refl h.session h.steady h.timed h.link h.to_server h.to_client tt h.marked h.settled h.fares
+        on Closed h = at_halt refl h.session h.steady h.timed h.link h.to_server h.to_client tt h.marked h.settled h.fares
         on (Lost clean) h =
-            record {
-              near = refl;
-              session = h.session;
-              steady = h.steady;
-              timed = h.timed;
-              link = h.link;
-              to_server = h.to_server;
-              to_client = h.to_client;
-              empty = h.empty;
-              marked = h.marked;
-              settled = h.settled;
-              fares = h.fares;
-            }
+            at_halt refl h.session h.steady h.timed h.link h.to_server h.to_client h.empty h.marked h.settled h.fares
 
         behind : (asked : Bool) → FlowsAbort asked up → (heard : List ℕ) → FlowsRow (abort_rows asked) [] (heard ++ (ys ++ owed))
             → AreWritten (abort_rows asked)

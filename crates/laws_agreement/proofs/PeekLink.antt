@@ -35,6 +35,7 @@ use Rattle.laws_agreement.proofs.CrossKeeps.{pulled_up, pulls_up}
 use Rattle.laws_agreement.proofs.FetchData.{free_gives, free_owes, gives_all, gives_some, no_pull, to_give_is}
 use Rattle.laws_agreement.proofs.FetchLink.{Leads, far_linked, hearing, listening, row_more, written_more}
 use Rattle.laws_agreement.proofs.PeekTakes.{dropped}
+use Rattle.laws_agreement.proofs.Placing.{at_halt}
 use Rattle.laws_agreement.proofs.Still.{no_octets}
 
 -- a cut with one reply more, which is owed
@@ -89,19 +90,7 @@ module _ (read : Reading) (state : State) (ask : Ask) (own : List Mark) where
                 (ear_at c) c.down.owed h.session next later left i;
             data_to_client = moves i;
           }) fits
-          (record {
-            near = h.near;
-            session = refl;
-            steady = h.steady;
-            timed = h.timed;
-            link = h.link;
-            to_server = h.to_server;
-            to_client = refl;
-            empty = tt;
-            marked = h.marked;
-            settled = h.settled;
-            fares = h.fares;
-          })
+          (at_halt h.near refl h.steady h.timed h.link h.to_server refl tt h.marked h.settled h.fares)
       by_left [] left =
           let f : Far = far_linked (linked FarData.Free true Pendings.Nothing b.far.session) b.far in
           halt_at state ask own _ (Gave true false true Unclosed) said came (queue ++ take n (octet ∷ more))
@@ -109,19 +98,7 @@ module _ (read : Reading) (state : State) (ask : Ask) (own : List Mark) where
           (record c { down = record c.down { owed = c.down.owed ++ reply_octets (fixed_reply Texts.Complete) } })
           (λ i. record (crossing_at b c) { far = gives_all ask.listed n octet more b.far (ear_at c) c.down.owed h.session left i; data_to_client = moves i })
           (one_more true [] (fixed_reply Texts.Complete) c (fixed b.far Texts.Complete) fits)
-          (record {
-            near = h.near;
-            session = refl;
-            steady = h.steady;
-            timed = h.timed;
-            link = h.link;
-            to_server = h.to_server;
-            to_client = refl;
-            empty = tt;
-            marked = h.marked;
-            settled = h.settled;
-            fares = h.fares;
-          })
+          (at_halt h.near refl h.steady h.timed h.link h.to_server refl tt h.marked h.settled h.fares)
 
   -- a server that has given all gives no more
   gave_pulls : (n : ℕ) (halt : Halt) (said : Said) (came queue : List ℕ) (b : World) (c : Cuts) → AreCut (halt_asked halt) (halt_rows halt) c
@@ -189,94 +166,22 @@ module _ (read : Reading) (state : State) (ask : Ask) (own : List Mark) where
           → OnWay (pushed read DataToClient n (crossing_at a.base a.cuts))
       by_halt (Gives octet more) fits h =
           drops n (Gives octet more) a.said a.came a.queue a.base a.cuts fits (opened Replies.Begun false h.near) h
-          (record {
-            near = h.near;
-            session = h.session;
-            steady = h.steady;
-            timed = h.timed;
-            link = h.link;
-            to_server = h.to_server;
-            to_client = refl;
-            empty = tt;
-            marked = h.marked;
-            settled = h.settled;
-            fares = h.fares;
-          })
+          (at_halt h.near h.session h.steady h.timed h.link h.to_server refl tt h.marked h.settled h.fares)
       by_halt (Gave whole heard asked Unclosed) fits h =
           drops n (Gave whole heard asked Unclosed) a.said a.came a.queue a.base a.cuts fits (opened _ false h.near) h
-          (record {
-            near = h.near;
-            session = h.session;
-            steady = h.steady;
-            timed = h.timed;
-            link = h.link;
-            to_server = h.to_server;
-            to_client = refl;
-            empty = tt;
-            marked = h.marked;
-            settled = h.settled;
-            fares = h.fares;
-          })
+          (at_halt h.near h.session h.steady h.timed h.link h.to_server refl tt h.marked h.settled h.fares)
       by_halt (Gave whole heard asked Closed) fits h =
           drops n (Gave whole heard asked Closed) a.said a.came a.queue a.base a.cuts fits (opened _ false h.near) h
-          (record {
-            near = h.near;
-            session = h.session;
-            steady = h.steady;
-            timed = h.timed;
-            link = h.link;
-            to_server = h.to_server;
-            to_client = refl;
-            empty = tt;
-            marked = h.marked;
-            settled = h.settled;
-            fares = h.fares;
-          })
+          (at_halt h.near h.session h.steady h.timed h.link h.to_server refl tt h.marked h.settled h.fares)
       by_halt (Gave whole heard asked (Lost clean)) fits h =
           drops n (Gave whole heard asked (Lost clean)) a.said a.came a.queue a.base a.cuts fits (none h.empty) h
-          (record {
-            near = h.near;
-            session = h.session;
-            steady = h.steady;
-            timed = h.timed;
-            link = h.link;
-            to_server = h.to_server;
-            to_client = refl;
-            empty = ap (drop n) h.empty ∙ drop-nil n;
-            marked = h.marked;
-            settled = h.settled;
-            fares = h.fares;
-          })
+          (at_halt h.near h.session h.steady h.timed h.link h.to_server refl (ap (drop n) h.empty ∙ drop-nil n) h.marked h.settled h.fares)
       by_halt (Halted whole false) fits h =
           drops n (Halted whole false) a.said a.came a.queue a.base a.cuts fits (opened _ true h.near) h
-          (record {
-            near = h.near;
-            session = h.session;
-            steady = h.steady;
-            timed = h.timed;
-            link = h.link;
-            to_server = h.to_server;
-            to_client = refl;
-            empty = tt;
-            marked = h.marked;
-            settled = h.settled;
-            fares = h.fares;
-          })
+          (at_halt h.near h.session h.steady h.timed h.link h.to_server refl tt h.marked h.settled h.fares)
       by_halt (Halted whole true) fits h =
           drops n (Halted whole true) a.said a.came a.queue a.base a.cuts fits (opened _ true h.near) h
-          (record {
-            near = h.near;
-            session = h.session;
-            steady = h.steady;
-            timed = h.timed;
-            link = h.link;
-            to_server = h.to_server;
-            to_client = refl;
-            empty = tt;
-            marked = h.marked;
-            settled = h.settled;
-            fares = h.fares;
-          })
+          (at_halt h.near h.session h.steady h.timed h.link h.to_server refl tt h.marked h.settled h.fares)
 
   -- ---- ABOR
 

@@ -25,6 +25,7 @@ use Rattle.laws_agreement.proofs.PeekEvents.{halt_breaks, halt_ends, halt_pushes
 use Rattle.laws_agreement.proofs.PeekHears.{halt_pulls_down, halt_pushes_down}
 use Rattle.laws_agreement.proofs.PeekLink.{halt_pulls, halt_pulls_up, halt_pushes}
 use Rattle.laws_agreement.proofs.PeekServed.{near_at}
+use Rattle.laws_agreement.proofs.Placing.{at_halt}
 
 -- what is lent is of no matter
 pub halt_taken : (state : State) (ask : Ask) (own : List Mark) (octets : List ℕ) (w : World) → AtHalt state ask own w
@@ -40,19 +41,7 @@ halt_taken state ask own octets w a =
       cuts = a.cuts;
       is = ap (λ (u : World). record u { taken = octets }) a.is;
       fits = a.fits;
-      here = record {
-        near = h.near;
-        session = h.session;
-        steady = h.steady;
-        timed = h.timed;
-        link = h.link;
-        to_server = h.to_server;
-        to_client = h.to_client;
-        empty = h.empty;
-        marked = h.marked;
-        settled = h.settled;
-        fares = h.fares;
-      };
+      here = at_halt h.near h.session h.steady h.timed h.link h.to_server h.to_client h.empty h.marked h.settled h.fares;
     }
 
 -- ---- what the client wants and gives

@@ -20,6 +20,7 @@ use Rattle.laws_agreement.specs.Crossing.{AreCut, Cuts, crossing_at}
 use Rattle.laws_agreement.specs.PeekStages.{AtHalt, Gave, Gives, Halt, Halted, Halts, halt_asked, halt_rows, is_halt_passing}
 use Rattle.laws_agreement.specs.Stages.{Closed, Lost, Unclosed}
 use Rattle.laws_agreement.proofs.FetchLink.{far_linked}
+use Rattle.laws_agreement.proofs.Placing.{at_halt}
 use Rattle.laws_agreement.proofs.Rests.{Rests, after_rests, far_rests, giving_rests, near_rests}
 
 module _ (state : State) (ask : Ask) (own : List Mark) where
@@ -154,19 +155,7 @@ module _ (state : State) (ask : Ask) (own : List Mark) where
           closes (Gave whole heard asked Closed) said came queue w b c is (near_rests w _ _ (near_at b w c is _ _ h.near) refl)
           (ap (λ v. report_of_job v.job) (near_at b w c is _ _ h.near))
           h.session h.link fits
-          (record {
-            near = h.near;
-            session = refl;
-            steady = h.steady;
-            timed = h.timed;
-            link = refl;
-            to_server = h.to_server;
-            to_client = h.to_client;
-            empty = tt;
-            marked = h.marked;
-            settled = h.settled;
-            fares = h.fares;
-          })
+          (at_halt h.near refl h.steady h.timed refl h.to_server h.to_client tt h.marked h.settled h.fares)
           refl
       by_halt (Gave whole heard asked Closed) said came queue b c is fits h = lasting (Gave whole heard asked Closed) said came queue b c is fits h refl
       by_halt (Gave whole heard asked (Lost clean)) said came queue b c is fits h =
@@ -175,18 +164,6 @@ module _ (state : State) (ask : Ask) (own : List Mark) where
           closes (Halted whole true) said came queue w b c is (near_rests w _ _ (near_at b w c is _ _ h.near) refl)
           (ap (λ v. report_of_job v.job) (near_at b w c is _ _ h.near))
           h.session h.link fits
-          (record {
-            near = h.near;
-            session = refl;
-            steady = h.steady;
-            timed = h.timed;
-            link = refl;
-            to_server = h.to_server;
-            to_client = h.to_client;
-            empty = tt;
-            marked = h.marked;
-            settled = h.settled;
-            fares = h.fares;
-          })
+          (at_halt h.near refl h.steady h.timed refl h.to_server h.to_client tt h.marked h.settled h.fares)
           refl
       by_halt (Halted whole true) said came queue b c is fits h = lasting (Halted whole true) said came queue b c is fits h refl

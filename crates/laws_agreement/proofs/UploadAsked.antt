@@ -26,6 +26,7 @@ use Rattle.laws_dialogues.proofs.ServerTurns.{cleared}
 use Rattle.laws_agreement.specs.Rising.{Lift, Offered, Rising, Risen, Settled, Declined, Unjoined, Closing, Vanished, lift_way}
 use Rattle.laws_agreement.specs.Stages.{Stage, Retrieves, Rises, Holds, AtFetch, Dialled}
 use Rattle.laws_agreement.proofs.FetchReplies.{one_more}
+use Rattle.laws_agreement.proofs.Placing.{at_stage}
 use Rattle.laws_agreement.proofs.Sessions.{fixed, forgotten_on, idle_at, linked_on}
 
 -- no line is on its way
@@ -68,20 +69,9 @@ module _ (read : Reading) (reads : IsReading read) (state : State) (ask : Ask) (
         },
         inr (
           Rises rise Unjoined,
-          record {
-            near = h.near ∙ ap (λ job. busy job (NearData.Over Endings.Broken) b.near) (up_job ask rise upload.sends_is Replies.Nothing);
-            session = linked_on b.far.session FarData.Free false (offset_pending ask.offset) Pendings.Nothing h.session;
-            steady = h.steady;
-            timed = h.timed;
-            ready = (h.ready.0, h.ready.1, upload);
-            link = h.link;
-            to_server = h.to_server;
-            to_client = h.to_client;
-            came = tt;
-            marked = h.marked;
-            way_is = refl;
-            fine = tt;
-          },
+          at_stage (h.near ∙ ap (λ job. busy job (NearData.Over Endings.Broken) b.near) (up_job ask rise upload.sends_is Replies.Nothing))
+              (linked_on b.far.session FarData.Free false (offset_pending ask.offset) Pendings.Nothing h.session) h.steady h.timed (h.ready.0, h.ready.1, upload)
+              h.link h.to_server h.to_client tt h.marked refl tt,
         ),
       )
       by_why (Some why) some = (
@@ -93,20 +83,9 @@ module _ (read : Reading) (reads : IsReading read) (state : State) (ask : Ask) (
         },
         inr (
           Rises rise (Declined why (Vanished true)),
-          record {
-            near = h.near ∙ ap (λ job. busy job (NearData.Over Endings.Broken) b.near) (up_job ask rise upload.sends_is Replies.Nothing);
-            session = forgotten_on b.far.session FarData.Free (offset_pending ask.offset) h.session;
-            steady = h.steady;
-            timed = h.timed;
-            ready = (h.ready.0, h.ready.1, upload);
-            link = h.link;
-            to_server = h.to_server;
-            to_client = h.to_client;
-            came = tt;
-            marked = one_more own (Broken 0) h.marked;
-            way_is = refl;
-            fine = good.refuses.refused state why h.fine some;
-          },
+          at_stage (h.near ∙ ap (λ job. busy job (NearData.Over Endings.Broken) b.near) (up_job ask rise upload.sends_is Replies.Nothing))
+              (forgotten_on b.far.session FarData.Free (offset_pending ask.offset) h.session) h.steady h.timed (h.ready.0, h.ready.1, upload) h.link h.to_server
+              h.to_client tt (one_more own (Broken 0) h.marked) refl (good.refuses.refused state why h.fine some),
         ),
       )
 
@@ -128,20 +107,9 @@ module _ (read : Reading) (reads : IsReading read) (state : State) (ask : Ask) (
         },
         inr (
           Rises rise Offered,
-          record {
-            near = h.near ∙ ap (λ job. busy job NearData.Open b.near) (up_job ask rise upload.sends_is Replies.Nothing);
-            session = λ i. record (transferring (Transfers.Upload (rise.path state) (rise.keep state) (no_octets ask.settings)) b.far) { closing = (h.session i).closing; life = (h.session i).life };
-            steady = h.steady;
-            timed = h.timed;
-            ready = (h.ready.0, h.ready.1, upload);
-            link = h.link;
-            to_server = h.to_server;
-            to_client = h.to_client;
-            came = h.came;
-            marked = h.marked;
-            way_is = refl;
-            fine = (none, h.fine);
-          },
+          at_stage (h.near ∙ ap (λ job. busy job NearData.Open b.near) (up_job ask rise upload.sends_is Replies.Nothing))
+              (λ i. record (transferring (Transfers.Upload (rise.path state) (rise.keep state) (no_octets ask.settings)) b.far) { closing = (h.session i).closing; life = (h.session i).life })
+              h.steady h.timed (h.ready.0, h.ready.1, upload) h.link h.to_server h.to_client h.came h.marked refl (none, h.fine),
         ),
       )
       by_why (Some why) some = (
@@ -153,19 +121,8 @@ module _ (read : Reading) (reads : IsReading read) (state : State) (ask : Ask) (
         },
         inr (
           Rises rise (Declined why Closing),
-          record {
-            near = h.near ∙ ap (λ job. busy job NearData.Open b.near) (up_job ask rise upload.sends_is Replies.Nothing);
-            session = forgotten_on b.far.session FarData.Ready (offset_pending ask.offset) h.session;
-            steady = h.steady;
-            timed = h.timed;
-            ready = (h.ready.0, h.ready.1, upload);
-            link = h.link;
-            to_server = h.to_server;
-            to_client = h.to_client;
-            came = tt;
-            marked = h.marked;
-            way_is = refl;
-            fine = good.refuses.refused state why h.fine some;
-          },
+          at_stage (h.near ∙ ap (λ job. busy job NearData.Open b.near) (up_job ask rise upload.sends_is Replies.Nothing))
+              (forgotten_on b.far.session FarData.Ready (offset_pending ask.offset) h.session) h.steady h.timed (h.ready.0, h.ready.1, upload) h.link h.to_server
+              h.to_client tt h.marked refl (good.refuses.refused state why h.fine some),
         ),
       )

@@ -38,6 +38,7 @@ use Rattle.laws_agreement.specs.Stages.{Rises, Holds, AtFetch}
 use Rattle.laws_agreement.proofs.Counts.{comes_all, comes_on, counts_on, goes_on}
 use Rattle.laws_agreement.proofs.FetchLink.{Leads, far_linked, fits_more, fits_rows, near_acts}
 use Rattle.laws_agreement.proofs.FetchReplies.{none_more}
+use Rattle.laws_agreement.proofs.Placing.{at_stage}
 use Rattle.laws_agreement.proofs.Sessions.{fixed}
 use Rattle.laws_agreement.proofs.Rests.{near_form}
 use Rattle.laws_agreement.proofs.Still.{IsSeen, seen_at, seen_placed}
@@ -114,38 +115,14 @@ module _ (read : Reading) (state : State) (ask : Ask) (own : List Mark) where
           let m : Near = giving_at ask.op h.ready.2.all b.near Replies.Begun (next ∷ later_on) mark in
           placed _ (record b { near = m; data_to_server = queue ++ take n (octet ∷ more) }) (answers notes) c rise (Rising past next later_on came (queue ++ take n (octet ∷ more)) mark notes) refl
           (goes m (subst (λ v. Leads (near.gives_data n) v m) (sym h.near) (gives_some ask.op h.ready.2.all b.near n octet more next later_on mark left))) fits
-          (record {
-            near = refl;
-            session = h.session;
-            steady = h.steady;
-            timed = h.timed;
-            ready = h.ready;
-            link = h.link;
-            to_server = refl;
-            to_client = h.to_client;
-            came = h.came;
-            marked = h.marked;
-            way_is = refl;
-            fine = (h.fine.0, goes_on n came queue (octet ∷ more) (next ∷ later_on) _ left h.fine.1, h.fine.2, h.fine.3);
-          })
+          (at_stage refl h.session h.steady h.timed h.ready h.link refl h.to_client h.came h.marked refl
+          (h.fine.0, goes_on n came queue (octet ∷ more) (next ∷ later_on) _ left h.fine.1, h.fine.2, h.fine.3))
       by_left [] left =
           let m : Near = gave_at ask.op h.ready.2.all b.near mark in
           placed _ (record b { near = m; data_to_server = queue ++ take n (octet ∷ more) }) (answers notes) c rise (Risen past false came (queue ++ take n (octet ∷ more)) mark notes) refl
           (goes m (subst (λ v. Leads (near.gives_data n) v m) (sym h.near) (gives_all ask.op h.ready.2.all b.near n octet more mark left))) fits
-          (record {
-            near = refl;
-            session = h.session;
-            steady = h.steady;
-            timed = h.timed;
-            ready = h.ready;
-            link = h.link;
-            to_server = refl;
-            to_client = h.to_client;
-            came = h.came;
-            marked = h.marked;
-            way_is = refl;
-            fine = (h.fine.0, ap (λ l. came ++ l) (sym (append-nil (queue ++ take n (octet ∷ more)))) ∙ goes_on n came queue (octet ∷ more) [] _ left h.fine.1, h.fine.2, h.fine.3);
-          })
+          (at_stage refl h.session h.steady h.timed h.ready h.link refl h.to_client h.came h.marked refl
+          (h.fine.0, ap (λ l. came ++ l) (sym (append-nil (queue ++ take n (octet ∷ more)))) ∙ goes_on n came queue (octet ∷ more) [] _ left h.fine.1, h.fine.2, h.fine.3))
 
   -- octets are given, or there are none
   pub rise_pulls : (n : ℕ) (w : World) → PlacedAt AtRise w → PlacedAt AtRise (pulled DataToServer w n)
@@ -253,25 +230,8 @@ module _ (read : Reading) (state : State) (ask : Ask) (own : List Mark) where
       (Rising t.past octet more (came ++ take n queue) (drop n queue) mark (notes ++ t.notes)) refl
       (takes n rise past came queue (octet ∷ more) mark notes b c fits h.ready.2 h.ready.1 h.steady h.fine h.session h.to_server)
       (taken_fits n rise past came queue (octet ∷ more) mark notes b c fits h.ready.2 h.ready.1 h.steady h.fine h.session h.to_server)
-      (record {
-        near = h.near;
-        session = refl;
-        steady = h.steady;
-        timed = h.timed;
-        ready = h.ready;
-        link = h.link;
-        to_server = refl;
-        to_client = h.to_client;
-        came = counts_on n b.came came queue few h.came;
-        marked = h.marked;
-        way_is = refl;
-        fine = (
-          h.fine.0,
-          comes_on n came queue (octet ∷ more) _ h.fine.1,
-          past_on n rise past came queue (octet ∷ more) mark notes b c fits h.ready.2 h.ready.1 h.steady h.fine h.session h.to_server,
-          noted_on n rise past came queue (octet ∷ more) mark notes b c fits h.ready.2 h.ready.1 h.steady h.fine h.session h.to_server,
-        );
-      })
+      (at_stage h.near refl h.steady h.timed h.ready h.link refl h.to_client (counts_on n b.came came queue few h.came) h.marked refl
+      (h.fine.0, comes_on n came queue (octet ∷ more) _ h.fine.1, past_on n rise past came queue (octet ∷ more) mark notes b c fits h.ready.2 h.ready.1 h.steady h.fine h.session h.to_server, noted_on n rise past came queue (octet ∷ more) mark notes b c fits h.ready.2 h.ready.1 h.steady h.fine h.session h.to_server))
 
   -- the server takes octets behind the last that the client gave
   risen_pushes : (n : ℕ) (rise : Rise) (past closed : Bool) (came queue : List ℕ) (mark : Option ℕ) (notes : List Note) (b : World) (c : Cut) → n ≤ length queue → Fits (answers notes) c
@@ -284,25 +244,8 @@ module _ (read : Reading) (state : State) (ask : Ask) (own : List Mark) where
       (Risen t.past closed (came ++ take n queue) (drop n queue) mark (notes ++ t.notes)) refl
       (takes n rise past came queue [] mark notes b c fits h.ready.2 h.ready.1 h.steady climbs h.session h.to_server)
       (taken_fits n rise past came queue [] mark notes b c fits h.ready.2 h.ready.1 h.steady climbs h.session h.to_server)
-      (record {
-        near = h.near;
-        session = refl;
-        steady = h.steady;
-        timed = h.timed;
-        ready = h.ready;
-        link = h.link;
-        to_server = refl;
-        to_client = h.to_client;
-        came = counts_on n b.came came queue few h.came;
-        marked = h.marked;
-        way_is = refl;
-        fine = (
-          h.fine.0,
-          comes_all n came queue _ h.fine.1,
-          past_on n rise past came queue [] mark notes b c fits h.ready.2 h.ready.1 h.steady climbs h.session h.to_server,
-          noted_on n rise past came queue [] mark notes b c fits h.ready.2 h.ready.1 h.steady climbs h.session h.to_server,
-        );
-      })
+      (at_stage h.near refl h.steady h.timed h.ready h.link refl h.to_client (counts_on n b.came came queue few h.came) h.marked refl
+      (h.fine.0, comes_all n came queue _ h.fine.1, past_on n rise past came queue [] mark notes b c fits h.ready.2 h.ready.1 h.steady climbs h.session h.to_server, noted_on n rise past came queue [] mark notes b c fits h.ready.2 h.ready.1 h.steady climbs h.session h.to_server))
 
   -- the octets on their way are those of the base
   queue_of : (b : World) (notes : List Note) (c : Cut) (queue : List ℕ) (n : ℕ) → b.data_to_server ≡ queue → n ≤ length (world_at b (answers notes) c).data_to_server → n ≤ length queue
@@ -386,38 +329,10 @@ module _ (read : Reading) (state : State) (ask : Ask) (good : IsAsk ask) (sound 
   rise_ends = by_bool (is_some (excess_of rise state (length rise.octets))) big small
     where
       big : is_some (excess_of rise state (length rise.octets)) ≡ true → PlacedAt (λ way b. AtFetch state ask read own way b) (told DataToServer (world_at b (Answering (note_replies notes)) c))
-      big e = ends_at (Overfilled true) state (upload_far FarData.Free b.far) (serves true e) (record {
-        near = h.near;
-        session = refl;
-        steady = h.steady;
-        timed = h.timed;
-        ready = h.ready;
-        link = refl;
-        to_server = refl;
-        to_client = refl;
-        came = tt;
-        marked = none_more own h.marked;
-        way_is = refl;
-        fine = (overfull_fares state ask good rise h.ready.2 h.ready.1 h.fine.0 own e, sound, h.fine.3.0, tt);
-      })
+      big e = ends_at (Overfilled true) state (upload_far FarData.Free b.far) (serves true e) (at_stage h.near refl h.steady h.timed h.ready refl refl refl tt
+      (none_more own h.marked) refl (overfull_fares state ask good rise h.ready.2 h.ready.1 h.fine.0 own e, sound, h.fine.3.0, tt))
 
       small : is_some (excess_of rise state (length rise.octets)) ≡ false → PlacedAt (λ way b. AtFetch state ask read own way b) (told DataToServer (world_at b (Answering (note_replies notes)) c))
-      small e = ends_at Installed (stored rise state rise.octets) (stored_far (stored rise state rise.octets).table b.far) (serves false e) (record {
-        near = h.near;
-        session = refl;
-        steady = stored_steady state rise b.near b.far h.steady h.ready.1 rise.octets;
-        timed = h.timed;
-        ready = h.ready;
-        link = refl;
-        to_server = refl;
-        to_client = refl;
-        came = tt;
-        marked = none_more own h.marked;
-        way_is = refl;
-        fine = (
-          installed_fares state ask good rise h.ready.2 h.ready.1 h.fine.0 own e,
-          h.ready.2.sound state rise.octets sound h.ready.1 h.fine.0.0 (within_limit state ask good rise h.ready.2 h.ready.1 h.fine.0 (length rise.octets) e),
-          h.fine.3.0,
-          tt,
-        );
-      })
+      small e = ends_at Installed (stored rise state rise.octets) (stored_far (stored rise state rise.octets).table b.far) (serves false e) (at_stage h.near
+      refl (stored_steady state rise b.near b.far h.steady h.ready.1 rise.octets) h.timed h.ready refl refl refl tt (none_more own h.marked) refl
+      (installed_fares state ask good rise h.ready.2 h.ready.1 h.fine.0 own e, h.ready.2.sound state rise.octets sound h.ready.1 h.fine.0.0 (within_limit state ask good rise h.ready.2 h.ready.1 h.fine.0 (length rise.octets) e), h.fine.3.0, tt))

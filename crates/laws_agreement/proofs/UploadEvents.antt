@@ -34,6 +34,7 @@ use Rattle.laws_agreement.specs.Rising.{Fate, Overfilled, CutOff, Lift, Offered,
 use Rattle.laws_agreement.specs.Stages.{Stage, Rises, Holds, AtFetch}
 use Rattle.laws_agreement.proofs.Breaks.{behind_break, closed_break, giving_break, left_breaks, left_ends}
 use Rattle.laws_agreement.proofs.FetchLink.{Leads, far_linked, fits_more, offer_breaks}
+use Rattle.laws_agreement.proofs.Placing.{at_stage}
 use Rattle.laws_agreement.proofs.Sessions.{fixed}
 use Rattle.laws_agreement.proofs.UploadFates.{cut_off_fares, keep_few, overfull_fares, whole_over, within_limit}
 use Rattle.laws_agreement.proofs.UploadServer.{far_by, stored_far, stored_steady, text_by, upload_breaks, upload_far}
@@ -154,26 +155,9 @@ module _ (read : Reading) (state : State) (ask : Ask) (good : IsAsk ask) (sound 
       }
 
       big : came_over b past came coming mark notes g ≡ true → Breaks (Answering rows) b c
-      big e = placed (Overfilled ours) state (upload_far FarData.Free b.far) (serves true e) (record {
-        near = refl;
-        session = refl;
-        steady = g.steady;
-        timed = g.timed;
-        ready = (g.set, g.known, g.upload);
-        link = refl;
-        to_server = refl;
-        to_client = refl;
-        came = tt;
-        marked = few;
-        way_is = refl;
-        fine = (
-          overfull_fares state ask good rise g.upload g.known g.climbs.0 (own ++ Broken b.came ∷ [])
-              (whole_over state ask good rise g.upload g.known g.climbs.0 came (came_front b past came coming mark notes g) e),
-          sound,
-          g.climbs.3.0,
-          tt,
-        );
-      })
+      big e = placed (Overfilled ours) state (upload_far FarData.Free b.far) (serves true e) (at_stage refl refl g.steady g.timed (g.set, g.known, g.upload)
+      refl refl refl tt few refl
+      (overfull_fares state ask good rise g.upload g.known g.climbs.0 (own ++ Broken b.came ∷ []) (whole_over state ask good rise g.upload g.known g.climbs.0 came (came_front b past came coming mark notes g) e), sound, g.climbs.3.0, tt))
 
       -- no limit was passed where none is by what came
       within : came_over b past came coming mark notes g ≡ false → past ≡ false
@@ -183,26 +167,9 @@ module _ (read : Reading) (state : State) (ask : Ask) (good : IsAsk ask) (sound 
       small e =
           let content : List ℕ = (decoder_of ask.settings came).content in
           let after : State = stored rise state content in
-          placed (CutOff ours (last_held mark notes)) after (stored_far after.table b.far) (serves false e) (record {
-            near = refl;
-            session = refl;
-            steady = stored_steady state rise b.near b.far g.steady g.known content;
-            timed = g.timed;
-            ready = (g.set, g.known, g.upload);
-            link = refl;
-            to_server = refl;
-            to_client = refl;
-            came = tt;
-            marked = few;
-            way_is = refl;
-            fine = (
-              cut_off_fares state ask good rise g.upload g.known g.climbs.0 (own ++ Broken b.came ∷ []) came (last_held mark notes) (came_front b past came coming mark notes g) e marked
-                  (g.climbs.3.1 (within e)).1,
-              g.upload.sound state content sound g.known g.climbs.0.0 (within_limit state ask good rise g.upload g.known g.climbs.0 (length content) e),
-              g.climbs.3.0,
-              refl,
-            );
-          })
+          placed (CutOff ours (last_held mark notes)) after (stored_far after.table b.far) (serves false e) (at_stage refl refl
+          (stored_steady state rise b.near b.far g.steady g.known content) g.timed (g.set, g.known, g.upload) refl refl refl tt few refl
+          (cut_off_fares state ask good rise g.upload g.known g.climbs.0 (own ++ Broken b.came ∷ []) came (last_held mark notes) (came_front b past came coming mark notes g) e marked (g.climbs.3.1 (within e)).1, g.upload.sound state content sound g.known g.climbs.0.0 (within_limit state ask good rise g.upload g.known g.climbs.0 (length content) e), g.climbs.3.0, refl))
 
   -- before the 150 is heard
   offered_breaks : (b : World) (c : Cut) → Fits (lift_way Offered) c → Stands (Rises rise Offered) (lift_way Offered) b → Breaks (lift_way Offered) b c
@@ -275,20 +242,8 @@ module _ (read : Reading) (state : State) (ask : Ask) (good : IsAsk ask) (sound 
         fits = fits;
         here = inr (
           Rises rise (Declined why (Vanished true)),
-          record {
-            near = refl;
-            session = h.session;
-            steady = h.steady;
-            timed = h.timed;
-            ready = h.ready;
-            link = refl;
-            to_server = refl;
-            to_client = refl;
-            came = tt;
-            marked = subst (λ l. length l ≤ 1) (sym (one_mark own (Broken b.came) h.marked)) (omega arith);
-            way_is = h.way_is;
-            fine = h.fine;
-          },
+          at_stage refl h.session h.steady h.timed h.ready refl refl refl tt
+          (subst (λ l. length l ≤ 1) (sym (one_mark own (Broken b.came) h.marked)) (omega arith)) h.way_is h.fine,
         );
       }
 
@@ -326,20 +281,7 @@ module _ (read : Reading) (state : State) (ask : Ask) (good : IsAsk ask) (sound 
         fits = fits;
         here = inr (
           Rises rise (Declined why (Vanished false)),
-          record {
-            near = refl;
-            session = h.session;
-            steady = h.steady;
-            timed = h.timed;
-            ready = h.ready;
-            link = refl;
-            to_server = refl;
-            to_client = refl;
-            came = tt;
-            marked = subst (λ l. length l ≤ 1) (sym h.marked) (omega arith);
-            way_is = h.way_is;
-            fine = h.fine;
-          },
+          at_stage refl h.session h.steady h.timed h.ready refl refl refl tt (subst (λ l. length l ≤ 1) (sym h.marked) (omega arith)) h.way_is h.fine,
         );
       }
 

@@ -29,6 +29,7 @@ use Rattle.laws_agreement.specs.Cut.{world_at, PlacedAt}
 use Rattle.laws_agreement.specs.Rising.{Lift, Rising, Risen, held, sending}
 use Rattle.laws_agreement.specs.Stages.{Awaits, Rises, Holds, AtFetch, at_port}
 use Rattle.laws_agreement.proofs.FetchLink.{far_linked}
+use Rattle.laws_agreement.proofs.Placing.{at_stage}
 use Rattle.laws_agreement.proofs.Still.{no_octets as no_cut}
 use Rattle.laws_agreement.proofs.UploadFates.{keep_few}
 
@@ -99,31 +100,9 @@ module _ (read : Reading) (state : State) (ask : Ask) (good : IsAsk ask) (sound 
   upload_accepted = by_text rise.text refl
     where
       by_text : (text : List ℕ) → rise.text ≡ text → PlacedAt At (link_opens w)
-      by_text [] e = accepts (gave_at ask.op upload.all b.near None) (Risen false false [] [] None []) (none_near e) (record {
-        near = refl;
-        session = refl;
-        steady = h.steady;
-        timed = h.timed;
-        ready = (h.ready.0, h.ready.1, upload);
-        link = refl;
-        to_server = h.to_server;
-        to_client = h.to_client;
-        came = refl;
-        marked = h.marked;
-        way_is = refl;
-        fine = (h.fine, sym e, λ past. absurd (cc), (tt, λ past. (omega (arith, keep_few state ask good rise upload h.ready.1 h.fine sound), refl)));
-      })
-      by_text (octet ∷ more) e = accepts (giving_at ask.op upload.all b.near Replies.Begun (octet ∷ more) None) (Rising false octet more [] [] None []) (some_near octet more e) (record {
-        near = refl;
-        session = refl;
-        steady = h.steady;
-        timed = h.timed;
-        ready = (h.ready.0, h.ready.1, upload);
-        link = refl;
-        to_server = h.to_server;
-        to_client = h.to_client;
-        came = refl;
-        marked = h.marked;
-        way_is = refl;
-        fine = (h.fine, sym e, λ past. absurd (cc), (tt, λ past. (omega (arith, keep_few state ask good rise upload h.ready.1 h.fine sound), refl)));
-      })
+      by_text [] e = accepts (gave_at ask.op upload.all b.near None) (Risen false false [] [] None []) (none_near e) (at_stage refl refl h.steady h.timed
+      (h.ready.0, h.ready.1, upload) refl h.to_server h.to_client refl h.marked refl
+      (h.fine, sym e, λ past. absurd (cc), (tt, λ past. (omega (arith, keep_few state ask good rise upload h.ready.1 h.fine sound), refl))))
+      by_text (octet ∷ more) e = accepts (giving_at ask.op upload.all b.near Replies.Begun (octet ∷ more) None) (Rising false octet more [] [] None []) (some_near octet more e) (at_stage
+      refl refl h.steady h.timed (h.ready.0, h.ready.1, upload) refl h.to_server h.to_client refl h.marked refl
+      (h.fine, sym e, λ past. absurd (cc), (tt, λ past. (omega (arith, keep_few state ask good rise upload h.ready.1 h.fine sound), refl))))

@@ -31,6 +31,7 @@ use Rattle.laws_agreement.specs.Stages as Stages
 use Rattle.laws_agreement.specs.Stages.{Leaving, LinkLeft, LinkParting, Stage, Rises, Tells, Answers, Holds, no_link, is_to_close, far_leaves, far_parting, link_left, pending_left, AtServed}
 use Rattle.laws_agreement.proofs.Fates.{refused_fares, broken_link_fares}
 use Rattle.laws_agreement.proofs.FetchReplies.{at_first, none_more, one_more}
+use Rattle.laws_agreement.proofs.Placing.{at_stage}
 use Rattle.laws_agreement.proofs.UploadFates.{keep_few}
 
 module _ (read : Reading) (state : State) (ask : Ask) (good : IsAsk ask) (sound : IsSound state) (own : List Mark) (rise : Rise) where
@@ -67,20 +68,8 @@ module _ (read : Reading) (state : State) (ask : Ask) (good : IsAsk ask) (sound 
         (
           inr (
             Rises rise (Risen false false [] [] None []),
-            record {
-              near = refl;
-              session = h.session;
-              steady = h.steady;
-              timed = h.timed;
-              ready = h.ready;
-              link = h.link;
-              to_server = h.to_server;
-              to_client = h.to_client;
-              came = h.came;
-              marked = h.marked;
-              way_is = refl;
-              fine = (h.fine, sym is, λ e. absurd (cc), (tt, λ e. (none_came h.ready.2 h.fine h.ready.1, refl)));
-            },
+            at_stage refl h.session h.steady h.timed h.ready h.link h.to_server h.to_client h.came h.marked refl
+                (h.fine, sym is, λ e. absurd (cc), (tt, λ e. (none_came h.ready.2 h.fine h.ready.1, refl))),
           ),
           refl,
         ),
@@ -96,20 +85,8 @@ module _ (read : Reading) (state : State) (ask : Ask) (good : IsAsk ask) (sound 
         (
           inr (
             Rises rise (Rising false octet more [] [] None []),
-            record {
-              near = refl;
-              session = h.session;
-              steady = h.steady;
-              timed = h.timed;
-              ready = h.ready;
-              link = h.link;
-              to_server = h.to_server;
-              to_client = h.to_client;
-              came = h.came;
-              marked = h.marked;
-              way_is = refl;
-              fine = (h.fine, sym is, λ e. absurd (cc), (tt, λ e. (none_came h.ready.2 h.fine h.ready.1, refl)));
-            },
+            at_stage refl h.session h.steady h.timed h.ready h.link h.to_server h.to_client h.came h.marked refl
+                (h.fine, sym is, λ e. absurd (cc), (tt, λ e. (none_came h.ready.2 h.fine h.ready.1, refl))),
           ),
           refl,
         ),
@@ -128,20 +105,7 @@ module _ (read : Reading) (state : State) (ask : Ask) (good : IsAsk ask) (sound 
     (
       inr (
         Rises rise (Settled true mark notes fate left after),
-        record {
-          near = refl;
-          session = h.session;
-          steady = h.steady;
-          timed = h.timed;
-          ready = h.ready;
-          link = h.link;
-          to_server = h.to_server;
-          to_client = h.to_client;
-          came = tt;
-          marked = h.marked;
-          way_is = refl;
-          fine = h.fine;
-        },
+        at_stage refl h.session h.steady h.timed h.ready h.link h.to_server h.to_client tt h.marked refl h.fine,
       ),
       refl,
     ),
@@ -172,20 +136,7 @@ module _ (read : Reading) (state : State) (ask : Ask) (good : IsAsk ask) (sound 
     (
       inr (
         Tells rise (fate_said fate) after,
-        record {
-          near = refl;
-          session = h.session;
-          steady = h.steady;
-          timed = h.timed;
-          ready = tt;
-          link = h.link;
-          to_server = h.to_server;
-          to_client = h.to_client;
-          came = tt;
-          marked = h.marked;
-          way_is = refl;
-          fine = (h.fine.0, h.fine.1, h.ready.2.sends_is);
-        },
+        at_stage refl h.session h.steady h.timed tt h.link h.to_server h.to_client tt h.marked refl (h.fine.0, h.fine.1, h.ready.2.sends_is),
       ),
       refl,
     ),
@@ -212,20 +163,8 @@ module _ (read : Reading) (state : State) (ask : Ask) (good : IsAsk ask) (sound 
     (
       inr (
         Rises rise (Rising past octet left came queue (Some note.held) notes),
-        record {
-          near = refl;
-          session = h.session;
-          steady = h.steady;
-          timed = h.timed;
-          ready = h.ready;
-          link = h.link;
-          to_server = h.to_server;
-          to_client = h.to_client;
-          came = h.came;
-          marked = h.marked;
-          way_is = refl;
-          fine = (h.fine.0, h.fine.1, h.fine.2, (h.fine.3.0.1, h.fine.3.1));
-        },
+        at_stage refl h.session h.steady h.timed h.ready h.link h.to_server h.to_client h.came h.marked refl
+            (h.fine.0, h.fine.1, h.fine.2, (h.fine.3.0.1, h.fine.3.1)),
       ),
       refl,
     ),
@@ -239,20 +178,8 @@ module _ (read : Reading) (state : State) (ask : Ask) (good : IsAsk ask) (sound 
     (
       inr (
         Rises rise (Risen past closed came queue (Some note.held) notes),
-        record {
-          near = refl;
-          session = h.session;
-          steady = h.steady;
-          timed = h.timed;
-          ready = h.ready;
-          link = h.link;
-          to_server = h.to_server;
-          to_client = h.to_client;
-          came = h.came;
-          marked = h.marked;
-          way_is = refl;
-          fine = (h.fine.0, h.fine.1, h.fine.2, (h.fine.3.0.1, h.fine.3.1));
-        },
+        at_stage refl h.session h.steady h.timed h.ready h.link h.to_server h.to_client h.came h.marked refl
+            (h.fine.0, h.fine.1, h.fine.2, (h.fine.3.0.1, h.fine.3.1)),
       ),
       refl,
     ),
@@ -272,20 +199,8 @@ module _ (read : Reading) (state : State) (ask : Ask) (good : IsAsk ask) (sound 
     (
       inr (
         Rises rise (Settled true (Some note.held) notes fate left after),
-        record {
-          near = refl;
-          session = h.session;
-          steady = h.steady;
-          timed = h.timed;
-          ready = h.ready;
-          link = h.link;
-          to_server = h.to_server;
-          to_client = h.to_client;
-          came = tt;
-          marked = h.marked;
-          way_is = refl;
-          fine = (h.fine.0, h.fine.1, h.fine.2.1, still_heard fate mark note notes h.fine.3);
-        },
+        at_stage refl h.session h.steady h.timed h.ready h.link h.to_server h.to_client tt h.marked refl
+            (h.fine.0, h.fine.1, h.fine.2.1, still_heard fate mark note notes h.fine.3),
       ),
       refl,
     ),
@@ -308,20 +223,7 @@ module _ (read : Reading) (state : State) (ask : Ask) (good : IsAsk ask) (sound 
     (
       inr (
         Answers said leaves,
-        record {
-          near = refl;
-          session = session;
-          steady = subst (λ s. IsSteadySession s (kept b.near b.far)) same h.steady;
-          timed = h.timed;
-          ready = tt;
-          link = link;
-          to_server = to_server;
-          to_client = to_client;
-          came = tt;
-          marked = marked;
-          way_is = refl;
-          fine = fares;
-        },
+        at_stage refl session (subst (λ s. IsSteadySession s (kept b.near b.far)) same h.steady) h.timed tt link to_server to_client tt marked refl fares,
       ),
       refl,
     ),

@@ -22,6 +22,7 @@ use Rattle.laws_agreement.specs.Rising.{Lift, Risen, Declined, Closing, Shut, se
 use Rattle.laws_agreement.specs.Stages.{Rises, Holds, AtFetch}
 use Rattle.laws_agreement.proofs.FetchLink.{Leads, near_acts}
 use Rattle.laws_agreement.proofs.FetchServed.{Served, closed_base, link_closes}
+use Rattle.laws_agreement.proofs.Placing.{at_stage}
 use Rattle.laws_agreement.proofs.Rests.{after_rests, near_form, near_rests}
 use Rattle.laws_agreement.proofs.Still.{seen_at, seen_placed}
 use Rattle.laws_agreement.proofs.UploadRests.{lift_rests}
@@ -63,20 +64,8 @@ module _ (read : Reading) (state : State) (ask : Ask) (plan : HasPlan ask) (own 
       let to : World = gone_base mark s.base in
       let new : World = world_at to way s.cut in
       let closes : near_served w ≡ new = ap near_served is ∙ gave_closes mark notes s.base s.cut fits h.near h.link in
-      let stands : Stands (Risen past true came queue mark notes) way to = record {
-        near = refl;
-        session = h.session;
-        steady = h.steady;
-        timed = h.timed;
-        ready = h.ready;
-        link = refl;
-        to_server = h.to_server;
-        to_client = h.to_client;
-        came = h.came;
-        marked = h.marked;
-        way_is = refl;
-        fine = h.fine;
-      } in
+      let stands : Stands (Risen past true came queue mark notes) way to = at_stage refl h.session h.steady h.timed h.ready refl h.to_server h.to_client
+      h.came h.marked refl h.fine in
       let rests = lift_rests state ask own rise (Risen past true came queue mark notes) to new way (seen_at to way s.cut fits) stands refl in
       let behind : World → World = λ u. collected (far_served (far_served (far_served (near_served (near_served u))))) in
       let new_is : after_event w ≡ new = ap behind closes ∙ ap behind (sym rests.near) ∙ after_rests new rests in
@@ -108,20 +97,7 @@ module _ (read : Reading) (state : State) (ask : Ask) (plan : HasPlan ask) (own 
           fits = subst (λ way. Fits way s.cut) h.way_is s.fits;
           here = inr (
             Rises rise (Declined why Shut),
-            record {
-              near = h.near;
-              session = refl;
-              steady = h.steady;
-              timed = h.timed;
-              ready = h.ready;
-              link = refl;
-              to_server = h.to_server;
-              to_client = h.to_client;
-              came = tt;
-              marked = h.marked;
-              way_is = refl;
-              fine = h.fine;
-            },
+            at_stage h.near refl h.steady h.timed h.ready refl h.to_server h.to_client tt h.marked refl h.fine,
           );
         };
         lasts = refl;

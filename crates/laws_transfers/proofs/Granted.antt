@@ -39,6 +39,7 @@ use Rattle.laws_agreement.proofs.FetchReplies.{at_first}
 use Rattle.laws_agreement.proofs.FetchServed.{leads_still}
 use Rattle.laws_agreement.proofs.FetchTurns.{fetch_goes}
 use Rattle.laws_agreement.proofs.Keeps.{pushes_to_client}
+use Rattle.laws_agreement.proofs.Placing.{at_stage}
 use Rattle.laws_agreement.proofs.Still.{IsSeen, IsStill, seen_placed}
 use Rattle.laws_drivers.proofs.world.Running.{free_still, not_lost, under_still}
 use Rattle.laws_transfers.specs.Actions.{AreGranted, IsGranted}
@@ -107,20 +108,8 @@ module _ (read : Reading) (reads : IsReading read) (state : State) (ask : Ask) (
           ∙ rest_granted ask good.plan (early_near early) (rest_reply at).lines b.near;
       fine = (carried ask.command good.row.typed good.row.stated, refl);
     },
-    inr (record {
-      near = refl;
-      session = h.session ∙ ap (λ o. linked (early_far b.near.here early) false (offset_pending o) b.far.session) (sym h.fine.0);
-      steady = h.steady;
-      timed = h.timed;
-      ready = h.ready;
-      link = h.link;
-      to_server = h.to_server;
-      to_client = h.to_client;
-      came = h.came;
-      marked = h.marked;
-      way_is = refl;
-      fine = subst (IsPlacedAt ask.settings) (sym h.fine.0) h.fine.1;
-    }),
+    inr (at_stage refl (h.session ∙ ap (λ o. linked (early_far b.near.here early) false (offset_pending o) b.far.session) (sym h.fine.0)) h.steady h.timed
+        h.ready h.link h.to_server h.to_client h.came h.marked refl (subst (IsPlacedAt ask.settings) (sym h.fine.0) h.fine.1)),
   )
 
   told : (reply : Reply) (more : List Reply) (b : World) → AtGrant (Answering (reply ∷ more)) b → Hears b reply more ⊎ Crosses Never b reply more
