@@ -132,9 +132,11 @@ module _ (read : Reading) (state : State) (ask : Ask) (good : IsAsk ask) (sound 
     -- a refused link is placed, with the mark of a refusal
     pub refused_placed : PlacedAt (At (own ++ Refused ∷ [])) (link_refused w)
     unfolding refused_base
-    refused_placed = placed (own ++ Refused ∷ []) (link_refused w) refused_base rest no_cut (Answers NotOpened port_aside) refused_is (tt, (refl, refl)) (at_stage
-    refl h.session h.steady h.timed tt h.link h.to_server h.to_client tt (subst (λ l. length l ≤ 1) (sym (marked_so Refused h.marked)) (omega arith)) refl
-    (refused_link_fares state ask good (own ++ Refused ∷ []) (marked_so Refused h.marked), refl))
+    refused_placed =
+        placed (own ++ Refused ∷ []) (link_refused w) refused_base rest no_cut (Answers NotOpened port_aside) refused_is (tt, (refl, refl))
+        (at_stage refl h.session h.steady h.timed tt h.link h.to_server h.to_client tt
+        (subst (λ l. length l ≤ 1) (sym (marked_so Refused h.marked)) (omega arith)) refl
+        (refused_link_fares state ask good (own ++ Refused ∷ []) (marked_so Refused h.marked), refl))
 
     -- the command that follows the opening is a line
     opened_line : IsLine (line_of (opened_command ask.offset ask))
@@ -157,11 +159,15 @@ module _ (read : Reading) (state : State) (ask : Ask) (good : IsAsk ask) (sound 
     opened_placed = by_offset ask.offset refl
       where
         by_offset : (o : Option ℕ) → ask.offset ≡ o → PlacedAt (At own) (link_opens w)
-        by_offset None e = opened_at (Retrieves (Dialled true)) (at_stage (ap (λ o. busy (opened_job o ask) NearData.Open b.near) e)
-        (ap (λ o. linked FarData.Ready false o b.far.session) (sym (ap offset_pending e))) h.steady h.timed h.ready refl h.to_server h.to_client refl h.marked
-        (ap (λ o. Asking (line_of (opened_command o ask))) e) (subst (IsPlacedAt ask.settings) (sym e) tt))
-        by_offset (Some at) e = opened_at (Restarts at Sent (Dialled true)) (at_stage (ap (λ o. busy (opened_job o ask) NearData.Open b.near) e) refl h.steady
-        h.timed h.ready refl h.to_server h.to_client refl h.marked (ap (λ o. Asking (line_of (opened_command o ask))) e) (e, tt))
+        by_offset None e =
+            opened_at (Retrieves (Dialled true))
+            (at_stage (ap (λ o. busy (opened_job o ask) NearData.Open b.near) e)
+            (ap (λ o. linked FarData.Ready false o b.far.session) (sym (ap offset_pending e))) h.steady h.timed h.ready refl h.to_server h.to_client refl
+            h.marked (ap (λ o. Asking (line_of (opened_command o ask))) e) (subst (IsPlacedAt ask.settings) (sym e) tt))
+        by_offset (Some at) e =
+            opened_at (Restarts at Sent (Dialled true))
+            (at_stage (ap (λ o. busy (opened_job o ask) NearData.Open b.near) e) refl h.steady h.timed h.ready refl h.to_server h.to_client refl h.marked
+            (ap (λ o. Asking (line_of (opened_command o ask))) e) (e, tt))
 
   -- ---- the server has connected to the client's port, or could not
 

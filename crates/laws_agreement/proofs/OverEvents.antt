@@ -30,7 +30,7 @@ use Rattle.laws_agreement.proofs.OverMoments.{filled_client_context, filled_serv
 use Rattle.laws_agreement.proofs.OverMoves as moves
 use Rattle.laws_agreement.proofs.OverMoves.{Parted, untold_job}
 use Rattle.laws_agreement.proofs.OverServed.{Working}
-use Rattle.laws_agreement.proofs.OverSettles.{Turned, last_order, last_same, single_same, answers_fetch, answers_under, settle_end, settle_next, settle_under}
+use Rattle.laws_agreement.proofs.OverSettles.{Turned, last_order, last_same, single_same, answers_fetch, answers_under, settle_end, settle_next, settle_under, with_own}
 use Rattle.laws_agreement.proofs.OverTold.{some_told, fetch_told, under_told}
 use Rattle.laws_agreement.proofs.Phases.{HasFollowed, follows_after, free_untold}
 use Rattle.laws_agreement.proofs.Still.{free_job, seen}
@@ -64,27 +64,6 @@ module _ (read : Reading) (reads : IsReading read) (from : State) (begun : List 
       by_phase (inl (l, inl f)) = absurd (some_told w.near.job said told (free_untold from orders w f))
       by_phase (inl (l, inr u)) = ap (λ x. x.control_to_client) (under_told read from orders w u said h.unlinked told).at.is
       by_phase (inr l) = absurd (some_told w.near.job said told (ap report_of_job l.near.job))
-
-  -- the last operation with other marks
-  abbrev pub with_own : (w a : World) (g : Going begun w) (own : List Mark) → a.marks ≡ g.marks ++ all_marks g.past own ∷ [] → Going begun a
-  with_own w a g own marks = record {
-    done = g.done;
-    marks = g.marks;
-    upload = g.upload;
-    moment = g.moment;
-    past = g.past;
-    run = g.run;
-    op = g.op;
-    own = own;
-    begun_is = g.begun_is;
-    marks_are = marks;
-    each = g.each;
-    chain = g.chain;
-    of = g.of;
-    one = g.one;
-    path_fine = g.path_fine;
-    dated = g.dated;
-  }
 
   -- ---- behind an event
 
@@ -206,7 +185,7 @@ module _ (read : Reading) (reads : IsReading read) (from : State) (begun : List 
     pub under_same : (a b : World) → Same a b → Runs read from orders (after_event b) → (is_size t.going.op ≡ true → b.far.context.moment ≡ t.going.moment) → OverRuns read from begun (after_event a)
     under_same a b m runs timed =
         let marks : a.marks ≡ w.marks = ap (λ u. u.marks) m.real_is in
-        inr (inl (settle_under read reads from begun a b (with_own w a t.going t.going.own (marks ∙ t.going.marks_are)) w.reports w.cutoff t.all
+        inr (inl (settle_under read reads from begun a b (with_own a t.going t.going.own (marks ∙ t.going.marks_are)) w.reports w.cutoff t.all
         (subst (λ l. Working t.going.run t.going.op l (marks_of t.going) w.reports (w.reports ++ tried_said t.going.past) w.cutoff w.cutoff a b) (sym marks) m) runs timed))
 
     -- or the client has turned
@@ -214,7 +193,7 @@ module _ (read : Reading) (reads : IsReading read) (from : State) (begun : List 
         → (is_size t.going.op ≡ true → b.far.context.moment ≡ t.going.moment) → OverRuns read from begun (after_event a)
     parted_same a b p mid timed =
         let marks : a.marks ≡ w.marks = ap (λ u. u.marks) p.real_is in
-        settles a b (with_own w a t.going t.going.own (marks ∙ t.going.marks_are)) w.reports w.cutoff stands t.all
+        settles a b (with_own a t.going t.going.own (marks ∙ t.going.marks_are)) w.reports w.cutoff stands t.all
         (subst (λ l. Parted t.going.run t.going.op l (marks_of t.going) w.reports (w.reports ++ tried_said t.going.past) w.cutoff w.cutoff a b) (sym marks) p) mid timed
 
     -- ---- octets of the control connection

@@ -26,11 +26,11 @@ use Rattle.laws_agreement.proofs.OverClient.{Beside, Under, Behind, under}
 use Rattle.laws_agreement.proofs.OverLink.{control_end_beside, control_end_none}
 use Rattle.laws_agreement.proofs.OverFollows.{Parts}
 use Rattle.laws_agreement.proofs.OverServed.{wants_same, working_after}
-use Rattle.laws_agreement.proofs.OverSettles.{Turned, settle_end}
+use Rattle.laws_agreement.proofs.OverSettles.{Turned, settle_end, with_own}
 use Rattle.laws_agreement.proofs.Parting.{parts_from_under}
 use Rattle.laws_agreement.proofs.Phases.{HasFollowed}
 use Rattle.laws_agreement.proofs.Running.{no_octet, not_so, three_parts}
-use Rattle.laws_agreement.proofs.OverEvents.{Fetch, Plain, Way, way, stands, delivers_server, delivers_client, with_own, works_busy, real_is}
+use Rattle.laws_agreement.proofs.OverEvents.{Fetch, Plain, Way, way, stands, delivers_server, delivers_client, works_busy, real_is}
 use Rattle.laws_agreement.proofs.OverLinks.{delivers_up, delivers_down, opens, refuses, ends_client, ends_server, breaks}
 
 module _ (read : Reading) (reads : IsReading read) (from : State) (begun : List Order) (w : World) (t : IsTrying read from begun w) where
@@ -77,7 +77,7 @@ module _ (read : Reading) (reads : IsReading read) (from : State) (begun : List 
           let by_alone : Near → World = λ v. record base { near = v } in
           let turned : Turned t.going.run t.going.op said w.marks (marks_of t.going) w.reports (w.reports ++ tried_said t.going.past) c d (ends_control real) (ends_control alone) =
           record { near = n; base = base; alone_is = alone_is ∙ ap by_alone y_is; real_is = real_is ∙ ap by_real x_is; kept = (refl, refl, refl) } in
-          settle_end read reads from begun (ends_control real) (ends_control alone) (with_own read reads from begun w (ends_control real) t.going t.going.own t.going.marks_are) w.reports c d said t.all turned
+          settle_end read reads from begun (ends_control real) (ends_control alone) (with_own (ends_control real) t.going t.going.own t.going.marks_are) w.reports c d said t.all turned
           (control_end_none t.going.run t.going.op t.near said t.works (ap (λ u. u.near.job) alone_is ∙ ap (λ v. v.job) y_is))
           (Parts refl (ap (λ l. Some (length l)) t.going.marks_are)) (inl h)
 

@@ -29,7 +29,8 @@ use Rattle.laws_agreement.proofs.OverMoves.{Parted}
 use Rattle.laws_agreement.proofs.OverServed.{Working, wants_same}
 use Rattle.laws_agreement.proofs.Still.{seen_placed}
 use Rattle.laws_agreement.proofs.UploadRuns as uploads
-use Rattle.laws_agreement.proofs.OverEvents.{goes_on, same, stands, under_same, parted_same, no_fetch, Mid, mid_after, settles, with_own, all_marked}
+use Rattle.laws_agreement.proofs.OverEvents.{goes_on, same, stands, under_same, parted_same, no_fetch, Mid, mid_after, settles, all_marked}
+use Rattle.laws_agreement.proofs.OverSettles.{with_own}
 
 module _ (read : Reading) (reads : IsReading read) (from : State) (begun : List Order) (w : World) (t : IsTrying read from begun w) where
   -- each of its operations begun by itself
@@ -171,7 +172,7 @@ module _ (read : Reading) (reads : IsReading read) (from : State) (begun : List 
       ap (marked_last mark) g.marks_are ∙ marks_last mark g.marks (all_marks g.past g.own) ∙ ap (λ l. g.marks ++ l ∷ []) (all_marked g.past g.own mark) in
       let own_are : marked_last mark (marks_of g) ≡ g.marks ++ (tried_marks g.past ++ own ∷ []) =
       ap (marked_last mark) (sym (append_assoc g.marks (tried_marks g.past) (g.own ∷ []))) ∙ marks_last mark (g.marks ++ tried_marks g.past) g.own ∙ append_assoc g.marks (tried_marks g.past) (own ∷ []) in
-      settles read reads from begun a b (with_own read reads from begun w a g own (marks ∙ marks_are)) w.reports w.cutoff (stands read reads from begun w t) t.all
+      settles read reads from begun a b (with_own a g own (marks ∙ marks_are)) w.reports w.cutoff (stands read reads from begun w t) t.all
       (subst (λ l. Turns a.marks l a b) own_are (subst (λ l. Turns l (marked_last mark (marks_of g)) a b) (sym marks) p)) mid timed
 
   -- it is refused

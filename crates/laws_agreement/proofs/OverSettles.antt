@@ -183,6 +183,28 @@ whole_said now ask said f moment = by f.outcome (f.allowed 0) (f.did_so moment)
     by (Lost All) allowed is = absurd allowed
     by (Lost (Front wire)) allowed is = absurd allowed.0
 
+-- it stands so in a world with these marks of its last operation
+abbrev pub with_own : {begun : List Order} {w : World} (a : World) (g : Going begun w) (own : List Mark) → a.marks ≡ g.marks ++ all_marks g.past own ∷ []
+    → Going begun a
+with_own a g own marks = record {
+  done = g.done;
+  marks = g.marks;
+  upload = g.upload;
+  moment = g.moment;
+  past = g.past;
+  run = g.run;
+  op = g.op;
+  own = own;
+  begun_is = g.begun_is;
+  marks_are = marks;
+  each = g.each;
+  chain = g.chain;
+  of = g.of;
+  one = g.one;
+  path_fine = g.path_fine;
+  dated = g.dated;
+}
+
 module _ (read : Reading) (reads : IsReading read) (from : State) (begun : List Order) where
   -- the operation is under way still
   pub settle_under : (a b : World) (g : Going begun a) (reports : List Said) (cutoff : Option ℕ) → length reports ≡ length g.done
@@ -194,24 +216,7 @@ module _ (read : Reading) (reads : IsReading read) (from : State) (begun : List 
       let alone : World = record x { near = record m.near { run = None }; marks = marks_of g; reports = reports ++ tried_said g.past } in
       let alone_is : after_event b ≡ alone = m.alone_is ∙ (λ i. record (by_itself m.near m.base) { marks = m.kept.0 i; reports = m.kept.1 i; cutoff = m.kept.2 i }) in
       subst (IsTrying read from begun) (sym m.real_is) (record {
-        going = record {
-          done = g.done;
-          marks = g.marks;
-          upload = g.upload;
-          moment = g.moment;
-          past = g.past;
-          run = g.run;
-          op = g.op;
-          own = g.own;
-          begun_is = g.begun_is;
-          marks_are = g.marks_are;
-          each = g.each;
-          chain = g.chain;
-          of = g.of;
-          one = g.one;
-          path_fine = g.path_fine;
-          dated = g.dated;
-        };
+        going = with_own x g g.own g.marks_are;
         near = m.near;
         near_is = refl;
         works = m.fine;
@@ -271,24 +276,7 @@ module _ (read : Reading) (reads : IsReading read) (from : State) (begun : List 
               let back : v ≡ record x { marks = marks_of g; reports = reports ++ (tried_said g.past ++ said ∷ []) } =
               (λ i. record v { marks = c.marks_are i; reports = each i; cutoff = (c.cutoff_is ∙ own ∙ sym other) i }) in
               inr (inr (subst (IsTailing read from begun) (sym c.real_is) (record {
-                going = record {
-                  done = g.done;
-                  marks = g.marks;
-                  upload = g.upload;
-                  moment = g.moment;
-                  past = g.past;
-                  run = g.run;
-                  op = g.op;
-                  own = g.own;
-                  begun_is = g.begun_is;
-                  marks_are = g.marks_are;
-                  each = g.each;
-                  chain = g.chain;
-                  of = g.of;
-                  one = g.one;
-                  path_fine = g.path_fine;
-                  dated = g.dated;
-                };
+                going = with_own x g g.own g.marks_are;
                 reports = reports;
                 said = said;
                 all = all;

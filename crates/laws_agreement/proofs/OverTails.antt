@@ -22,7 +22,8 @@ use Rattle.laws_agreement.specs.Tried.{Tried, tried_orders, tried_marks, tried_s
 use Rattle.laws_agreement.proofs.Events.{IsNoBeginning, never}
 use Rattle.laws_agreement.proofs.FetchParting.{trailing_parts}
 use Rattle.laws_agreement.proofs.FetchTold.{closed_is, marks_last, trailing_ends, trailing_breaks}
-use Rattle.laws_agreement.proofs.OverEvents.{all_marked, with_own}
+use Rattle.laws_agreement.proofs.OverEvents.{all_marked}
+use Rattle.laws_agreement.proofs.OverSettles.{with_own}
 use Rattle.laws_agreement.proofs.OverFollows.{Ends, Stands, Parts, follows_folded, with_told}
 use Rattle.laws_agreement.proofs.Agreeing.{runs_agree}
 use Rattle.laws_agreement.proofs.OverItems.{fold}
@@ -86,10 +87,10 @@ module _ (read : Reading) (reads : IsReading read) (from : State) (begun : List 
   -- the world follows with it behind an event
   folds : (own : List Mark) (a b : World) (cutoff own_cutoff : Option ℕ) (marks : a.marks ≡ t.going.marks ++ all_marks t.going.past own ∷ [])
       → Resting a.marks (t.going.marks ++ (tried_marks t.going.past ++ own ∷ [])) w.reports each cutoff own_cutoff a b
-      → Ends read from begun a (with_own read reads from begun w a t.going own marks) t.reports t.said t.all t.last own_cutoff cutoff
+      → Ends read from begun a (with_own a t.going own marks) t.reports t.said t.all t.last own_cutoff cutoff
       → Follows read from orders (after_event b) → Follows read from begun (after_event a)
   folds own a b cutoff own_cutoff marks rests ends h =
-      let g = with_own read reads from begun w a t.going own marks in
+      let g = with_own a t.going own marks in
       let r = idle_after a.marks (t.going.marks ++ (tried_marks t.going.past ++ own ∷ [])) w.reports each cutoff own_cutoff a b rests in
       let v : World = after_event b in
       let as_told : after_event a ≡ with_told (t.going.marks ++ all_marks t.going.past own ∷ []) (t.reports ++ t.said ∷ []) cutoff v =

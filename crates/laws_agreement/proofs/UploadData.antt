@@ -329,10 +329,14 @@ module _ (read : Reading) (state : State) (ask : Ask) (good : IsAsk ask) (sound 
   rise_ends = by_bool (is_some (excess_of rise state (length rise.octets))) big small
     where
       big : is_some (excess_of rise state (length rise.octets)) ≡ true → PlacedAt (λ way b. AtFetch state ask read own way b) (told DataToServer (world_at b (Answering (note_replies notes)) c))
-      big e = ends_at (Overfilled true) state (upload_far FarData.Free b.far) (serves true e) (at_stage h.near refl h.steady h.timed h.ready refl refl refl tt
-      (none_more own h.marked) refl (overfull_fares state ask good rise h.ready.2 h.ready.1 h.fine.0 own e, sound, h.fine.3.0, tt))
+      big e =
+          ends_at (Overfilled true) state (upload_far FarData.Free b.far) (serves true e)
+          (at_stage h.near refl h.steady h.timed h.ready refl refl refl tt (none_more own h.marked) refl
+          (overfull_fares state ask good rise h.ready.2 h.ready.1 h.fine.0 own e, sound, h.fine.3.0, tt))
 
       small : is_some (excess_of rise state (length rise.octets)) ≡ false → PlacedAt (λ way b. AtFetch state ask read own way b) (told DataToServer (world_at b (Answering (note_replies notes)) c))
-      small e = ends_at Installed (stored rise state rise.octets) (stored_far (stored rise state rise.octets).table b.far) (serves false e) (at_stage h.near
-      refl (stored_steady state rise b.near b.far h.steady h.ready.1 rise.octets) h.timed h.ready refl refl refl tt (none_more own h.marked) refl
-      (installed_fares state ask good rise h.ready.2 h.ready.1 h.fine.0 own e, h.ready.2.sound state rise.octets sound h.ready.1 h.fine.0.0 (within_limit state ask good rise h.ready.2 h.ready.1 h.fine.0 (length rise.octets) e), h.fine.3.0, tt))
+      small e =
+          ends_at Installed (stored rise state rise.octets) (stored_far (stored rise state rise.octets).table b.far) (serves false e)
+          (at_stage h.near refl (stored_steady state rise b.near b.far h.steady h.ready.1 rise.octets) h.timed h.ready refl refl refl tt
+          (none_more own h.marked) refl
+          (installed_fares state ask good rise h.ready.2 h.ready.1 h.fine.0 own e, h.ready.2.sound state rise.octets sound h.ready.1 h.fine.0.0 (within_limit state ask good rise h.ready.2 h.ready.1 h.fine.0 (length rise.octets) e), h.fine.3.0, tt))

@@ -155,9 +155,10 @@ module _ (read : Reading) (state : State) (ask : Ask) (good : IsAsk ask) (sound 
       }
 
       big : came_over b past came coming mark notes g ≡ true → Breaks (Answering rows) b c
-      big e = placed (Overfilled ours) state (upload_far FarData.Free b.far) (serves true e) (at_stage refl refl g.steady g.timed (g.set, g.known, g.upload)
-      refl refl refl tt few refl
-      (overfull_fares state ask good rise g.upload g.known g.climbs.0 (own ++ Broken b.came ∷ []) (whole_over state ask good rise g.upload g.known g.climbs.0 came (came_front b past came coming mark notes g) e), sound, g.climbs.3.0, tt))
+      big e =
+          placed (Overfilled ours) state (upload_far FarData.Free b.far) (serves true e)
+          (at_stage refl refl g.steady g.timed (g.set, g.known, g.upload) refl refl refl tt few refl
+          (overfull_fares state ask good rise g.upload g.known g.climbs.0 (own ++ Broken b.came ∷ []) (whole_over state ask good rise g.upload g.known g.climbs.0 came (came_front b past came coming mark notes g) e), sound, g.climbs.3.0, tt))
 
       -- no limit was passed where none is by what came
       within : came_over b past came coming mark notes g ≡ false → past ≡ false
@@ -243,7 +244,7 @@ module _ (read : Reading) (state : State) (ask : Ask) (good : IsAsk ask) (sound 
         here = inr (
           Rises rise (Declined why (Vanished true)),
           at_stage refl h.session h.steady h.timed h.ready refl refl refl tt
-          (subst (λ l. length l ≤ 1) (sym (one_mark own (Broken b.came) h.marked)) (omega arith)) h.way_is h.fine,
+              (subst (λ l. length l ≤ 1) (sym (one_mark own (Broken b.came) h.marked)) (omega arith)) h.way_is h.fine,
         );
       }
 

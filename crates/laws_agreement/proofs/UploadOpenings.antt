@@ -100,9 +100,11 @@ module _ (read : Reading) (state : State) (ask : Ask) (good : IsAsk ask) (sound 
   upload_accepted = by_text rise.text refl
     where
       by_text : (text : List ℕ) → rise.text ≡ text → PlacedAt At (link_opens w)
-      by_text [] e = accepts (gave_at ask.op upload.all b.near None) (Risen false false [] [] None []) (none_near e) (at_stage refl refl h.steady h.timed
-      (h.ready.0, h.ready.1, upload) refl h.to_server h.to_client refl h.marked refl
-      (h.fine, sym e, λ past. absurd (cc), (tt, λ past. (omega (arith, keep_few state ask good rise upload h.ready.1 h.fine sound), refl))))
-      by_text (octet ∷ more) e = accepts (giving_at ask.op upload.all b.near Replies.Begun (octet ∷ more) None) (Rising false octet more [] [] None []) (some_near octet more e) (at_stage
-      refl refl h.steady h.timed (h.ready.0, h.ready.1, upload) refl h.to_server h.to_client refl h.marked refl
-      (h.fine, sym e, λ past. absurd (cc), (tt, λ past. (omega (arith, keep_few state ask good rise upload h.ready.1 h.fine sound), refl))))
+      by_text [] e =
+          accepts (gave_at ask.op upload.all b.near None) (Risen false false [] [] None []) (none_near e)
+          (at_stage refl refl h.steady h.timed (h.ready.0, h.ready.1, upload) refl h.to_server h.to_client refl h.marked refl
+          (h.fine, sym e, λ past. absurd (cc), (tt, λ past. (omega (arith, keep_few state ask good rise upload h.ready.1 h.fine sound), refl))))
+      by_text (octet ∷ more) e =
+          accepts (giving_at ask.op upload.all b.near Replies.Begun (octet ∷ more) None) (Rising false octet more [] [] None []) (some_near octet more e)
+          (at_stage refl refl h.steady h.timed (h.ready.0, h.ready.1, upload) refl h.to_server h.to_client refl h.marked refl
+          (h.fine, sym e, λ past. absurd (cc), (tt, λ past. (omega (arith, keep_few state ask good rise upload h.ready.1 h.fine sound), refl))))
