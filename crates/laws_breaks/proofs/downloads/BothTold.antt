@@ -49,7 +49,7 @@ use Rattle.laws_breaks.proofs.downloads.Lagging.{Lags, OfMarks, Then, Whole, bes
 use Rattle.laws_breaks.proofs.downloads.Last.{AreFew, LastAll, last_few, short_few}
 use Rattle.laws_breaks.proofs.downloads.Preceding.{Precedes, asks_all, behind, gives_at, gives_now, near_at, near_is, steady, steady_here, steady_now, unaware}
 use Rattle.laws_breaks.proofs.downloads.Rows.{Steady}
-use Rattle.laws_breaks.proofs.downloads.Steps.{Again, At, both_again, client_step, same_again, server_step}
+use Rattle.laws_breaks.proofs.downloads.Steps.{Again, At, both_again, client_step, recounted, same_again, server_step}
 use Rattle.laws_breaks.proofs.downloads.Unaware.{late_break, steady_told}
 use Rattle.laws_breaks.proofs.downloads.Untold.{Loading, fault_told, loading_of, loading_short, loads_of, told_wants}
 use Rattle.laws_breaks.proofs.downloads.Unsent.{Unsent, unsent_kept}
@@ -69,49 +69,6 @@ standing view channel left unheard = record { owner = record { end = holding vie
 module _ (read : Reading) (reads : IsReading read) (moments : ℕ → ℕ) (timed : AreMoments moments) (b : Beginning) (fair : IsFair b) where
   abbrev Stands : (actions : List (Action client_side)) (between : Between) (count : ℕ) (server : Stand server_side) (client : Stand client_side) → Type 0
   Stands actions between count server client = At read reads moments timed b fair actions between count server client
-
-  -- what a server's counts are, what its clock told and what was written is of no matter
-  recounted : (actions : List (Action client_side)) (between : Between) (count : ℕ) (server : Stand server_side) (client : Stand client_side)
-      (o : Stands actions between count (standing server.owner.end.server.view server.owner.channel server.left server.unheard) client)
-      → Again read reads moments timed b fair actions between count server client o.world.marks
-  recounted actions between count server client o =
-      let t = o.together in
-      let s = t.beside in (
-        record {
-          world = o.world;
-          leads = o.leads;
-          last = o.last;
-          ahead = o.ahead;
-          together = record {
-            beside = record {
-              fits = s.fits;
-              near = s.near;
-              far = s.far;
-              to_server = s.to_server;
-              to_client = s.to_client;
-              rising = s.rising;
-              falling = s.falling;
-              listens = s.listens;
-              reported = s.reported;
-              control = s.control;
-              unready = s.unready;
-              cutoff = s.cutoff;
-            };
-            holds = t.holds;
-            comes = t.comes;
-            serves = t.serves;
-            takes = t.takes;
-            gives = t.gives;
-            keeping = t.keeping;
-            twin = t.twin;
-          };
-          serves = record { running = o.serves.running; none_waits = o.serves.none_waits };
-          plain = o.plain;
-          sound = o.sound;
-          fresh = o.fresh;
-        },
-        refl,
-      )
 
   -- what is to be heard may lie between, or be read
   pub resplit : (actions : List (Action client_side)) → AreCarried (begun_at moments actions) → (between next : Between) (count : ℕ) (server : Stand server_side)
@@ -283,7 +240,7 @@ module _ (read : Reading) (reads : IsReading read) (moments : ℕ → ℕ) (time
     says_so =
         let got = server_step read reads moments timed b fair (Says l.said) first_far next_far tt refl actions carried before ports ways says refl first
         told_both.0 said_next tt in
-        let same = recounted actions says count (dried server) first got.0 in
+        let same = recounted read reads moments timed b fair actions says count next_far (dried server) first got.0 in
         (same.0, same.1 ∙ got.1 ∙ told_both.1)
 
     -- the client has read what it was to hear

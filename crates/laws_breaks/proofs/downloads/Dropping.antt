@@ -24,7 +24,7 @@ use Rattle.laws_drivers.proofs.world.Moves.{take_front}
 use Rattle.laws_drivers.proofs.events.NearForms.{taking_of}
 use Rattle.laws_transfers.proofs.ClientTaking.{taking_is}
 use Rattle.laws_transfers.proofs.Simulating.{asks, known, runs}
-use Rattle.laws_breaks.proofs.downloads.Steps.{Again, At, client_step, idle_again, same_again}
+use Rattle.laws_breaks.proofs.downloads.Steps.{Again, At, client_step, idle_same, same_again}
 use Rattle.ftp_ports.specs.Channel.{Channel, with_untold}
 use Rattle.ftp_client_model.specs.Calls.{data_closed, data_end, data_fault, gives_control, hears, is_busy, may_hear, report_of}
 use Rattle.laws_drivers.specs.world.Ahead.{is_open}
@@ -44,7 +44,7 @@ use Rattle.laws_breaks.specs.downloads.Claims.{ReportAlike}
 use Rattle.laws_transfers.proofs.Aborted.{aborted_ends}
 use Rattle.laws_breaks.proofs.downloads.Aborted.{Waits, halt_waits}
 use Rattle.laws_breaks.proofs.downloads.Laden.{Awaiting, Laden, awaiting_laden, awaiting_says, laden_alike, laden_busy, laden_closed, laden_none, laden_reports, laden_rests, laden_wants}
-use Rattle.laws_breaks.proofs.downloads.Lagging.{Leftover, OfMarks, Then, Whole, beside, dry_shut, is_failed, left_over, leftover_as, unbroken, viewed}
+use Rattle.laws_breaks.proofs.downloads.Lagging.{Leftover, OfMarks, Then, Whole, beside, dry_shut, hears_beside, is_failed, left_over, leftover_as, reads_beside, says_beside, unbroken, viewed}
 use Rattle.laws_breaks.proofs.downloads.Unsent.{Unsent, unsent_kept}
 use Rattle.laws_breaks.proofs.downloads.Untold.{told}
 
@@ -204,15 +204,6 @@ module _ (read : Reading) (reads : IsReading read) (moments : ℕ → ℕ) (time
         unsent = unsent;
       }
 
-      -- nothing is done of one that was not told
-      idles_on : beside d.was new ≡ beside d.was client → unbroken next ≡ unbroken between
-          → begun_by (moments (number_in actions)) action ≡ [] → reports_of action ≡ []
-          → Again read reads moments timed b fair (action ∷ actions) (unbroken next) count server (beside d.was new) w.marks
-      idles_on same ways begins reports =
-          subst (λ (c : Stand client_side). Again read reads moments timed b fair (action ∷ actions) (unbroken next) count server c w.marks) (sym same)
-          (subst (λ (m : Between). Again read reads moments timed b fair (action ∷ actions) m count server (beside d.was client) w.marks) (sym ways)
-          (idle_again read reads moments timed b fair action actions d.at begins reports))
-
     -- octets are said
     says_on : (octets : List ℕ) (next : Between) (new : Stand client_side) → ClientIsCalm client.owner new.owner
         → CanTurn (ByClient (Says octets)) between next → SaysNext octets client new
@@ -220,17 +211,7 @@ module _ (read : Reading) (reads : IsReading read) (moments : ℕ → ℕ) (time
     says_on octets next new calm can did =
         let said : ℕ = did.gives.count in
         let was : Held Client = viewed (gives_control said n) d.was in
-        let done : SaysNext octets (beside d.was client) (beside was new) = record {
-          gives = record {
-            count = said;
-            owed = did.gives.owed ∙ ap (λ (v : Near). take said v.owed) view_now;
-            gave = (refl, refl);
-            channel = refl;
-          };
-          wrote = did.wrote;
-          left = did.left;
-          unheard = did.unheard;
-        } in
+        let done = says_beside d.was octets client new (ap (λ (v : Near). v.owed) view_now) did in
         drops_on (Says octets) next new can was
         (client_step read reads moments timed b fair (Says octets) tt (beside d.was client) (beside was new) (tt, refl) actions carried (unbroken between)
         (unbroken next) (ap unbroken can) count server d.at done)
@@ -244,15 +225,7 @@ module _ (read : Reading) (reads : IsReading read) (moments : ℕ → ℕ) (time
         → CanTurn (ByClient (Read octets)) between next → ReadsNext octets client new
         → Drops (Then (Read octets) client.owner Are) (Read octets ∷ actions) next count server new
     reads_on octets next new calm can did =
-        let done : ReadsNext octets (beside d.was client) (beside d.was new) = record {
-          due = (sym (ap (λ (v : Near). v.owed) view_now) ∙ did.due.0, λ e. absurd (true≢false (sym e)));
-          owner = refl;
-          heard = did.heard;
-          read = did.read;
-          ended = did.ended;
-          unheard = did.unheard;
-          written = did.written;
-        } in
+        let done = reads_beside d.was octets client new (ap (λ (v : Near). v.owed) view_now) did in
         drops_on (Read octets) next new can d.was
         (client_step read reads moments timed b fair (Read octets) tt (beside d.was client) (beside d.was new) (tt, refl) actions carried (unbroken between)
         (unbroken next) (can.0, ap unbroken can.1) count server d.at done)
@@ -270,16 +243,7 @@ module _ (read : Reading) (reads : IsReading read) (moments : ℕ → ℕ) (time
         let first : take (length octets) client.unheard ≡ octets = ap (take (length octets)) did.next ∙ take_front octets new.unheard in
         let may : (k : ℕ) → k < length octets → may_hear (hears n (take k client.unheard)) ≡ true =
         λ k less. absurd (none_less k (subst (λ o. k < length o) none less)) in
-        let done : HearsNext octets (beside d.was client) (beside was new) = record {
-          hears = (
-            ((λ same. (ap (hears n) (sym first), may), λ differ. absurd (differ refl)), inl refl),
-            refl,
-            λ e. absurd (true≢false (sym e)),
-          );
-          next = did.next;
-          left = did.left;
-          written = did.written;
-        } in
+        let done = hears_beside d.was octets client new may did in
         drops_on (Heard octets) next new can was
         (client_step read reads moments timed b fair (Heard octets) tt (beside d.was client) (beside was new) (tt, refl) actions carried (unbroken between)
         (unbroken next) (ap unbroken can) count server d.at done)
@@ -301,7 +265,8 @@ module _ (read : Reading) (reads : IsReading read) (moments : ℕ → ℕ) (time
     drop_step (Read octets) next new is can did = reads_on octets next new is.1 can did
     drop_step (Other (Aside (Reporting None))) next new is can did =
         drops_on (Other (Aside (Reporting None))) next new can d.was
-        (idles_on (Other (Aside (Reporting None))) next new can (ap (beside d.was) did.1) (ap unbroken can) refl refl) awaits_now
+        (idle_same read reads moments timed b fair (Other (Aside (Reporting None))) actions d.at (unbroken next) (beside d.was new) (ap (beside d.was) did.1)
+        (ap unbroken can) refl refl) awaits_now
         (did.0.0.1.0 ∙ ap near.reports view_now ∙ laden_reports n laden) (ap (λ (m : Between). m.near) can ∙ d.hold)
         (subst Leftover (sym did.0.1) d.channel) (λ marks. refl) d.unsent
     drop_step (Other (Aside (Reporting (Some said)))) next new is can did =
@@ -327,7 +292,8 @@ module _ (read : Reading) (reads : IsReading read) (moments : ℕ → ℕ) (time
     drop_step (Other (LetGo octets)) next new is can did =
         let channel : new.owner.channel ≡ with_untold new.owner.channel.untold client.owner.channel = did.0.1.1 in
         drops_on (Other (LetGo octets)) next new can d.was
-        (idles_on (Other (LetGo octets)) next new can (ap (beside d.was) did.1) (ap unbroken can) refl refl) awaits_now
+        (idle_same read reads moments timed b fair (Other (LetGo octets)) actions d.at (unbroken next) (beside d.was new) (ap (beside d.was) did.1)
+        (ap unbroken can) refl refl) awaits_now
         (ap (λ c. c.view) did.0.0.0 ∙ view_now) (ap (λ (m : Between). m.near) can ∙ d.hold)
         (record {
           dry = ap is_taking channel ∙ d.channel.dry;
@@ -340,16 +306,20 @@ module _ (read : Reading) (reads : IsReading read) (moments : ℕ → ℕ) (time
     drop_step (Other (Left (EndedBy left written))) next new is can did = absurd (true≢false (ap is_had (sym can.0 ∙ d.hold)))
     drop_step (Other (Left (Reset left written))) next new is can did =
         drops_on (Other (Left (Reset left written))) next new can d.was
-        (idles_on (Other (Left (Reset left written))) next new can (ap (beside d.was) did.1) (ap unbroken can.1) refl refl) awaits_now
+        (idle_same read reads moments timed b fair (Other (Left (Reset left written))) actions d.at (unbroken next) (beside d.was new) (ap (beside d.was) did.1)
+        (ap unbroken can.1) refl refl) awaits_now
         (ap (λ c. c.view) did.0.0 ∙ view_now) (ap (λ (m : Between). m.near) can.1) (left_over (Reset left written) did.0.1) (λ marks. refl)
         d.unsent
     drop_step (Other (Left Shut)) next new is can did =
         drops_on (Other (Left Shut)) next new can d.was
-        (idles_on (Other (Left Shut)) next new can (ap (beside d.was) did.1) (ap unbroken can) refl refl) awaits_now
+        (idle_same read reads moments timed b fair (Other (Left Shut)) actions d.at (unbroken next) (beside d.was new) (ap (beside d.was) did.1)
+        (ap unbroken can) refl refl) awaits_now
         (ap (λ c. c.view) did.0.0 ∙ view_now) (ap (λ (m : Between). m.near) can ∙ d.hold) (left_over Shut did.0.1) (λ marks. refl)
         d.unsent
     drop_step (Other Closed) next new is can did =
-        drops_on (Other Closed) next new can d.was (idles_on (Other Closed) next new can (ap (beside d.was) did.1) (ap unbroken can) refl refl) awaits_now
+        drops_on (Other Closed) next new can d.was
+        (idle_same read reads moments timed b fair (Other Closed) actions d.at (unbroken next) (beside d.was new) (ap (beside d.was) did.1)
+        (ap unbroken can) refl refl) awaits_now
         (did.0.0.0 ∙ ap data_closed view_now ∙ laden_closed n laden) (ap (λ (m : Between). m.near) can ∙ d.hold)
         (subst Leftover (sym did.0.1.0) d.channel) (λ marks. refl) d.unsent
     drop_step (Other Failed) next new is can did = absurd (dry_shut client.owner.channel d.channel did.0.1.1)

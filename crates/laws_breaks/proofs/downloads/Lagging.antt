@@ -40,7 +40,7 @@ use Rattle.laws_breaks.proofs.downloads.ClientBroken.{broken_plain, broken_sound
 use Rattle.laws_breaks.proofs.downloads.Faults.{Loads, faulted_plain, loads_taken}
 use Rattle.laws_breaks.proofs.downloads.Feeding.{Feeding, is_final, pushed_gives, world_feeds}
 use Rattle.laws_breaks.proofs.downloads.Last.{AreFew, last_few, short_few}
-use Rattle.laws_breaks.proofs.downloads.Steps.{Again, At, client_step, idle_again, same_again}
+use Rattle.laws_breaks.proofs.downloads.Steps.{Again, At, client_step, idle_same, same_again}
 use Rattle.laws_breaks.proofs.downloads.Unsent.{AskAll, Unsent, all_carried, each_all, reset_fresh, unsent_kept}
 use Rattle.laws_breaks.proofs.downloads.Untold.{Loading, fault_told, heard_short, hears_taken, loading_of, loading_says, loading_short, loading_wants, loads_of, told, told_busy, told_closed, told_hears, told_may, told_none, told_reports, told_wants}
 
@@ -67,6 +67,48 @@ beside was client = with_owner was client
 -- with this view
 abbrev pub viewed : Near → Held Client → Held Client
 viewed view was = record was { end = record was.end { view = view } }
+
+-- who was not told, beside the same control connection, says what the client of the drive says, where it owes the same
+pub says_beside : (was : Held Client) (octets : List ℕ) (client new : Stand client_side) → client.owner.end.view.owed ≡ was.end.view.owed
+    → (did : SaysNext octets client new)
+    → SaysNext octets (beside was client) (beside (viewed (gives_control did.gives.count was.end.view) was) new)
+says_beside was octets client new owed did = record {
+  gives = record { count = did.gives.count; owed = did.gives.owed ∙ ap (take did.gives.count) owed; gave = (refl, refl); channel = refl };
+  wrote = did.wrote;
+  left = did.left;
+  unheard = did.unheard;
+}
+
+-- reads what that reads
+pub reads_beside : (was : Held Client) (octets : List ℕ) (client new : Stand client_side) → client.owner.end.view.owed ≡ was.end.view.owed
+    → ReadsNext octets client new → ReadsNext octets (beside was client) (beside was new)
+reads_beside was octets client new owed did = record {
+  due = (sym owed ∙ did.due.0, λ e. absurd (true≢false (sym e)));
+  owner = refl;
+  heard = did.heard;
+  read = did.read;
+  ended = did.ended;
+  unheard = did.unheard;
+  written = did.written;
+}
+
+-- and hears what that hears, where it may
+pub hears_beside : (was : Held Client) (octets : List ℕ) (client new : Stand client_side)
+    → ((k : ℕ) → k < length octets → may_hear (hears was.end.view (take k client.unheard)) ≡ true) → HearsNext octets client new
+    → HearsNext octets (beside was client)
+    (beside (record { end = record was.end { view = hears was.end.view octets }; channel = seen (near.wants was.end.view) was.channel }) new)
+hears_beside was octets client new may did =
+    let first : take (length octets) client.unheard ≡ octets = ap (take (length octets)) did.next ∙ take_front octets new.unheard in
+    record {
+      hears = (
+        ((λ same. (ap (hears was.end.view) (sym first), may), λ differ. absurd (differ refl)), inl refl),
+        refl,
+        λ e. absurd (true≢false (sym e)),
+      );
+      next = did.next;
+      left = did.left;
+      written = did.written;
+    }
 
 -- what is open takes octets
 pub dry_shut : (channel : Channel) → Leftover channel → IsOpen channel → ⊥
@@ -245,15 +287,6 @@ module _ (read : Reading) (reads : IsReading read) (moments : ℕ → ℕ) (time
           (λ endpoint wants. absurd (wants_not (Want.Connect endpoint) refl wants)) (λ f some octets rest gave. absurd (wants_not Want.Send refl gave.0.2))
           (λ endpoint refused. absurd (wants_not (Want.Connect endpoint) refl refused.0.2.0)) did can
 
-      -- nothing is done of one that was not told
-      idles_on : beside l.was new ≡ beside l.was client → unbroken next ≡ unbroken between
-          → begun_by (moments (number_in actions)) action ≡ [] → reports_of action ≡ []
-          → Again read reads moments timed b fair (action ∷ actions) (unbroken next) count server (beside l.was new) w.marks
-      idles_on same ways begins reports =
-          subst (λ (c : Stand client_side). Again read reads moments timed b fair (action ∷ actions) (unbroken next) count server c w.marks) (sym same)
-          (subst (λ (m : Between). Again read reads moments timed b fair (action ∷ actions) m count server (beside l.was client) w.marks) (sym ways)
-          (idle_again read reads moments timed b fair action actions l.at begins reports))
-
     -- octets are said
     says_on : (octets : List ℕ) (next : Between) (new : Stand client_side) → ClientIsCalm client.owner new.owner
         → CanTurn (ByClient (Says octets)) between next → SaysNext octets client new
@@ -261,17 +294,7 @@ module _ (read : Reading) (reads : IsReading read) (moments : ℕ → ℕ) (time
     says_on octets next new calm can did =
         let said : ℕ = did.gives.count in
         let was : Held Client = viewed (gives_control said n) l.was in
-        let done : SaysNext octets (beside l.was client) (beside was new) = record {
-          gives = record {
-            count = said;
-            owed = did.gives.owed ∙ ap (λ (v : Near). take said v.owed) l.view;
-            gave = (refl, refl);
-            channel = refl;
-          };
-          wrote = did.wrote;
-          left = did.left;
-          unheard = did.unheard;
-        } in
+        let done = says_beside l.was octets client new (ap (λ (v : Near). v.owed) l.view) did in
         lags_on (Says octets) next new can was
         (client_step read reads moments timed b fair (Says octets) tt (beside l.was client) (beside was new) (tt, refl) actions carried (unbroken between)
         (unbroken next) (ap unbroken can) count server l.at done)
@@ -285,15 +308,7 @@ module _ (read : Reading) (reads : IsReading read) (moments : ℕ → ℕ) (time
         → CanTurn (ByClient (Read octets)) between next → ReadsNext octets client new
         → Lags (Then (Read octets) client.owner Are) (Read octets ∷ actions) next count server new
     reads_on octets next new calm can did =
-        let done : ReadsNext octets (beside l.was client) (beside l.was new) = record {
-          due = (sym (ap (λ (v : Near). v.owed) l.view) ∙ did.due.0, λ e. absurd (true≢false (sym e)));
-          owner = refl;
-          heard = did.heard;
-          read = did.read;
-          ended = did.ended;
-          unheard = did.unheard;
-          written = did.written;
-        } in
+        let done = reads_beside l.was octets client new (ap (λ (v : Near). v.owed) l.view) did in
         lags_on (Read octets) next new can l.was
         (client_step read reads moments timed b fair (Read octets) tt (beside l.was client) (beside l.was new) (tt, refl) actions carried (unbroken between)
         (unbroken next) (can.0, ap unbroken can.1) count server l.at done)
@@ -315,16 +330,7 @@ module _ (read : Reading) (reads : IsReading read) (moments : ℕ → ℕ) (time
         ap (take k) did.next ∙ take-append-le k octets new.unheard (omega (arith, less)) in
         ap (λ q. may_hear (hears n q)) front ∙ told_may n l.loads octets then_loads k ∙ ap (λ q. may_hear (hears (told n) q)) (sym front)
         ∙ ap (λ v. may_hear (hears v (take k client.unheard))) (sym l.view) ∙ (did.hears.0.0.0 calm).1 k less in
-        let done : HearsNext octets (beside l.was client) (beside was new) = record {
-          hears = (
-            ((λ same. (ap (hears n) (sym first), may), λ differ. absurd (differ refl)), inl refl),
-            refl,
-            λ e. absurd (true≢false (sym e)),
-          );
-          next = did.next;
-          left = did.left;
-          written = did.written;
-        } in
+        let done = hears_beside l.was octets client new may did in
         lags_on (Heard octets) next new can was
         (client_step read reads moments timed b fair (Heard octets) tt (beside l.was client) (beside was new) (tt, refl) actions carried (unbroken between)
         (unbroken next) (ap unbroken can) count server l.at done)
@@ -373,7 +379,8 @@ module _ (read : Reading) (reads : IsReading read) (moments : ℕ → ℕ) (time
     lag_step (Read octets) next new is can did going = reads_on octets next new is.1 can did
     lag_step (Other (Aside (Reporting None))) next new is can did going =
         lags_on (Other (Aside (Reporting None))) next new can l.was
-        (idles_on (Other (Aside (Reporting None))) next new can (ap (beside l.was) did.1) (ap unbroken can) refl refl) l.loads
+        (idle_same read reads moments timed b fair (Other (Aside (Reporting None))) actions l.at (unbroken next) (beside l.was new) (ap (beside l.was) did.1)
+        (ap unbroken can) refl refl) l.loads
         (did.0.0.1.0 ∙ ap near.reports l.view ∙ told_reports n l.loads) (ap (λ (m : Between). m.near) can ∙ l.hold)
         (subst Leftover (sym did.0.1) l.channel) (λ marks. refl) (λ came has. has) l.unsent (stays (Other (Aside (Reporting None))) next new can tt (tt, is.1) did)
     lag_step (Other (Aside (Reporting (Some said)))) next new is can did going =
@@ -399,7 +406,8 @@ module _ (read : Reading) (reads : IsReading read) (moments : ℕ → ℕ) (time
     lag_step (Other (LetGo octets)) next new is can did going =
         let channel : new.owner.channel ≡ with_untold new.owner.channel.untold client.owner.channel = did.0.1.1 in
         lags_on (Other (LetGo octets)) next new can l.was
-        (idles_on (Other (LetGo octets)) next new can (ap (beside l.was) did.1) (ap unbroken can) refl refl) l.loads
+        (idle_same read reads moments timed b fair (Other (LetGo octets)) actions l.at (unbroken next) (beside l.was new) (ap (beside l.was) did.1)
+        (ap unbroken can) refl refl) l.loads
         (ap (λ c. c.view) did.0.0.0 ∙ l.view) (ap (λ (m : Between). m.near) can ∙ l.hold)
         (record {
           dry = ap is_taking channel ∙ l.channel.dry;
@@ -412,15 +420,20 @@ module _ (read : Reading) (reads : IsReading read) (moments : ℕ → ℕ) (time
     lag_step (Other (Left (EndedBy left written))) next new is can did going = absurd (true≢false (ap is_had (sym can.0 ∙ l.hold)))
     lag_step (Other (Left (Reset left written))) next new is can did going =
         lags_on (Other (Left (Reset left written))) next new can l.was
-        (idles_on (Other (Left (Reset left written))) next new can (ap (beside l.was) did.1) (ap unbroken can.1) refl refl) l.loads
+        (idle_same read reads moments timed b fair (Other (Left (Reset left written))) actions l.at (unbroken next) (beside l.was new) (ap (beside l.was) did.1)
+        (ap unbroken can.1) refl refl) l.loads
         (ap (λ c. c.view) did.0.0 ∙ l.view) (ap (λ (m : Between). m.near) can.1) (left_over (Reset left written) did.0.1) (λ marks. refl) (λ came has. has)
         l.unsent (reset_fresh client new between next left written l.fresh did can)
     lag_step (Other (Left Shut)) next new is can did going =
-        lags_on (Other (Left Shut)) next new can l.was (idles_on (Other (Left Shut)) next new can (ap (beside l.was) did.1) (ap unbroken can) refl refl) l.loads
+        lags_on (Other (Left Shut)) next new can l.was
+        (idle_same read reads moments timed b fair (Other (Left Shut)) actions l.at (unbroken next) (beside l.was new) (ap (beside l.was) did.1)
+        (ap unbroken can) refl refl) l.loads
         (ap (λ c. c.view) did.0.0 ∙ l.view) (ap (λ (m : Between). m.near) can ∙ l.hold) (left_over Shut did.0.1) (λ marks. refl) (λ came has. has)
         l.unsent (stays (Other (Left Shut)) next new can tt (tt, is.1) did)
     lag_step (Other Closed) next new is can did going =
-        lags_on (Other Closed) next new can l.was (idles_on (Other Closed) next new can (ap (beside l.was) did.1) (ap unbroken can) refl refl) l.loads
+        lags_on (Other Closed) next new can l.was
+        (idle_same read reads moments timed b fair (Other Closed) actions l.at (unbroken next) (beside l.was new) (ap (beside l.was) did.1)
+        (ap unbroken can) refl refl) l.loads
         (did.0.0.0 ∙ ap data_closed l.view ∙ told_closed n l.loads) (ap (λ (m : Between). m.near) can ∙ l.hold)
         (subst Leftover (sym did.0.1.0) l.channel) (λ marks. refl) (λ came has. has) l.unsent (stays (Other Closed) next new can tt (tt, is.1) did)
     lag_step (Other Failed) next new is can did going = absurd (dry_shut client.owner.channel l.channel did.0.1.1)

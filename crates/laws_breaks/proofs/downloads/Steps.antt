@@ -37,6 +37,16 @@ use Rattle.laws_breaks.proofs.downloads.Drained.{IsLone, dried, dry}
 use Rattle.laws_breaks.proofs.downloads.Failing.{closing_is, server_told_late}
 use Rattle.laws_breaks.proofs.downloads.Seen.{Sees, dropped, sees_fresh}
 
+-- a server that stands as the second, but with what the first holds, its data connection, and what it read and did not hear
+abbrev pub counted_as : (old new : Stand server_side) → Stand server_side
+counted_as old new = record new {
+  owner = record {
+    end = record new.owner.end { server = record new.owner.end.server { view = old.owner.end.server.view } };
+    channel = old.owner.channel;
+  };
+  unheard = old.unheard;
+}
+
 module _ (read : Reading) (reads : IsReading read) (moments : ℕ → ℕ) (timed : AreMoments moments) (b : Beginning) (fair : IsFair b) where
   -- after actions of a client, a world is beside these ends
   abbrev pub At : (actions : List (Action client_side)) (between : Between) (count : ℕ) (server : Stand server_side) (client : Stand client_side) → Type 0
@@ -53,6 +63,48 @@ module _ (read : Reading) (reads : IsReading read) (moments : ℕ → ℕ) (time
   abbrev pub Again : (actions : List (Action client_side)) (between : Between) (count : ℕ) (server : Stand server_side) (client : Stand client_side)
       (marks : List (List Mark)) → Type 0
   Again actions between count server client marks = (n : At actions between count server client) × (n.world.marks ≡ marks)
+
+  -- what a server counted, what its clock told, and what else was read and written of it is of no matter
+  pub recounted : (actions : List (Action client_side)) (between : Between) (count : ℕ) (old new : Stand server_side) (client : Stand client_side)
+      (o : At actions between count old client) → Again actions between count (counted_as old new) client o.world.marks
+  recounted actions between count old new client o =
+      let t = o.together in
+      let s = t.beside in (
+        record {
+          world = o.world;
+          leads = o.leads;
+          last = o.last;
+          ahead = o.ahead;
+          together = record {
+            beside = record {
+              fits = s.fits;
+              near = s.near;
+              far = s.far;
+              to_server = s.to_server;
+              to_client = s.to_client;
+              rising = s.rising;
+              falling = s.falling;
+              listens = s.listens;
+              reported = s.reported;
+              control = s.control;
+              unready = s.unready;
+              cutoff = s.cutoff;
+            };
+            holds = t.holds;
+            comes = t.comes;
+            serves = t.serves;
+            takes = t.takes;
+            gives = t.gives;
+            keeping = t.keeping;
+            twin = t.twin;
+          };
+          serves = record { running = o.serves.running; none_waits = o.serves.none_waits };
+          plain = o.plain;
+          sound = o.sound;
+          fresh = o.fresh;
+        },
+        refl,
+      )
 
   pub again : (action : Action client_side) (actions : List (Action client_side)) {between : Between} {count : ℕ} {server : Stand server_side} {old : Stand client_side}
       (o : At actions between count server old) (marks : List (List Mark)) (next : Between) (new : Stand client_side) → Went action actions o marks next new
@@ -75,11 +127,11 @@ module _ (read : Reading) (reads : IsReading read) (moments : ℕ → ℕ) (time
       )
 
   -- where it begins and reports nothing
-  pub same_again : (actions : List (Action client_side)) {between : Between} {count : ℕ} {server : Stand server_side} {old : Stand client_side}
-      (o : At actions between count server old) (marks : List (List Mark)) (next : Between) (new : Stand client_side)
-      → GoesTo read [] (begun_at moments actions) next count server new (reports_in actions ++ []) marks o.world
-      → is_sound new.owner.end.view.standing ≡ true → IsPlainly new.owner.end.view → StaysFresh next new → Again actions next count server new marks
-  same_again actions {between} {count} {server} {old} o marks next new went sound plain fresh =
+  pub both_again : (actions : List (Action client_side)) {between : Between} {count : ℕ} {server : Stand server_side} {old : Stand client_side}
+      (o : At actions between count server old) (marks : List (List Mark)) (next : Between) (told : Stand server_side) (new : Stand client_side)
+      → GoesTo read [] (begun_at moments actions) next count told new (reports_in actions ++ []) marks o.world → ServerServes told.owner
+      → is_sound new.owner.end.view.standing ≡ true → IsPlainly new.owner.end.view → StaysFresh next new → Again actions next count told new marks
+  both_again actions {between} {count} {server} {old} o marks next told new went serves sound plain fresh =
       let begun : List Order = begun_at moments actions in (
         record {
           world = went.world;
@@ -87,15 +139,23 @@ module _ (read : Reading) (reads : IsReading read) (moments : ℕ → ℕ) (time
               (leads_then read begun [] (world_of b) o.world went.world o.leads went.leads);
           last = went.moment;
           ahead = went.ahead;
-          together = subst (λ (r : List Said). Together read begun went.moment went.ahead next count server new r went.world) (append-nil (reports_in actions))
+          together = subst (λ (r : List Said). Together read begun went.moment went.ahead next count told new r went.world) (append-nil (reports_in actions))
               went.together;
-          serves = o.serves;
+          serves = serves;
           plain = plain;
           sound = sound;
           fresh = fresh;
         },
         went.marked,
       )
+
+  -- and its server is as before
+  pub same_again : (actions : List (Action client_side)) {between : Between} {count : ℕ} {server : Stand server_side} {old : Stand client_side}
+      (o : At actions between count server old) (marks : List (List Mark)) (next : Between) (new : Stand client_side)
+      → GoesTo read [] (begun_at moments actions) next count server new (reports_in actions ++ []) marks o.world
+      → is_sound new.owner.end.view.standing ≡ true → IsPlainly new.owner.end.view → StaysFresh next new → Again actions next count server new marks
+  same_again actions {between} {count} {server} {old} o marks next new went sound plain fresh =
+      both_again actions o marks next server new went o.serves sound plain fresh
 
   -- an action that begins and reports nothing, and does nothing
   pub idle_again : (action : Action client_side) (actions : List (Action client_side)) {between : Between} {count : ℕ} {server : Stand server_side}
@@ -109,6 +169,14 @@ module _ (read : Reading) (reads : IsReading read) (moments : ℕ → ℕ) (time
       × (n.world.marks ≡ o.world.marks)) (sym said)
       (subst (λ (g : List Order). (n : Reached read reads moments timed b fair g between count server client (reports_in actions))
       × (n.world.marks ≡ o.world.marks)) (sym begun) (o, refl))
+
+  -- nor does one behind which the client stands as before
+  pub idle_same : (action : Action client_side) (actions : List (Action client_side)) {between : Between} {count : ℕ} {server : Stand server_side}
+      {client : Stand client_side} (o : At actions between count server client) (next : Between) (new : Stand client_side) → new ≡ client → next ≡ between
+      → begun_by (moments (number_in actions)) action ≡ [] → reports_of action ≡ [] → Again (action ∷ actions) next count server new o.world.marks
+  idle_same action actions {between} {count} {server} {client} o next new same ways begins reports =
+      subst (λ (c : Stand client_side). Again (action ∷ actions) next count server c o.world.marks) (sym same)
+      (subst (λ (m : Between). Again (action ∷ actions) m count server client o.world.marks) (sym ways) (idle_again action actions o begins reports))
 
   -- an action of the client as where none breaks
   pub client_step : (action : Action client_side) → BreaksNone action → (old new : Stand client_side) → ClientTries action old.owner new.owner
@@ -218,28 +286,3 @@ module _ (read : Reading) (reads : IsReading read) (moments : ℕ → ℕ) (time
         running = ap (λ (f : Far). f.session.life) is ∙ o.serves.running;
         none_waits = ap (λ (f : Far). f.waiting) is ∙ o.serves.none_waits;
       })
-
-  -- ---- both are told at once
-
-  -- a world is beside both again, where it begins and reports nothing
-  pub both_again : (actions : List (Action client_side)) {between : Between} {count : ℕ} {server : Stand server_side} {old : Stand client_side}
-      (o : At actions between count server old) (marks : List (List Mark)) (next : Between) (told : Stand server_side) (new : Stand client_side)
-      → GoesTo read [] (begun_at moments actions) next count told new (reports_in actions ++ []) marks o.world → ServerServes told.owner
-      → is_sound new.owner.end.view.standing ≡ true → IsPlainly new.owner.end.view → StaysFresh next new → Again actions next count told new marks
-  both_again actions {between} {count} {server} {old} o marks next told new went serves sound plain fresh =
-      let begun : List Order = begun_at moments actions in (
-        record {
-          world = went.world;
-          leads = subst (λ l. LeadsOn read l (world_of b) went.world) (append-nil begun)
-              (leads_then read begun [] (world_of b) o.world went.world o.leads went.leads);
-          last = went.moment;
-          ahead = went.ahead;
-          together = subst (λ (r : List Said). Together read begun went.moment went.ahead next count told new r went.world) (append-nil (reports_in actions))
-              went.together;
-          serves = serves;
-          plain = plain;
-          sound = sound;
-          fresh = fresh;
-        },
-        went.marked,
-      )

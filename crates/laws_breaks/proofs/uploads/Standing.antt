@@ -107,50 +107,7 @@ told_break view channel unheard moment ends none_waits takes due =
     )
 
 module _ (read : Reading) (reads : IsReading read) (moments : ℕ → ℕ) (timed : AreMoments moments) (b : Beginning) (fair : IsFair b) where
-  -- what was counted, read and written is of no matter
-  pub counted_anew : (actions : List (Action client_side)) (between : Between) (count : ℕ) (server : Stand server_side) (client : Stand client_side)
-      (o : At read reads moments timed b fair actions between count server client)
-      → Again read reads moments timed b fair actions between count (standing server.owner.end.server.view server.owner.channel server.unheard) client o.world.marks
-  counted_anew actions between count server client o =
-      let t = o.together in
-      let s = t.beside in (
-        record {
-          world = o.world;
-          leads = o.leads;
-          last = o.last;
-          ahead = o.ahead;
-          together = record {
-            beside = record {
-              fits = s.fits;
-              near = s.near;
-              far = s.far;
-              to_server = s.to_server;
-              to_client = s.to_client;
-              rising = s.rising;
-              falling = s.falling;
-              listens = s.listens;
-              reported = s.reported;
-              control = s.control;
-              unready = s.unready;
-              cutoff = s.cutoff;
-            };
-            holds = t.holds;
-            comes = t.comes;
-            serves = t.serves;
-            takes = t.takes;
-            gives = t.gives;
-            keeping = t.keeping;
-            twin = t.twin;
-          };
-          serves = record { running = o.serves.running; none_waits = o.serves.none_waits };
-          plain = o.plain;
-          sound = o.sound;
-          fresh = o.fresh;
-        },
-        refl,
-      )
-
-  -- and so is what stands of a data connection of which nothing comes or goes
+  -- what stands of a data connection of which nothing comes or goes is of no matter
   pub restood : (actions : List (Action client_side)) (between : Between) (count : ℕ) (old new : Stand server_side) (client : Stand client_side)
       (o : At read reads moments timed b fair actions between count old client) → new.owner.end.server.view ≡ old.owner.end.server.view
       → new.unheard ≡ old.unheard → old.owner.channel.untold ≡ [] → new.owner.channel.untold ≡ [] → new.owner.channel.unwritten ≡ []

@@ -40,7 +40,7 @@ use Rattle.laws_breaks.proofs.downloads.ClientBroken.{broken_channel}
 use Rattle.laws_breaks.proofs.downloads.Drained.{dried, dry}
 use Rattle.laws_breaks.proofs.downloads.Lagging.{OfMarks, Whole}
 use Rattle.laws_breaks.proofs.downloads.Preceding.{behind, unaware}
-use Rattle.laws_breaks.proofs.downloads.Steps.{Again, At, client_step, idle_again, server_step}
+use Rattle.laws_breaks.proofs.downloads.Steps.{Again, At, client_step, idle_again, recounted, server_step}
 use Rattle.laws_breaks.proofs.downloads.Unsent.{AskAll, all_carried}
 use Rattle.laws_breaks.specs.uploads.Coming.{CameOver, HasCome}
 use Rattle.laws_breaks.specs.uploads.Actions.{cut_marks}
@@ -50,7 +50,7 @@ use Rattle.laws_breaks.proofs.uploads.Offering.{Offers}
 use Rattle.laws_breaks.proofs.uploads.Outliving.{Outlives, Taker, held_near, held_offers}
 use Rattle.laws_breaks.proofs.uploads.ServerCut.{Remains}
 use Rattle.laws_breaks.proofs.uploads.Serving.{cut_there, wants_upload, world_last, world_upload}
-use Rattle.laws_breaks.proofs.uploads.Standing.{counted_anew, restood, says_first, standing, told_break, undone}
+use Rattle.laws_breaks.proofs.uploads.Standing.{restood, says_first, standing, told_break, undone}
 
 -- what a server that takes octets holds once it was told of a break
 told_concludes : (old new : Stand server_side) → ServerServes old.owner → ServerIsCalm old.owner new.owner
@@ -133,7 +133,8 @@ module _ (read : Reading) (reads : IsReading read) (moments : ℕ → ℕ) (time
         let begun = world_last read reads moments timed b fair actions puts p q count old new client calm wants o.at in
         let job : n.job ≡ sending begun.op begun.climbing.replied begun.climbing.left begun.climbing.mark =
         ap (λ (m : Near). m.job) (sym near_was) ∙ begun.climbing.job in
-        let anew = counted_anew read reads moments timed b fair actions p count old client o.at in
+        let anew =
+        recounted read reads moments timed b fair actions p count old (standing v old.owner.channel old.unheard) client o.at in
         let got = resplit read reads moments timed b fair actions (all_carried (begun_at moments actions) puts) p (behind q) count
         (standing v old.owner.channel old.unheard) client (unaware client.owner.end.refusals n queue client.owner.channel) anew.0 refl
         (ap (λ (m : Between). m.control.to_server) can.1) (sym (append-nil queue))

@@ -39,8 +39,8 @@ use Rattle.laws_transfers.proofs.Simulating.{known, runs}
 use Rattle.laws_transfers.specs.Refusals.{ClientTries}
 use Rattle.laws_breaks.specs.downloads.Actions.{MayMarkBreak}
 use Rattle.laws_breaks.proofs.downloads.Feeding.{is_final}
-use Rattle.laws_breaks.proofs.downloads.Lagging.{OfMarks, Then, beside, is_failed, unbroken}
-use Rattle.laws_breaks.proofs.downloads.Steps.{Again, At, client_step, idle_again}
+use Rattle.laws_breaks.proofs.downloads.Lagging.{OfMarks, Then, beside, hears_beside, is_failed, reads_beside, says_beside, unbroken, viewed}
+use Rattle.laws_breaks.proofs.downloads.Steps.{Again, At, client_step, idle_same}
 use Rattle.laws_breaks.proofs.downloads.Unsent.{AskAll, Unsent, all_carried, reset_fresh, unsent_kept}
 use Rattle.laws_breaks.specs.uploads.Actions.{ClientGives}
 use Rattle.laws_breaks.proofs.uploads.Climbing.{ClimbsLast, pushed_climbs}
@@ -76,10 +76,6 @@ spent_left {old} {new} asked left = record {
   known = ap is_failed left.fate;
   bare = λ e. left.unwritten;
 }
-
--- with this view
-abbrev viewed : Near → Held Client → Held Client
-viewed view was = record was { end = record was.end { view = view } }
 
 -- a final reply is not in
 unfinal_past : (op : Op (List ℕ)) (replied : Replied) (left : List ℕ) (mark : Option ℕ) → is_final replied ≡ false
@@ -204,15 +200,6 @@ module _ (read : Reading) (reads : IsReading read) (moments : ℕ → ℕ) (time
           (λ endpoint wants. absurd (wants_not (Want.Connect endpoint) refl wants)) (λ f some octets rest gave. absurd (wants_not Want.Send refl gave.0.2))
           (λ endpoint refused. absurd (wants_not (Want.Connect endpoint) refl refused.0.2.0)) did can
 
-      -- nothing is done of one that was not told
-      idles_on : beside l.was new ≡ beside l.was client → unbroken next ≡ unbroken between
-          → begun_by (moments (number_in actions)) action ≡ [] → reports_of action ≡ []
-          → Again read reads moments timed b fair (action ∷ actions) (unbroken next) count server (beside l.was new) w.marks
-      idles_on same ways begins reports =
-          subst (λ (c : Stand client_side). Again read reads moments timed b fair (action ∷ actions) (unbroken next) count server c w.marks) (sym same)
-          (subst (λ (m : Between). Again read reads moments timed b fair (action ∷ actions) m count server (beside l.was client) w.marks) (sym ways)
-          (idle_again read reads moments timed b fair action actions l.at begins reports))
-
     -- octets are said
     says_on : (octets : List ℕ) (next : Between) (new : Stand client_side) → ClientIsCalm client.owner new.owner
         → CanTurn (ByClient (Says octets)) between next → SaysNext octets client new
@@ -220,18 +207,7 @@ module _ (read : Reading) (reads : IsReading read) (moments : ℕ → ℕ) (time
     says_on octets next new calm can did =
         let said : ℕ = did.gives.count in
         let was : Held Client = viewed (gives_control said n) l.was in
-        let owed : n.owed ≡ u.owed = sym (ap (λ (v : Near). v.owed) l.lifts.told) in
-        let done : SaysNext octets (beside l.was client) (beside was new) = record {
-          gives = record {
-            count = said;
-            owed = did.gives.owed ∙ ap (take said) (sym owed);
-            gave = (refl, refl);
-            channel = refl;
-          };
-          wrote = did.wrote;
-          left = did.left;
-          unheard = did.unheard;
-        } in
+        let done = says_beside l.was octets client new (ap (λ (v : Near). v.owed) l.lifts.told) did in
         lags_on (Says octets) next new can was
         (client_step read reads moments timed b fair (Says octets) tt (beside l.was client) (beside was new) (tt, refl) actions carried (unbroken between)
         (unbroken next) (ap unbroken can) count server l.at done)
@@ -245,16 +221,7 @@ module _ (read : Reading) (reads : IsReading read) (moments : ℕ → ℕ) (time
         → CanTurn (ByClient (Read octets)) between next → ReadsNext octets client new
         → UpLags (Then (Read octets) client.owner Are) (Read octets ∷ actions) next count server new
     reads_on octets next new calm can did =
-        let owed : n.owed ≡ u.owed = sym (ap (λ (v : Near). v.owed) l.lifts.told) in
-        let done : ReadsNext octets (beside l.was client) (beside l.was new) = record {
-          due = (owed ∙ did.due.0, λ e. absurd (true≢false (sym e)));
-          owner = refl;
-          heard = did.heard;
-          read = did.read;
-          ended = did.ended;
-          unheard = did.unheard;
-          written = did.written;
-        } in
+        let done = reads_beside l.was octets client new (ap (λ (v : Near). v.owed) l.lifts.told) did in
         lags_on (Read octets) next new can l.was
         (client_step read reads moments timed b fair (Read octets) tt (beside l.was client) (beside l.was new) (tt, refl) actions carried (unbroken between)
         (unbroken next) (can.0, ap unbroken can.1) count server l.at done)
@@ -275,16 +242,7 @@ module _ (read : Reading) (reads : IsReading read) (moments : ℕ → ℕ) (time
         ap (take k) did.next ∙ take-append-le k octets new.unheard (omega (arith, less)) in
         ap (λ q. may_hear (hears n q)) front ∙ hears_may n u l.lifts octets none k ∙ ap (λ q. may_hear (hears u q)) (sym front)
         ∙ (did.hears.0.0.0 calm).1 k less in
-        let done : HearsNext octets (beside l.was client) (beside was new) = record {
-          hears = (
-            ((λ same. (ap (hears n) (sym first), may), λ differ. absurd (differ refl)), inl refl),
-            refl,
-            λ e. absurd (true≢false (sym e)),
-          );
-          next = did.next;
-          left = did.left;
-          written = did.written;
-        } in
+        let done = hears_beside l.was octets client new may did in
         lags_on (Heard octets) next new can was
         (client_step read reads moments timed b fair (Heard octets) tt (beside l.was client) (beside was new) (tt, refl) actions carried (unbroken between)
         (unbroken next) (ap unbroken can) count server l.at done)
@@ -303,7 +261,8 @@ module _ (read : Reading) (reads : IsReading read) (moments : ℕ → ℕ) (time
     up_lag_step (Read octets) next new is can did = reads_on octets next new is.1 can did
     up_lag_step (Other (Aside (Reporting None))) next new is can did =
         lags_on (Other (Aside (Reporting None))) next new can l.was
-        (idles_on (Other (Aside (Reporting None))) next new can (ap (beside l.was) did.1) (ap unbroken can) refl refl)
+        (idle_same read reads moments timed b fair (Other (Aside (Reporting None))) actions l.at (unbroken next) (beside l.was new) (ap (beside l.was) did.1)
+        (ap unbroken can) refl refl)
         (subst (Lifts n) (sym (did.0.0.1.0 ∙ lifts_reports n u l.lifts)) l.lifts) l.due (ap (λ (m : Between). m.near) can ∙ l.hold)
         (subst Spent (sym did.0.1) l.channel) (λ marks. refl) l.unsent (stays (Other (Aside (Reporting None))) next new can tt (tt, is.1) did)
     up_lag_step (Other (Aside (Reporting (Some said)))) next new is can did = absurd (some_none (did.0.0.0 ∙ lifts_none n u l.lifts))
@@ -337,7 +296,8 @@ module _ (read : Reading) (reads : IsReading read) (moments : ℕ → ℕ) (time
     up_lag_step (Other (LetGo octets)) next new is can did =
         let channel : new.owner.channel ≡ with_untold new.owner.channel.untold client.owner.channel = did.0.1.1 in
         lags_on (Other (LetGo octets)) next new can l.was
-        (idles_on (Other (LetGo octets)) next new can (ap (beside l.was) did.1) (ap unbroken can) refl refl)
+        (idle_same read reads moments timed b fair (Other (LetGo octets)) actions l.at (unbroken next) (beside l.was new) (ap (beside l.was) did.1)
+        (ap unbroken can) refl refl)
         (subst (λ c. Lifts n c.view) (sym did.0.0.0) l.lifts) l.due (ap (λ (m : Between). m.near) can ∙ l.hold)
         (spent_as client.owner.channel new.owner.channel l.channel (ap (λ (x : Channel). x.stands) channel) (ap (λ (x : Channel). x.fate) channel)
         (λ e. (both_empty octets new.owner.channel.untold (sym did.0.1.0 ∙ e)).1) (ap (λ (x : Channel). x.unwritten) channel))
@@ -345,15 +305,20 @@ module _ (read : Reading) (reads : IsReading read) (moments : ℕ → ℕ) (time
     up_lag_step (Other (Left (EndedBy left written))) next new is can did = absurd (true≢false (ap is_had (sym can.0 ∙ l.hold)))
     up_lag_step (Other (Left (Reset left written))) next new is can did =
         lags_on (Other (Left (Reset left written))) next new can l.was
-        (idles_on (Other (Left (Reset left written))) next new can (ap (beside l.was) did.1) (ap unbroken can.1) refl refl)
+        (idle_same read reads moments timed b fair (Other (Left (Reset left written))) actions l.at (unbroken next) (beside l.was new) (ap (beside l.was) did.1)
+        (ap unbroken can.1) refl refl)
         (subst (λ c. Lifts n c.view) (sym did.0.0) l.lifts) l.due (ap (λ (m : Between). m.near) can.1) (spent_left (Reset left written) did.0.1) (λ marks. refl)
         l.unsent (reset_fresh client new between next left written l.fresh did can)
     up_lag_step (Other (Left Shut)) next new is can did =
-        lags_on (Other (Left Shut)) next new can l.was (idles_on (Other (Left Shut)) next new can (ap (beside l.was) did.1) (ap unbroken can) refl refl)
+        lags_on (Other (Left Shut)) next new can l.was
+        (idle_same read reads moments timed b fair (Other (Left Shut)) actions l.at (unbroken next) (beside l.was new) (ap (beside l.was) did.1)
+        (ap unbroken can) refl refl)
         (subst (λ c. Lifts n c.view) (sym did.0.0) l.lifts) l.due (ap (λ (m : Between). m.near) can ∙ l.hold) (spent_left Shut did.0.1) (λ marks. refl)
         l.unsent (stays (Other (Left Shut)) next new can tt (tt, is.1) did)
     up_lag_step (Other Closed) next new is can did =
-        lags_on (Other Closed) next new can l.was (idles_on (Other Closed) next new can (ap (beside l.was) did.1) (ap unbroken can) refl refl)
+        lags_on (Other Closed) next new can l.was
+        (idle_same read reads moments timed b fair (Other Closed) actions l.at (unbroken next) (beside l.was new) (ap (beside l.was) did.1)
+        (ap unbroken can) refl refl)
         (subst (Lifts n) (sym did.0.0.0) (lifts_closes n u l.lifts)) l.due (ap (λ (m : Between). m.near) can ∙ l.hold)
         (subst Spent (sym did.0.1.0) l.channel) (λ marks. refl) l.unsent (stays (Other Closed) next new can tt (tt, is.1) did)
     up_lag_step (Other Failed) next new is can did = absurd (spent_shut client.owner.channel l.channel did.0.1.1)
