@@ -1,11 +1,9 @@
 -- What is so of every world whose server is to dial: its client is at its port, and the 150, or what is left of it, is all that lies between.
-use Rattle.std.proofs.Common.{◌≡◌, inl, inr, ℕ, Bool, true, false, true≢false, List, [], ◌∷◌, ◌++◌, refl, sym, ap, ap₂, subst, ◌∙◌, append_assoc, append-nil}
+use Rattle.std.proofs.Common.{◌≡◌, ◌⊎◌, inl, inr, ℕ, Bool, true, false, true≢false, List, [], ◌∷◌, ◌++◌, refl, sym, ap, ap₂, subst, ◌∙◌, append_assoc, append-nil}
 use Rattle.ftp_direct.specs.Direct.{State}
-use Rattle.ftp_endpoint.specs.declared.host.Host.{Host}
 use Rattle.ftp_ends.specs.Link.{same_host}
 use Rattle.ftp_ends.specs.Reply.{IsWritten, reply_octets}
 use Rattle.ftp_reply.specs.Lines.{Text}
-use Rattle.ftp_operation.specs.Answer.{Said}
 use Rattle.ftp_operation.specs.declared.op.Op.{Op}
 use Rattle.ftp_operation.specs.declared.op.Op.TheVariants as Ops
 use Rattle.ftp_client_model.proofs.RepliesInFlight.{in_pieces, reply_is_heard}
@@ -29,7 +27,6 @@ use Rattle.ftp_server_model.specs.declared.session.ServerLink.TheVariants as Dat
 use Rattle.laws_world.specs.Agreement.{Order, Single}
 use Rattle.laws_world.specs.Events.{is_closed_by_near}
 use Rattle.laws_world.specs.World.{Gone, Mark, Stands, World}
-use Rattle.laws_dialogues.specs.Dialogue.{is_set_aside}
 use Rattle.ftp_path.specs.Path.{Names}
 use Rattle.ftp_wire.specs.Decoder.{Decoder}
 use Rattle.ftp_server_model.specs.declared.session.Keep.{Keep}
@@ -44,13 +41,13 @@ use Rattle.laws_agreement.specs.PeekStages.{AtHalt, Gave, Gives, Halt, Halted, h
 use Rattle.laws_agreement.specs.Runs.{IsFetching}
 use Rattle.laws_agreement.specs.Over.{OverRuns}
 use Rattle.laws_agreement.specs.Rising.{Declined, Lift, Offered, Risen, Rising, Settled, Unjoined, held}
-use Rattle.laws_agreement.specs.Stages.{Answers, Aside as LeavesAside, AtFetch, Awaits, Carries, Closed, Course, Dialled, Dials, Dismissed, Early, Ended, Given, Giving as GivesOctets, Holds, Leaving, LinkLeft, LinkOpen, LinkParting, Lost, PortAsked, PortDenied, PortSaid, PortTaken, PortTold, PortWanted, Ported, Refusing, Restarts, Retrieves, Rises, Severed, Tells, Unaccepted, Unclosed, Unopened, early_far, far_link, gives_on, tie_of}
-use Rattle.laws_agreement.proofs.FetchServed.{leads_still}
+use Rattle.laws_agreement.specs.Stages.{AtFetch, Awaits, Holds, Rises}
 use Rattle.laws_agreement.proofs.Still.{IsSeen, IsStill, no_octets, rest_placed, seen_placed}
 use Rattle.laws_drivers.proofs.world.Known.{beside}
 use Rattle.laws_drivers.proofs.world.Running.{free_still, not_lost, under_still}
 use Rattle.laws_drivers.proofs.events.Plain.{IsSome}
 use Rattle.laws_transfers.specs.Actions.{IsCarried}
+use Rattle.laws_transfers.proofs.Acting.{Acts, aside_idle, carry_not, idle_or_acts, is_acting}
 use Rattle.laws_transfers.proofs.Known.{AreCarried, is_ready, last_carried}
 use Rattle.laws_transfers.proofs.Running.{not_trailing}
 use Rattle.laws_active.proofs.Accepting.{IsFew, awaiting}
@@ -97,30 +94,14 @@ abbrev pub is_opening : ServerLink Transfer → Bool
 is_opening (Data.Opening transfer way) = true
 is_opening link = false
 
-aside_unopened : (link : ServerLink Transfer) → is_set_aside link ≡ true → is_opening link ≡ false
-aside_unopened Data.Free is = refl
-aside_unopened (Data.Active endpoint) is = refl
-aside_unopened Data.Passive is = refl
-aside_unopened Data.Ready is = refl
-aside_unopened (Data.Asked verb) is = refl
-aside_unopened (Data.Transferring transfer) is = refl
-aside_unopened (Data.Opening transfer way) is = absurd (true≢false (sym is))
-
-early_unopened : (host : Host) (early : Early) → is_opening (early_far host early) ≡ false
-early_unopened host (Dialled true) = refl
-early_unopened host (Dialled false) = refl
-early_unopened host (Ported port) = refl
-
-carry_unopened : (listed : Bool) (course : Course) → is_opening (far_link (gives_on listed course) (tie_of course)) ≡ false
-carry_unopened listed (GivesOctets begun octet more) = refl
-carry_unopened listed (Given heard true) = refl
-carry_unopened listed (Given heard false) = refl
-carry_unopened listed (Ended begun clean) = refl
-carry_unopened listed (Severed begun) = refl
-carry_unopened listed (Refusing why Unclosed) = refl
-carry_unopened listed (Refusing why Closed) = refl
-carry_unopened listed (Refusing why (Lost clean)) = refl
-carry_unopened listed Unopened = refl
+idle_unopened : (link : ServerLink Transfer) → is_acting link ≡ false → is_opening link ≡ false
+idle_unopened Data.Free is = refl
+idle_unopened (Data.Active endpoint) is = refl
+idle_unopened Data.Passive is = refl
+idle_unopened Data.Ready is = refl
+idle_unopened (Data.Asked verb) is = refl
+idle_unopened (Data.Transferring transfer) is = refl
+idle_unopened (Data.Opening transfer way) is = absurd (true≢false is)
 
 held_unopened : (past : Bool) (path : Names) (keep : Keep) (d : Decoder) → is_opening (held past path keep d) ≡ false
 held_unopened true path keep d = refl
@@ -161,7 +142,7 @@ module _ (read : Reading) (state : State) (ask : Ask) (good : IsAsk ask) (own : 
     }
 
   pub stage_calls : (w : World) → PlacedAt At w → is_opening w.far.session.connection ≡ true → w.far.owed ≡ [] → Calls w
-  stage_calls w s waiting flushed = by s.here
+  stage_calls w s waiting flushed = by (idle_or_acts read state ask good own w s)
     where
       seen : IsSeen s.base w
       seen = seen_placed At w s
@@ -239,12 +220,6 @@ module _ (read : Reading) (state : State) (ask : Ask) (good : IsAsk ask) (own : 
               (subst (λ n. Waits ask.op flow port n w.control_to_client) (sym near_is)
               (subst (λ l. Waits ask.op flow port (near.hears (calm s.base.near) c.held) l) (sym queue) (Coming flows.octet flows.more refl o)))
 
-      by_leaving : (said : Said) (leaves : Leaving) → Holds state ask own (Answers said leaves) s.way s.base → Calls w
-      by_leaving said (LeavesAside closes connection pending) h = apart h.session (aside_unopened connection h.fine.1)
-      by_leaving said LinkOpen h = apart h.session refl
-      by_leaving said LinkLeft h = apart h.session refl
-      by_leaving said LinkParting h = apart h.session refl
-
       at_held : (past : Bool) (path : Names) (keep : Keep) (d : Decoder)
           → s.base.far.session ≡ linked (held past path keep d) false Pendings.Nothing s.base.far.session → Calls w
       at_held past path keep d is = apart is (held_unopened past path keep d)
@@ -257,27 +232,12 @@ module _ (read : Reading) (state : State) (ask : Ask) (good : IsAsk ask) (own : 
       by_lift rise (Declined why door) h = apart h.session refl
       by_lift rise Unjoined h = apart h.session refl
 
-      by : At s.way s.base → Calls w
-      by (inl l) =
-          absurd (true≢false (sym waiting ∙ aside_unopened w.far.session.connection
-          (leads_still read state ask good.plan own s.base w s.way seen l).0.far.aside))
-      by (inr (PortAsked closing, h)) = apart h.session refl
-      by (inr (PortTold port, h)) = apart h.session refl
-      by (inr (Dials port, h)) = apart h.session refl
-      by (inr (PortWanted connection pending, h)) = apart h.session (aside_unopened connection h.fine)
-      by (inr (PortSaid port connection pending, h)) = apart h.session (aside_unopened connection h.fine.0)
-      by (inr (PortTaken port closing, h)) = apart h.session refl
-      by (inr (PortDenied port connection, h)) = apart h.session (aside_unopened connection h.fine.0)
-      by (inr (Restarts at restart early, h)) = apart h.session (early_unopened s.base.near.here early)
-      by (inr (Retrieves early, h)) = apart h.session (early_unopened s.base.near.here early)
-      by (inr (Awaits port true, h)) = heard_it port h
-      by (inr (Awaits port false, h)) = coming port h
-      by (inr (Unaccepted port, h)) = apart h.session refl
-      by (inr (Dismissed port why, h)) = apart h.session refl
-      by (inr (Carries c, h)) = apart h.session (carry_unopened ask.listed c.course)
-      by (inr (Rises rise lift, h)) = by_lift rise lift h
-      by (inr (Tells rise said after, h)) = apart h.session refl
-      by (inr (Answers said leaves, h)) = by_leaving said leaves h
+      by : (is_acting w.far.session.connection ≡ false) ⊎ Acts read state ask good own s.way s.base → Calls w
+      by (inl idle) = absurd (true≢false (sym waiting ∙ idle_unopened w.far.session.connection idle))
+      by (inr (inl (port, true, h))) = heard_it port h
+      by (inr (inl (port, false, h))) = coming port h
+      by (inr (inr (inl (c, h)))) = apart h.session (carry_not is_opening refl (λ listed octets. refl) ask.listed c.course)
+      by (inr (inr (inr (rise, lift, h)))) = by_lift rise lift h
 
 -- ---- in a world
 
@@ -303,7 +263,7 @@ module _ (read : Reading) (reads : IsReading read) (from : State) (begun : List 
   world_calls w runs control unready waiting flushed = by runs
     where
       still : IsStill w → ⊥
-      still s = true≢false (sym waiting ∙ aside_unopened w.far.session.connection s.far.aside)
+      still s = true≢false (sym waiting ∙ idle_unopened w.far.session.connection (aside_idle w.far.session.connection s.far.aside))
 
       by_phase : Phase read from begun w → Calls w
       by_phase (inl (linked, inl free)) = absurd (still (free_still read from begun w free))

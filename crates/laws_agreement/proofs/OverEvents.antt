@@ -1,13 +1,11 @@
 -- An upload over breaks under way, behind an event, and octets of the control connection.
-use Rattle.std.proofs.Common.{◌≡◌, ◌⊎◌, inl, inr, ℕ, ◌+◌, ◌≤◌, Bool, true, false, not, List, [], ◌∷◌, ◌++◌, length, take, Option, Some, None, refl, sym, ap, subst, ◌∙◌, arith, append_assoc}
+use Rattle.std.proofs.Common.{◌≡◌, ◌⊎◌, inl, inr, ℕ, ◌+◌, ◌≤◌, Bool, true, false, List, [], ◌∷◌, ◌++◌, length, take, Option, Some, None, refl, sym, ap, subst, ◌∙◌, arith, append_assoc}
 use Rattle.ftp_operation.specs.Answer.{Said}
 use Rattle.ftp_operation.specs.declared.op.Op.{Op}
 use Rattle.ftp_direct.specs.Direct.{State}
-use Rattle.ftp_client_model.specs.Calls as near
 use Rattle.ftp_client_model.specs.Calls.{report_of_job}
 use Rattle.ftp_client_model.specs.Tries.{is_size, next_in}
 use Rattle.ftp_client_model.specs.View.{View as Near, Idle, Told as Answered}
-use Rattle.ftp_server_model.specs.Calls as far
 use Rattle.ftp_server_model.specs.Machine.{Reading, IsReading}
 use Rattle.laws_world.specs.Agreement.{Order, Single}
 use Rattle.laws_world.specs.Events.{ControlToServer, ControlToClient, pulled, pushed, filled, DeliversBy, told}
@@ -23,7 +21,7 @@ use Rattle.laws_agreement.proofs.Deliveries as plain
 use Rattle.laws_agreement.proofs.Events.{lent_again}
 use Rattle.laws_agreement.proofs.FetchRuns as fetches
 use Rattle.laws_agreement.proofs.FetchTold.{closed_is}
-use Rattle.laws_agreement.proofs.OverClient.{Beside, Under, Behind, under}
+use Rattle.laws_agreement.proofs.OverClient.{Beside, Under, Behind}
 use Rattle.laws_agreement.proofs.OverFollows.{Stands}
 use Rattle.laws_agreement.proofs.OverHalts.{no_halt}
 use Rattle.laws_agreement.proofs.OverMoments.{filled_client_context, filled_server_context, gives_context_is, hears_context}

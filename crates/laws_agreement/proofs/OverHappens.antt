@@ -22,7 +22,7 @@ use Rattle.laws_agreement.proofs.FetchParting.{fetch_parts}
 use Rattle.laws_agreement.proofs.FetchQuiet.{runs_answered}
 use Rattle.laws_world.specs.Still.{IsStill}
 use Rattle.laws_agreement.proofs.FetchWants.{flows_or_none, rises_or_none}
-use Rattle.laws_agreement.proofs.OverClient.{Beside, Under, Behind, under}
+use Rattle.laws_agreement.proofs.OverClient.{Beside, Under, Behind}
 use Rattle.laws_agreement.proofs.OverLink.{control_end_beside, control_end_none}
 use Rattle.laws_agreement.proofs.OverFollows.{Parts}
 use Rattle.laws_agreement.proofs.OverServed.{wants_same, working_after}

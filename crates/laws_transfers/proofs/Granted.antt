@@ -34,7 +34,7 @@ use Rattle.laws_agreement.specs.Cut.{Crosses, Goes, PlacedAt, world_at}
 use Rattle.laws_agreement.specs.Follows.{Phase}
 use Rattle.laws_agreement.specs.Over.{OverRuns}
 use Rattle.laws_agreement.specs.Rising.{Declined, Lift, Offered, Risen, Rising, Settled, Unjoined, held}
-use Rattle.laws_agreement.specs.Stages.{Answers, AtFetch, AtServed, Awaits, Carries, Closed, Course, Denied, Dialled, Dials, Dismissed, Early, Ended, Given, Giving, Granted, Holds, IsLasting, Lost, PortAsked, PortDenied, PortSaid, PortTaken, PortTold, PortWanted, Ported, Refusing, Restarts, Retrieves, Rises, Sent, Severed, Stage, Tells, Unaccepted, Unclosed, Unopened, early_far, early_near, far_link, gives_on, near_at, tie_of}
+use Rattle.laws_agreement.specs.Stages.{Answers, AtFetch, AtServed, Awaits, Carries, Denied, Dialled, Dials, Dismissed, Early, Granted, Holds, IsLasting, PortAsked, PortDenied, PortSaid, PortTaken, PortTold, PortWanted, Ported, Restarts, Retrieves, Rises, Sent, Stage, Tells, Unaccepted, early_far, early_near, near_at}
 use Rattle.laws_agreement.proofs.FetchReplies.{at_first}
 use Rattle.laws_agreement.proofs.FetchServed.{leads_still}
 use Rattle.laws_agreement.proofs.FetchTurns.{fetch_goes}
@@ -43,6 +43,7 @@ use Rattle.laws_agreement.proofs.Placing.{at_stage}
 use Rattle.laws_agreement.proofs.Still.{IsSeen, IsStill, seen_placed}
 use Rattle.laws_drivers.proofs.world.Running.{free_still, not_lost, under_still}
 use Rattle.laws_transfers.specs.Actions.{AreGranted, IsGranted}
+use Rattle.laws_transfers.proofs.Acting.{carry_not}
 use Rattle.laws_transfers.proofs.Halting.{halt_stands}
 use Rattle.laws_transfers.proofs.Known.{AreCarried, aside_rests, held_busy, is_ready, last_carried}
 use Rattle.laws_transfers.proofs.Running.{not_trailing}
@@ -141,18 +142,6 @@ none_heard : (w : World) → w.near.closing ≡ false → w.control_to_client �
     → (near.hears w.near (take count w.control_to_client)).closing ≡ false
 none_heard w unclosed none count = ap (λ o. (near.hears w.near o).closing) (ap (take count) none ∙ take-nil count) ∙ unclosed
 
--- none is such behind RETR
-carry_begun : (listed : Bool) (course : Course) → is_ready (far_link (gives_on listed course) (tie_of course)) ≡ false
-carry_begun listed (Giving begun octet more) = refl
-carry_begun listed (Given heard true) = refl
-carry_begun listed (Given heard false) = refl
-carry_begun listed (Ended begun clean) = refl
-carry_begun listed (Severed begun) = refl
-carry_begun listed (Refusing why Unclosed) = refl
-carry_begun listed (Refusing why Closed) = refl
-carry_begun listed (Refusing why (Lost clean)) = refl
-carry_begun listed Unopened = refl
-
 module _ (read : Reading) (reads : IsReading read) (state : State) (ask : Ask) (good : IsAsk ask) (sound : IsSound state)
     (placed : IsPlacedAt ask.settings ask.offset) (own : List Mark) where
   abbrev At : Way → World → Type 0
@@ -224,7 +213,7 @@ module _ (read : Reading) (reads : IsReading read) (state : State) (ask : Ask) (
       by_here (inr (Awaits port begun, h)) lasts = other _ _ _ h.session refl
       by_here (inr (Unaccepted port, h)) lasts = other _ _ _ h.session refl
       by_here (inr (Dismissed port why, h)) lasts = other _ _ _ h.session refl
-      by_here (inr (Carries c, h)) lasts = other _ _ _ h.session (carry_begun ask.listed c.course)
+      by_here (inr (Carries c, h)) lasts = other _ _ _ h.session (carry_not is_ready refl (λ listed octets. refl) ask.listed c.course)
       by_here (inr (Rises rise lift, h)) lasts = by_lift rise lift h
       by_here (inr (Tells rise said after, h)) lasts = absurd (true≢false lasts)
       by_here (inr (Answers said leaves, h)) lasts = absurd (true≢false lasts)

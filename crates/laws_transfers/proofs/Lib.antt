@@ -1,5 +1,6 @@
 pub mod Blind
 pub mod Known
+pub mod Acting
 pub mod Halting
 pub mod Aborting
 pub mod Ahead

@@ -8,9 +8,7 @@ use Rattle.ftp_ports.specs.Actions.{Action, Other}
 use Rattle.ftp_ports.specs.Machine.{Aside}
 use Rattle.ftp_client_driver.specs.Side.{Starting, client_side}
 use Rattle.ftp_direct.specs.Direct.{State, answer}
-use Rattle.ftp_endpoint.specs.declared.host.Host.{Host}
 use Rattle.ftp_ends.specs.declared.link.Wants.TheVariants as Want
-use Rattle.ftp_operation.specs.Answer.{Said}
 use Rattle.ftp_operation.specs.declared.op.Op.{Op}
 use Rattle.ftp_path.specs.Path.{Names}
 use Rattle.ftp_server_model.specs.Calls.{is_upload}
@@ -29,7 +27,7 @@ use Rattle.laws_agreement.specs.Follows.{Follows, IsUnlinked, Phase}
 use Rattle.laws_agreement.specs.Over.{OverRuns}
 use Rattle.laws_agreement.specs.Rising.{Lift, Settled, Rising, Risen, Offered, Declined, Unjoined}
 use Rattle.laws_agreement.specs.Runs.{AtClosed, IsFetching, IsFetchingOn, IsHalting, IsHaltingOn, IsTrailing}
-use Rattle.laws_agreement.specs.Stages.{Answers, Aside as LeavesAside, AtFetch, Awaits, Carries, Closed, Course, Dialled, Dials, Dismissed, Early, Ended, Given, Giving, Holds, Leaving, LinkLeft, LinkOpen, LinkParting, Lost, PortAsked, PortDenied, PortSaid, PortTaken, PortTold, PortWanted, Ported, Refusing, Restarts, Retrieves, Rises, Severed, Stage, Tells, Unaccepted, Unclosed, Unopened, early_far, far_link, gives_on, tie_of}
+use Rattle.laws_agreement.specs.Stages.{AtFetch, Carries, Holds, Rises, Stage}
 use Rattle.laws_agreement.proofs.Deliveries.{pushed_client as still_heard, pushed_server as still_told}
 use Rattle.laws_agreement.proofs.FetchEnds.{ends_fetching}
 use Rattle.laws_agreement.proofs.FetchRuns.{OnOrHalted, pushed_client, pushed_server, serving_first}
@@ -42,6 +40,7 @@ use Rattle.laws_drivers.proofs.world.Known.{aside_still, beside, is_receive, one
 use Rattle.laws_drivers.proofs.world.Running.{free_still, not_lost, under_still}
 use Rattle.laws_drivers.proofs.world.Served.{Runs}
 use Rattle.laws_drivers.specs.events.Moments.{begun_at, last_of, number_in}
+use Rattle.laws_transfers.proofs.Acting.{Acts, carry_not, idle_or_acts, idle_rests, is_acting}
 use Rattle.laws_transfers.proofs.Halting.{halt_known, halt_runs, halt_sound, halt_stands, halt_unclosing}
 use Rattle.laws_transfers.proofs.Known.{AreCarried, Known, aside_rests, calm_known, gives_none, is_calm, is_ready, last_carried, stage_known}
 
@@ -56,24 +55,6 @@ still_known At w s none still =
   where
     far : is_transferring w.far.session.connection ≡ false
     far = aside_still w.far.session.connection still.far.aside
-
--- none are taken behind an opening
-early_takes : (host : Host) (early : Early) → is_upload (early_far host early) ≡ false
-early_takes host (Dialled true) = refl
-early_takes host (Dialled false) = refl
-early_takes host (Ported port) = refl
-
--- nor in a download
-carry_takes : (listed : Bool) (course : Course) → is_upload (far_link (gives_on listed course) (tie_of course)) ≡ false
-carry_takes listed (Giving begun octet more) = gives_none listed (octet ∷ more)
-carry_takes listed (Given heard true) = refl
-carry_takes listed (Given heard false) = refl
-carry_takes listed (Ended begun clean) = refl
-carry_takes listed (Severed begun) = refl
-carry_takes listed (Refusing why Unclosed) = refl
-carry_takes listed (Refusing why Closed) = refl
-carry_takes listed (Refusing why (Lost clean)) = refl
-carry_takes listed Unopened = refl
 
 -- ---- at a stage
 
@@ -174,7 +155,7 @@ module _ (read : Reading) (state : State) (ask : Ask) (good : IsAsk ask) (own : 
 
   -- where the server takes octets of an upload one was asked for
   stage_rises : (w : World) → PlacedAt At w → is_upload w.far.session.connection ≡ true → (rise : Rise) × (ask.sends ≡ Up rise)
-  stage_rises w s takes = by_here s.here
+  stage_rises w s takes = by (idle_or_acts read state ask good own w s)
     where
       of : IsSeen s.base w
       of = seen_placed At w s
@@ -183,32 +164,11 @@ module _ (read : Reading) (state : State) (ask : Ask) (good : IsAsk ask) (own : 
           → is_upload link ≡ false → (rise : Rise) × (ask.sends ≡ Up rise)
       never link closing pending is none = absurd (true≢false (sym takes ∙ ap (λ (t : Session). is_upload t.connection) (of.session ∙ is) ∙ none))
 
-      by_leaving : (said : Said) (leaves : Leaving) → Holds state ask own (Answers said leaves) s.way s.base → (rise : Rise) × (ask.sends ≡ Up rise)
-      by_leaving said (LeavesAside closes connection pending) h = never connection _ _ h.session (aside_rests connection h.fine.1).0
-      by_leaving said LinkOpen h = never _ _ _ h.session refl
-      by_leaving said LinkLeft h = never _ _ _ h.session refl
-      by_leaving said LinkParting h = never _ _ _ h.session refl
-
-      by_here : At s.way s.base → (rise : Rise) × (ask.sends ≡ Up rise)
-      by_here (inl l) =
-          absurd (true≢false (sym takes
-          ∙ (aside_rests w.far.session.connection (leads_still read state ask good.plan own s.base w s.way of l).0.far.aside).0))
-      by_here (inr (PortAsked closing, h)) = never _ _ _ h.session refl
-      by_here (inr (PortTold port, h)) = never _ _ _ h.session refl
-      by_here (inr (Dials port, h)) = never _ _ _ h.session refl
-      by_here (inr (PortWanted connection pending, h)) = never connection _ _ h.session (aside_rests connection h.fine).0
-      by_here (inr (PortSaid port connection pending, h)) = never connection _ _ h.session (aside_rests connection h.fine.0).0
-      by_here (inr (PortTaken port closing, h)) = never _ _ _ h.session refl
-      by_here (inr (PortDenied port connection, h)) = never connection _ _ h.session (aside_rests connection h.fine.0).0
-      by_here (inr (Restarts at restart early, h)) = never _ _ _ h.session (early_takes s.base.near.here early)
-      by_here (inr (Retrieves early, h)) = never _ _ _ h.session (early_takes s.base.near.here early)
-      by_here (inr (Awaits port begun, h)) = never _ _ _ h.session refl
-      by_here (inr (Unaccepted port, h)) = never _ _ _ h.session refl
-      by_here (inr (Dismissed port why, h)) = never _ _ _ h.session refl
-      by_here (inr (Carries c, h)) = never _ _ _ h.session (carry_takes ask.listed c.course)
-      by_here (inr (Rises rise lift, h)) = (rise, h.ready.2.sends_is)
-      by_here (inr (Tells rise said after, h)) = (rise, h.fine.2)
-      by_here (inr (Answers said leaves, h)) = by_leaving said leaves h
+      by : (is_acting w.far.session.connection ≡ false) ⊎ Acts read state ask good own s.way s.base → (rise : Rise) × (ask.sends ≡ Up rise)
+      by (inl idle) = absurd (true≢false (sym takes ∙ (idle_rests w.far.session.connection idle).0))
+      by (inr (inl (port, begun, h))) = never _ _ _ h.session refl
+      by (inr (inr (inl (c, h)))) = never _ _ _ h.session (carry_not is_upload refl gives_none ask.listed c.course)
+      by (inr (inr (inr (rise, lift, h)))) = (rise, h.ready.2.sends_is)
 
 -- ---- in a world
 

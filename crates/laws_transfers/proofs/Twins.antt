@@ -1,6 +1,6 @@
 -- A world that was told of the end of a link over which nothing was asked for, and its twin, which is the same but that its server waits at a port where nobody
 -- comes: both go on alike. So no transfer begins there before another port is asked for, since none begins at that port.
-use Rattle.std.proofs.Common.{◌≡◌, inl, inr, ℕ, ◌<◌, ◌≤◌, Bool, true, false, true≢false, List, [], ◌∷◌, ◌++◌, length, take, option_to_list, refl, sym, ap, subst, ◌∙◌, append-nil}
+use Rattle.std.proofs.Common.{◌≡◌, ◌⊎◌, inl, inr, ℕ, ◌<◌, ◌≤◌, Bool, true, false, true≢false, List, [], ◌∷◌, ◌++◌, length, take, option_to_list, refl, sym, ap, subst, ◌∙◌, append-nil}
 use Rattle.std.specs.Prelude.{if◌then◌else◌}
 use Rattle.std.proofs.lemmas.Bool.{and_right}
 use Rattle.ftp_client_model.specs.Calls as near
@@ -8,10 +8,8 @@ use Rattle.ftp_client_model.specs.Calls.{data_closed, is_busy, is_busy_job, repo
 use Rattle.ftp_client_model.specs.View.{View as Near}
 use Rattle.ftp_client_model.specs.declared.client.Standing.TheVariants as Standings
 use Rattle.ftp_direct.specs.Direct.{State, answer}
-use Rattle.ftp_endpoint.specs.declared.host.Host.{Host}
 use Rattle.ftp_ends.specs.Link.{is_wanted}
 use Rattle.ftp_ends.specs.declared.link.Wants.TheVariants as Want
-use Rattle.ftp_operation.specs.Answer.{Said}
 use Rattle.ftp_operation.specs.declared.op.Op.{Op}
 use Rattle.ftp_path.specs.Path.{Names}
 use Rattle.ftp_server_model.specs.Calls as far
@@ -30,7 +28,7 @@ use Rattle.laws_world.specs.Agreement.{Order, Single}
 use Rattle.laws_world.specs.Events.{ControlToServer, is_asked_for, is_closed_by_near, is_gone, pushed}
 use Rattle.laws_world.specs.Serving.{link_closed_by_near, near_closes}
 use Rattle.laws_world.specs.World.{Gone, Mark, Stands, World}
-use Rattle.laws_dialogues.specs.Dialogue.{Stands as StandsSo, is_set_aside}
+use Rattle.laws_dialogues.specs.Dialogue.{Stands as StandsSo}
 use Rattle.laws_dialogues.specs.Fetches.{Ask, IsAsk, Rise, linked}
 use Rattle.laws_dialogues.specs.Login.{AtFree, AtOperation}
 use Rattle.laws_dialogues.specs.Stage.{Way, rest}
@@ -39,10 +37,9 @@ use Rattle.laws_agreement.specs.Follows.{Follows, IsFree, Phase}
 use Rattle.laws_agreement.specs.Over.{OverRuns}
 use Rattle.laws_agreement.specs.Rising.{Declined, Lift, Offered, Risen, Rising, Settled, Unjoined, held}
 use Rattle.laws_agreement.specs.Runs.{IsFetching}
-use Rattle.laws_agreement.specs.Stages.{Answers, Aside as LeavesAside, AtFetch, Awaits, Carries, Closed, Course, Dialled, Dials, Dismissed, Early, Ended, Given, Giving, Holds, Leaving, LinkLeft, LinkOpen, LinkParting, Lost, PortAsked, PortDenied, PortSaid, PortTaken, PortTold, PortWanted, Ported, Refusing, Restarts, Retrieves, Rises, Severed, Tells, Unaccepted, Unclosed, Unopened, early_far, far_link, gives_on, tie_of}
+use Rattle.laws_agreement.specs.Stages.{AtFetch, Holds, Rises}
 use Rattle.laws_agreement.proofs.Deliveries.{pushed_server as still_told}
 use Rattle.laws_agreement.proofs.FetchRuns.{pushed_server, serving_first}
-use Rattle.laws_agreement.proofs.FetchServed.{leads_still}
 use Rattle.laws_agreement.proofs.FetchWants.{lasting_busy}
 use Rattle.laws_agreement.proofs.OverRunning.{over_lead}
 use Rattle.laws_agreement.proofs.PeekRuns.{halt_busy}
@@ -56,6 +53,7 @@ use Rattle.laws_drivers.proofs.world.Running.{free_still, not_lost, under_still}
 use Rattle.laws_drivers.proofs.world.Served.{Runs, far_shut, far_told, near_shut, rests, settled}
 use Rattle.laws_drivers.proofs.world.Settling.{far_idle}
 use Rattle.laws_transfers.specs.Actions.{AreGranted, IsCarried}
+use Rattle.laws_transfers.proofs.Acting.{Acts, aside_idle, carry_not, idle_or_acts, is_acting}
 use Rattle.laws_transfers.proofs.Halting.{halt_stands}
 use Rattle.laws_transfers.proofs.Known.{AreCarried, both_carried, front_granted, last_carried}
 use Rattle.laws_transfers.proofs.Running.{not_trailing}
@@ -191,30 +189,14 @@ abbrev is_awaited : ServerLink Transfer → Bool
 is_awaited (Data.Opening transfer Ways.Accept) = true
 is_awaited link = false
 
-aside_unawaited : (link : ServerLink Transfer) → is_set_aside link ≡ true → is_awaited link ≡ false
-aside_unawaited Data.Free is = refl
-aside_unawaited (Data.Active endpoint) is = refl
-aside_unawaited Data.Passive is = refl
-aside_unawaited Data.Ready is = refl
-aside_unawaited (Data.Asked verb) is = refl
-aside_unawaited (Data.Opening transfer way) is = absurd (true≢false (sym is))
-aside_unawaited (Data.Transferring transfer) is = refl
-
-early_unawaited : (host : Host) (early : Early) → is_awaited (early_far host early) ≡ false
-early_unawaited host (Dialled true) = refl
-early_unawaited host (Dialled false) = refl
-early_unawaited host (Ported port) = refl
-
-carry_unawaited : (listed : Bool) (course : Course) → is_awaited (far_link (gives_on listed course) (tie_of course)) ≡ false
-carry_unawaited listed (Giving begun octet more) = refl
-carry_unawaited listed (Given heard true) = refl
-carry_unawaited listed (Given heard false) = refl
-carry_unawaited listed (Ended begun clean) = refl
-carry_unawaited listed (Severed begun) = refl
-carry_unawaited listed (Refusing why Unclosed) = refl
-carry_unawaited listed (Refusing why Closed) = refl
-carry_unawaited listed (Refusing why (Lost clean)) = refl
-carry_unawaited listed Unopened = refl
+idle_unawaited : (link : ServerLink Transfer) → is_acting link ≡ false → is_awaited link ≡ false
+idle_unawaited Data.Free is = refl
+idle_unawaited (Data.Active endpoint) is = refl
+idle_unawaited Data.Passive is = refl
+idle_unawaited Data.Ready is = refl
+idle_unawaited (Data.Asked verb) is = refl
+idle_unawaited (Data.Opening transfer way) is = absurd (true≢false is)
+idle_unawaited (Data.Transferring transfer) is = refl
 
 held_unawaited : (past : Bool) (path : Names) (keep : Keep) (d : Decoder) → is_awaited (held past path keep d) ≡ false
 held_unawaited false path keep d = refl
@@ -225,7 +207,7 @@ module _ (read : Reading) (state : State) (ask : Ask) (good : IsAsk ask) (own : 
   At way b = AtFetch state ask read own way b
 
   stage_unawaited : (w : World) → PlacedAt At w → is_awaited w.far.session.connection ≡ false
-  stage_unawaited w s = by_here s.here
+  stage_unawaited w s = by (idle_or_acts read state ask good own w s)
     where
       of : IsSeen s.base w
       of = seen_placed At w s
@@ -238,12 +220,6 @@ module _ (read : Reading) (state : State) (ask : Ask) (good : IsAsk ask) (own : 
           → s.base.far.session ≡ linked (held past path keep d) false Pendings.Nothing s.base.far.session → is_awaited w.far.session.connection ≡ false
       at_held past path keep d is = at (held past path keep d) false Pendings.Nothing is (held_unawaited past path keep d)
 
-      by_leaving : (leaves : Leaving) (said : Said) → Holds state ask own (Answers said leaves) s.way s.base → is_awaited w.far.session.connection ≡ false
-      by_leaving (LeavesAside closes connection pending) said h = at connection _ _ h.session (aside_unawaited connection h.fine.1)
-      by_leaving LinkOpen said h = at _ _ _ h.session refl
-      by_leaving LinkLeft said h = at _ _ _ h.session refl
-      by_leaving LinkParting said h = at _ _ _ h.session refl
-
       by_lift : (rise : Rise) (lift : Lift) → Holds state ask own (Rises rise lift) s.way s.base → is_awaited w.far.session.connection ≡ false
       by_lift rise Offered h = at_held false _ _ _ h.session
       by_lift rise (Rising past octet more came queue mark notes) h = at_held past _ _ _ h.session
@@ -252,24 +228,11 @@ module _ (read : Reading) (state : State) (ask : Ask) (good : IsAsk ask) (own : 
       by_lift rise (Declined why door) h = at _ _ _ h.session refl
       by_lift rise Unjoined h = at _ _ _ h.session refl
 
-      by_here : At s.way s.base → is_awaited w.far.session.connection ≡ false
-      by_here (inl l) = aside_unawaited w.far.session.connection (leads_still read state ask good.plan own s.base w s.way of l).0.far.aside
-      by_here (inr (PortAsked closing, h)) = at _ _ _ h.session refl
-      by_here (inr (PortTold port, h)) = at _ _ _ h.session refl
-      by_here (inr (Dials port, h)) = at _ _ _ h.session refl
-      by_here (inr (PortWanted connection pending, h)) = at connection _ _ h.session (aside_unawaited connection h.fine)
-      by_here (inr (PortSaid port connection pending, h)) = at connection _ _ h.session (aside_unawaited connection h.fine.0)
-      by_here (inr (PortTaken port closing, h)) = at _ _ _ h.session refl
-      by_here (inr (PortDenied port connection, h)) = at connection _ _ h.session (aside_unawaited connection h.fine.0)
-      by_here (inr (Restarts at_offset restart early, h)) = at _ _ _ h.session (early_unawaited s.base.near.here early)
-      by_here (inr (Retrieves early, h)) = at _ _ _ h.session (early_unawaited s.base.near.here early)
-      by_here (inr (Awaits port begun, h)) = at _ _ _ h.session refl
-      by_here (inr (Unaccepted port, h)) = at _ _ _ h.session refl
-      by_here (inr (Dismissed port why, h)) = at _ _ _ h.session refl
-      by_here (inr (Carries c, h)) = at _ _ _ h.session (carry_unawaited ask.listed c.course)
-      by_here (inr (Rises rise lift, h)) = by_lift rise lift h
-      by_here (inr (Tells rise said after, h)) = at _ _ _ h.session refl
-      by_here (inr (Answers said leaves, h)) = by_leaving leaves said h
+      by : (is_acting w.far.session.connection ≡ false) ⊎ Acts read state ask good own s.way s.base → is_awaited w.far.session.connection ≡ false
+      by (inl idle) = idle_unawaited w.far.session.connection idle
+      by (inr (inl (port, begun, h))) = at _ _ _ h.session refl
+      by (inr (inr (inl (c, h)))) = at _ _ _ h.session (carry_not is_awaited refl (λ listed octets. refl) ask.listed c.course)
+      by (inr (inr (inr (rise, lift, h)))) = by_lift rise lift h
 
 module _ (read : Reading) (reads : IsReading read) (begun : List Order) where
   -- a twin that hears an octet doesn't come to wait so
@@ -284,8 +247,8 @@ module _ (read : Reading) (reads : IsReading read) (begun : List Order) where
       now_awaited = ap (λ q. (hears read (awaiting w.far) (take 1 q)).session.connection) some ∙ awaited
 
       by_phase : Phase read k.from begun new → is_awaited new.far.session.connection ≡ false
-      by_phase (inl (linked, inl free)) = aside_unawaited new.far.session.connection (free_still read k.from begun new free).far.aside
-      by_phase (inl (linked, inr under)) = aside_unawaited new.far.session.connection (under_still read k.from begun new under).far.aside
+      by_phase (inl (linked, inl free)) = idle_unawaited new.far.session.connection (aside_idle new.far.session.connection (free_still read k.from begun new free).far.aside)
+      by_phase (inl (linked, inr under)) = idle_unawaited new.far.session.connection (aside_idle new.far.session.connection (under_still read k.from begun new under).far.aside)
       by_phase (inr lost) = absurd (not_lost read k.from begun new control lost)
 
       by_fetching : IsFetching read k.from begun new → is_awaited new.far.session.connection ≡ false

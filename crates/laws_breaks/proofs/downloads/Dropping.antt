@@ -17,8 +17,8 @@ use Rattle.ftp_server_model.specs.declared.session.ServerLink.TheVariants as Dat
 use Rattle.laws_world.specs.Claims.{Beginning, IsFair, state_of}
 use Rattle.laws_world.specs.World.{Broken, Mark, World, marked_last}
 use Rattle.laws_agreement.proofs.Chunks.{both_empty}
-use Rattle.laws_drivers.specs.control.Alone.{ClientIsCalm, reports_of, reports_in}
-use Rattle.laws_drivers.specs.events.Moments.{AreMoments, begun_at, begun_by, number_in}
+use Rattle.laws_drivers.specs.control.Alone.{ClientIsCalm, reports_in}
+use Rattle.laws_drivers.specs.events.Moments.{AreMoments, begun_at}
 use Rattle.laws_drivers.specs.control.Between.{Between, CanTurn, Client as ByClient, Has_lost}
 use Rattle.laws_drivers.proofs.world.Moves.{take_front}
 use Rattle.laws_drivers.proofs.events.NearForms.{taking_of}

@@ -10,7 +10,6 @@ use Rattle.ftp_client_model.specs.declared.client.Replied.{Replied}
 use Rattle.ftp_client_model.specs.declared.client.Replied.TheVariants as Replies
 use Rattle.ftp_direct.specs.Direct.{State}
 use Rattle.ftp_ends.specs.declared.link.Wants.TheVariants as Want
-use Rattle.ftp_operation.specs.Answer.{Said}
 use Rattle.ftp_operation.specs.declared.op.Op.{Op}
 use Rattle.ftp_path.specs.Path.{Names}
 use Rattle.ftp_server_model.specs.Machine.{IsReading, Reading}
@@ -21,7 +20,6 @@ use Rattle.ftp_server_model.specs.declared.session.Pending.TheVariants as Pendin
 use Rattle.ftp_server_model.specs.declared.session.ServerLink.{ServerLink}
 use Rattle.ftp_server_model.specs.declared.session.ServerLink.TheVariants as Data
 use Rattle.ftp_wire.specs.Decoder.{Decoder, decoder_of, no_octets}
-use Rattle.ftp_endpoint.specs.declared.host.Host.{Host}
 use Rattle.laws_world.specs.Agreement.{Order, Single}
 use Rattle.laws_world.specs.Events.{ControlToClient, is_closed_by_near, pushed}
 use Rattle.laws_world.specs.Outcome.{mark_in}
@@ -36,7 +34,7 @@ use Rattle.laws_agreement.specs.Over.{OverRuns}
 use Rattle.laws_agreement.specs.PeekStages.{AtHalt, Gave, Gives as Halting, Halt, Halted, Halts}
 use Rattle.laws_agreement.specs.Rising.{Closing, Declined, Lift, Offered, Risen, Rising, Settled, Shut, Unjoined, Vanished, held, lift_passes}
 use Rattle.laws_agreement.specs.Runs.{IsFetching}
-use Rattle.laws_agreement.specs.Stages.{Answers, Aside as LeavesAside, AtFetch, Awaits, Carries, Closed, Course, Dialled, Dials, Dismissed, Early, Ended, Given, Giving, Holds, IsLasting, Leaving, LinkLeft, LinkOpen, LinkParting, Lost, PortAsked, PortDenied, PortSaid, PortTaken, PortTold, PortWanted, Ported, Refusing, Restarts, Retrieves, Rises, Severed, Tells, Unaccepted, Unclosed, Unopened, replies_behind_opening, early_far, far_link, gives_on, heard_by, is_passing, replied_of, replies_in, tie_of}
+use Rattle.laws_agreement.specs.Stages.{Answers, AtFetch, Awaits, Carries, Closed, Course, Dialled, Dials, Dismissed, Ended, Given, Giving, Holds, IsLasting, Lost, PortAsked, PortDenied, PortSaid, PortTaken, PortTold, PortWanted, Ported, Refusing, Restarts, Retrieves, Rises, Severed, Tells, Unaccepted, Unclosed, Unopened, replies_behind_opening, far_link, gives_on, heard_by, is_passing, replied_of, replies_in, tie_of}
 use Rattle.laws_agreement.proofs.FetchRuns.{pushed_client, serving_first}
 use Rattle.laws_agreement.proofs.FetchServed.{leads_still}
 use Rattle.laws_agreement.proofs.Rests.{near_form}
@@ -44,6 +42,7 @@ use Rattle.laws_agreement.proofs.Still.{IsSeen, IsStill, near_wants, seen_placed
 use Rattle.laws_drivers.proofs.world.Known.{is_receive}
 use Rattle.laws_drivers.proofs.world.Running.{free_still, not_lost, under_still}
 use Rattle.laws_drivers.proofs.events.Holding.{both}
+use Rattle.laws_transfers.proofs.Acting.{Acts, idle_or_acts, idle_rests, is_acting}
 use Rattle.laws_transfers.proofs.Known.{AreCarried, aside_rests, is_giving, is_ready, last_carried}
 use Rattle.laws_transfers.proofs.Running.{not_trailing}
 use Rattle.laws_drivers.proofs.events.Plain.{IsPlainJob}
@@ -96,11 +95,6 @@ record Sends (w : World) (op : Op (List ℕ)) (orders : List Order) : Type 0 whe
 begun_unfinal : (begun : Bool) → is_final (replied_of (heard_by begun)) ≡ false
 begun_unfinal true = refl
 begun_unfinal false = refl
-
-early_gives : (host : Host) (early : Early) → is_giving (early_far host early) ≡ false
-early_gives host (Dialled true) = refl
-early_gives host (Dialled false) = refl
-early_gives host (Ported port) = refl
 
 held_gives : (past : Bool) (path : Names) (keep : Keep) (d : Decoder) → is_giving (held past path keep d) ≡ false
 held_gives false path keep d = refl
@@ -265,7 +259,7 @@ module _ (read : Reading) (state : State) (ask : Ask) (good : IsAsk ask) (sound 
 
     -- where the server gives, the client takes
     stage_gives : is_giving w.far.session.connection ≡ true → Sends w ask.op orders
-    stage_gives gives = by_here s.here
+    stage_gives gives = by (idle_or_acts read state ask good own w s)
       where
         none : (link : ServerLink Transfer) (closing : Bool) (pending : Pending Names) → s.base.far.session ≡ linked link closing pending s.base.far.session
             → is_giving link ≡ false → Sends w ask.op orders
@@ -316,32 +310,11 @@ module _ (read : Reading) (state : State) (ask : Ask) (good : IsAsk ask) (sound 
         by_lift rise (Declined why door) h = none _ _ _ h.session refl
         by_lift rise Unjoined h = none _ _ _ h.session refl
 
-        by_leaving : (leaves : Leaving) (said : Said) → Holds state ask own (Answers said leaves) s.way s.base
-            → Sends w ask.op orders
-        by_leaving (LeavesAside closes connection pending) said h = none connection _ _ h.session (aside_rests connection h.fine.1).2
-        by_leaving LinkOpen said h = none _ _ _ h.session refl
-        by_leaving LinkLeft said h = none _ _ _ h.session refl
-        by_leaving LinkParting said h = none _ _ _ h.session refl
-
-        by_here : At s.way s.base → Sends w ask.op orders
-        by_here (inl l) =
-            absurd (both gives (aside_rests w.far.session.connection (leads_still read state ask good.plan own s.base w s.way of l).0.far.aside).2)
-        by_here (inr (PortAsked closing, h)) = none _ _ _ h.session refl
-        by_here (inr (PortTold port, h)) = none _ _ _ h.session refl
-        by_here (inr (Dials port, h)) = none _ _ _ h.session refl
-        by_here (inr (PortWanted connection pending, h)) = none connection _ _ h.session (aside_rests connection h.fine).2
-        by_here (inr (PortSaid port connection pending, h)) = none connection _ _ h.session (aside_rests connection h.fine.0).2
-        by_here (inr (PortTaken port closing, h)) = none _ _ _ h.session refl
-        by_here (inr (PortDenied port connection, h)) = none connection _ _ h.session (aside_rests connection h.fine.0).2
-        by_here (inr (Restarts at restart early, h)) = none _ _ _ h.session (early_gives s.base.near.here early)
-        by_here (inr (Retrieves early, h)) = none _ _ _ h.session (early_gives s.base.near.here early)
-        by_here (inr (Awaits port begun, h)) = none _ _ _ h.session refl
-        by_here (inr (Unaccepted port, h)) = none _ _ _ h.session refl
-        by_here (inr (Dismissed port why, h)) = none _ _ _ h.session refl
-        by_here (inr (Carries c, h)) = by_course c.course c.came c.queue h
-        by_here (inr (Rises rise lift, h)) = by_lift rise lift h
-        by_here (inr (Tells rise said after, h)) = none _ _ _ h.session refl
-        by_here (inr (Answers said leaves, h)) = by_leaving leaves said h
+        by : (is_acting w.far.session.connection ≡ false) ⊎ Acts read state ask good own s.way s.base → Sends w ask.op orders
+        by (inl idle) = absurd (both gives (idle_rests w.far.session.connection idle).1)
+        by (inr (inl (port, begun, h))) = none _ _ _ h.session refl
+        by (inr (inr (inl (c, h)))) = by_course c.course c.came c.queue h
+        by (inr (inr (inr (rise, lift, h)))) = by_lift rise lift h
 
 -- a Peek that sent ABOR has a link that is open, while the server gives
 halt_opened : (now : State) (ask : Ask) (own : List Mark) (w : World) → AtHalt now ask own w → is_giving w.far.session.connection ≡ true → w.link ≡ Opened

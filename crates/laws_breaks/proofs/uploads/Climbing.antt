@@ -1,6 +1,6 @@
 -- What is so of a world whose server takes octets of an upload: its client has no final reply, and it counts those that came; and one that has closed the link
 -- has given all.
-use Rattle.std.proofs.Common.{◌≡◌, inl, inr, ℕ, Bool, true, false, true≢false, List, [], ◌∷◌, ◌++◌, length, Option, Some, None, refl, sym, ap, subst, ◌∙◌}
+use Rattle.std.proofs.Common.{◌≡◌, ◌⊎◌, inl, inr, ℕ, Bool, true, false, true≢false, List, [], ◌∷◌, ◌++◌, length, Option, Some, None, refl, sym, ap, subst, ◌∙◌}
 use Rattle.std.specs.Option.{unwrap_or}
 use Rattle.ftp_client_model.specs.Plan.{count_of}
 use Rattle.ftp_client_model.specs.View.{View as Near}
@@ -9,8 +9,6 @@ use Rattle.ftp_client_model.specs.declared.client.Ending.TheVariants as Endings
 use Rattle.ftp_client_model.specs.declared.client.Replied.{Replied}
 use Rattle.ftp_client_model.specs.declared.client.Replied.TheVariants as Replies
 use Rattle.ftp_direct.specs.Direct.{State}
-use Rattle.ftp_endpoint.specs.declared.host.Host.{Host}
-use Rattle.ftp_operation.specs.Answer.{Said}
 use Rattle.ftp_operation.specs.declared.op.Op.{Op}
 use Rattle.ftp_path.specs.Path.{Names}
 use Rattle.ftp_server_model.specs.Calls.{is_upload}
@@ -28,15 +26,15 @@ use Rattle.laws_agreement.specs.Follows.{Phase}
 use Rattle.laws_agreement.specs.Over.{OverRuns}
 use Rattle.laws_agreement.specs.Rising.{Declined, Lift, Offered, Risen, Rising, Settled, Unjoined, lift_far, lift_state, lifts, sending}
 use Rattle.laws_agreement.specs.Runs.{IsFetching, IsFetchingOn}
-use Rattle.laws_agreement.specs.Stages.{Answers, Aside as LeavesAside, AtFetch, Awaits, Carries, Closed, Course, Dialled, Dials, Dismissed, Early, Ended, Given as GaveAll, Giving, Holds, Leaving, LinkLeft, LinkOpen, LinkParting, Lost, PortAsked, PortDenied, PortSaid, PortTaken, PortTold, PortWanted, Ported, Refusing, Restarts, Retrieves, Rises, Severed, Tells, Unaccepted, Unclosed, Unopened, early_far, far_link, gives_on, tie_of}
+use Rattle.laws_agreement.specs.Stages.{AtFetch, Holds, Rises}
 use Rattle.laws_agreement.proofs.FetchRuns.{pushed_client, serving_first}
-use Rattle.laws_agreement.proofs.FetchServed.{leads_still}
 use Rattle.laws_agreement.proofs.FetchWants.{rises_or_none}
 use Rattle.laws_agreement.proofs.Rests.{near_form}
 use Rattle.laws_agreement.proofs.Still.{IsSeen, IsStill, seen_placed}
 use Rattle.laws_agreement.proofs.UploadData.{AtRise}
 use Rattle.laws_drivers.proofs.world.Known.{beside}
 use Rattle.laws_drivers.proofs.world.Running.{free_still, not_lost, under_still}
+use Rattle.laws_transfers.proofs.Acting.{Acts, carry_not, idle_or_acts, idle_rests, is_acting}
 use Rattle.laws_transfers.proofs.Halting.{halt_stands, halt_unclosed}
 use Rattle.laws_transfers.proofs.Known.{AreCarried, aside_rests, gives_none, is_ready, last_carried}
 use Rattle.laws_transfers.proofs.Running.{not_trailing}
@@ -92,29 +90,12 @@ same_last begun op other one two =
 
 -- ---- by stages
 
--- none are taken before its command, nor in a download
-pub early_takes : (host : Host) (early : Early) → is_upload (early_far host early) ≡ false
-early_takes host (Dialled true) = refl
-early_takes host (Dialled false) = refl
-early_takes host (Ported port) = refl
-
-pub carry_takes : (listed : Bool) (course : Course) → is_upload (far_link (gives_on listed course) (tie_of course)) ≡ false
-carry_takes listed (Giving begun octet more) = gives_none listed (octet ∷ more)
-carry_takes listed (GaveAll heard true) = refl
-carry_takes listed (GaveAll heard false) = refl
-carry_takes listed (Ended begun clean) = refl
-carry_takes listed (Severed begun) = refl
-carry_takes listed (Refusing why Unclosed) = refl
-carry_takes listed (Refusing why Closed) = refl
-carry_takes listed (Refusing why (Lost clean)) = refl
-carry_takes listed Unopened = refl
-
 module _ (read : Reading) (state : State) (ask : Ask) (good : IsAsk ask) (own : List Mark) where
   abbrev At : Way → World → Type 0
   At way b = AtFetch state ask read own way b
 
   stage_climbs : (w : World) → PlacedAt At w → is_upload w.far.session.connection ≡ true → Climbing ask.op w
-  stage_climbs w s takes = by_here s.here
+  stage_climbs w s takes = by (idle_or_acts read state ask good own w s)
     where
       of : IsSeen s.base w
       of = seen_placed At w s
@@ -161,32 +142,11 @@ module _ (read : Reading) (state : State) (ask : Ask) (good : IsAsk ask) (own : 
       by_lift rise (Declined why door) h = never _ _ _ h.session refl
       by_lift rise Unjoined h = never _ _ _ h.session refl
 
-      by_leaving : (said : Said) (leaves : Leaving) → Holds state ask own (Answers said leaves) s.way s.base → Climbing ask.op w
-      by_leaving said (LeavesAside closes connection pending) h = never connection _ _ h.session (aside_rests connection h.fine.1).0
-      by_leaving said LinkOpen h = never _ _ _ h.session refl
-      by_leaving said LinkLeft h = never _ _ _ h.session refl
-      by_leaving said LinkParting h = never _ _ _ h.session refl
-
-      by_here : At s.way s.base → Climbing ask.op w
-      by_here (inl l) =
-          absurd (true≢false (sym takes
-          ∙ (aside_rests w.far.session.connection (leads_still read state ask good.plan own s.base w s.way of l).0.far.aside).0))
-      by_here (inr (PortAsked closing, h)) = never _ _ _ h.session refl
-      by_here (inr (PortTold port, h)) = never _ _ _ h.session refl
-      by_here (inr (Dials port, h)) = never _ _ _ h.session refl
-      by_here (inr (PortWanted connection pending, h)) = never connection _ _ h.session (aside_rests connection h.fine).0
-      by_here (inr (PortSaid port connection pending, h)) = never connection _ _ h.session (aside_rests connection h.fine.0).0
-      by_here (inr (PortTaken port closing, h)) = never _ _ _ h.session refl
-      by_here (inr (PortDenied port connection, h)) = never connection _ _ h.session (aside_rests connection h.fine.0).0
-      by_here (inr (Restarts at restart early, h)) = never _ _ _ h.session (early_takes s.base.near.here early)
-      by_here (inr (Retrieves early, h)) = never _ _ _ h.session (early_takes s.base.near.here early)
-      by_here (inr (Awaits port begun, h)) = never _ _ _ h.session refl
-      by_here (inr (Unaccepted port, h)) = never _ _ _ h.session refl
-      by_here (inr (Dismissed port why, h)) = never _ _ _ h.session refl
-      by_here (inr (Carries c, h)) = never _ _ _ h.session (carry_takes ask.listed c.course)
-      by_here (inr (Rises rise lift, h)) = by_lift rise lift h
-      by_here (inr (Tells rise said after, h)) = never _ _ _ h.session refl
-      by_here (inr (Answers said leaves, h)) = by_leaving said leaves h
+      by : (is_acting w.far.session.connection ≡ false) ⊎ Acts read state ask good own s.way s.base → Climbing ask.op w
+      by (inl idle) = absurd (true≢false (sym takes ∙ (idle_rests w.far.session.connection idle).0))
+      by (inr (inl (port, begun, h))) = never _ _ _ h.session refl
+      by (inr (inr (inl (c, h)))) = never _ _ _ h.session (carry_not is_upload refl gives_none ask.listed c.course)
+      by (inr (inr (inr (rise, lift, h)))) = by_lift rise lift h
 
   -- one that lasts, and whose link the client alone has closed
   stage_given : (w : World) → PlacedAt (AtRise read state ask own) w → w.link ≡ ClosedByNear → HasGiven w

@@ -1,6 +1,6 @@
 -- A world whose server takes octets of an upload, over a link that is open, and whose client is not to close: the client has no final reply, and gives octets
 -- or has not heard its 150; what comes to it is that 150 or numbers of octets that are held; and nothing goes to the server.
-use Rattle.std.proofs.Common.{◌≡◌, inl, inr, ℕ, Bool, true, false, true≢false, List, [], ◌∷◌, ◌++◌, Option, None, refl, sym, ap, subst, ◌∙◌}
+use Rattle.std.proofs.Common.{◌≡◌, ◌⊎◌, inl, inr, ℕ, Bool, true, false, true≢false, List, [], ◌∷◌, ◌++◌, Option, None, refl, sym, ap, subst, ◌∙◌}
 use Rattle.ftp_ends.specs.Octets.{has_octets}
 use Rattle.ftp_ends.specs.Reply.{Reply}
 use Rattle.ftp_client_model.specs.Calls.{hears}
@@ -8,7 +8,6 @@ use Rattle.ftp_client_model.specs.Plan.{count_of}
 use Rattle.ftp_client_model.specs.View.{View as Near}
 use Rattle.ftp_client_model.specs.declared.client.ClientLink.TheVariants as NearData
 use Rattle.ftp_direct.specs.Direct.{State}
-use Rattle.ftp_operation.specs.Answer.{Said}
 use Rattle.ftp_operation.specs.declared.op.Op.{Op}
 use Rattle.ftp_path.specs.Path.{Names}
 use Rattle.ftp_server_model.specs.Calls.{is_upload}
@@ -28,16 +27,15 @@ use Rattle.laws_agreement.specs.Cut.{Fits, FlowsRow, PlacedAt, world_at}
 use Rattle.laws_agreement.specs.Follows.{Phase}
 use Rattle.laws_agreement.specs.Over.{OverRuns}
 use Rattle.laws_agreement.specs.Rising.{Declined, Lift, Offered, Risen, Rising, Settled, Unjoined, replied_by, sending}
-use Rattle.laws_agreement.specs.Stages.{Answers, Aside as LeavesAside, AtFetch, Awaits, Carries, Dials, Dismissed, Holds, Leaving, LinkLeft, LinkOpen, LinkParting, PortAsked, PortDenied, PortSaid, PortTaken, PortTold, PortWanted, Restarts, Retrieves, Rises, Tells, Unaccepted}
-use Rattle.laws_agreement.proofs.FetchServed.{leads_still}
+use Rattle.laws_agreement.specs.Stages.{AtFetch, Holds, Rises}
 use Rattle.laws_agreement.proofs.Rests.{near_form}
 use Rattle.laws_agreement.proofs.Still.{IsSeen, IsStill, seen_placed}
 use Rattle.laws_drivers.proofs.world.Running.{free_still, not_lost, under_still}
+use Rattle.laws_transfers.proofs.Acting.{Acts, carry_not, idle_or_acts, idle_rests, is_acting}
 use Rattle.laws_transfers.proofs.Halting.{halt_stands}
-use Rattle.laws_transfers.proofs.Known.{AreCarried, aside_rests, is_ready, last_carried}
+use Rattle.laws_transfers.proofs.Known.{AreCarried, aside_rests, gives_none, is_ready, last_carried}
 use Rattle.laws_transfers.proofs.Running.{not_trailing}
 use Rattle.laws_breaks.proofs.downloads.Unsent.{AskAll, all_carried, last_all}
-use Rattle.laws_breaks.proofs.uploads.Climbing.{carry_takes, early_takes}
 
 -- what is on its way: the 150, or once it was heard numbers of octets that are held
 abbrev pub rows : Bool → List Note → List Reply
@@ -72,7 +70,7 @@ module _ (read : Reading) (state : State) (ask : Ask) (good : IsAsk ask) (all : 
     of = seen_placed At w s
 
     stage_offers : w.link ≡ Opened → Offers w
-    stage_offers link = by_here s.here
+    stage_offers link = by (idle_or_acts read state ask good own w s)
       where
         never : (link : ServerLink Transfer) (closing : Bool) (pending : Pending Names) → s.base.far.session ≡ linked link closing pending s.base.far.session
             → is_upload link ≡ false → Offers w
@@ -126,32 +124,11 @@ module _ (read : Reading) (state : State) (ask : Ask) (good : IsAsk ask) (all : 
         by_lift rise (Declined why door) h = never _ _ _ h.session refl
         by_lift rise Unjoined h = never _ _ _ h.session refl
 
-        by_leaving : (said : Said) (leaves : Leaving) → Holds state ask own (Answers said leaves) s.way s.base → Offers w
-        by_leaving said (LeavesAside closes connection pending) h = never connection _ _ h.session (aside_rests connection h.fine.1).0
-        by_leaving said LinkOpen h = never _ _ _ h.session refl
-        by_leaving said LinkLeft h = never _ _ _ h.session refl
-        by_leaving said LinkParting h = never _ _ _ h.session refl
-
-        by_here : At s.way s.base → Offers w
-        by_here (inl l) =
-            absurd (true≢false (sym takes
-            ∙ (aside_rests w.far.session.connection (leads_still read state ask good.plan own s.base w s.way of l).0.far.aside).0))
-        by_here (inr (PortAsked closing, h)) = never _ _ _ h.session refl
-        by_here (inr (PortTold port, h)) = never _ _ _ h.session refl
-        by_here (inr (Dials port, h)) = never _ _ _ h.session refl
-        by_here (inr (PortWanted connection pending, h)) = never connection _ _ h.session (aside_rests connection h.fine).0
-        by_here (inr (PortSaid port connection pending, h)) = never connection _ _ h.session (aside_rests connection h.fine.0).0
-        by_here (inr (PortTaken port closing, h)) = never _ _ _ h.session refl
-        by_here (inr (PortDenied port connection, h)) = never connection _ _ h.session (aside_rests connection h.fine.0).0
-        by_here (inr (Restarts at restart early, h)) = never _ _ _ h.session (early_takes s.base.near.here early)
-        by_here (inr (Retrieves early, h)) = never _ _ _ h.session (early_takes s.base.near.here early)
-        by_here (inr (Awaits port begun, h)) = never _ _ _ h.session refl
-        by_here (inr (Unaccepted port, h)) = never _ _ _ h.session refl
-        by_here (inr (Dismissed port why, h)) = never _ _ _ h.session refl
-        by_here (inr (Carries c, h)) = never _ _ _ h.session (carry_takes ask.listed c.course)
-        by_here (inr (Rises rise lift, h)) = by_lift rise lift h
-        by_here (inr (Tells rise said after, h)) = never _ _ _ h.session refl
-        by_here (inr (Answers said leaves, h)) = by_leaving said leaves h
+        by : (is_acting w.far.session.connection ≡ false) ⊎ Acts read state ask good own s.way s.base → Offers w
+        by (inl idle) = absurd (true≢false (sym takes ∙ (idle_rests w.far.session.connection idle).0))
+        by (inr (inl (port, begun, h))) = never _ _ _ h.session refl
+        by (inr (inr (inl (c, h)))) = never _ _ _ h.session (carry_not is_upload refl gives_none ask.listed c.course)
+        by (inr (inr (inr (rise, lift, h)))) = by_lift rise lift h
 
 -- ---- in a world
 

@@ -8,7 +8,7 @@ use Rattle.ftp_ports.specs.Channel.{IsLeft, IsOpen, Channel, with_untold}
 use Rattle.ftp_ports.specs.Machine.{Aside, Break, Closed, End, Failed, Gave, Got, Held, Left, LetGo, Opened, Received, Refused, Waited, Wrote, awaits, seen}
 use Rattle.ftp_client_driver.specs.Side.{Reporting, Starting, client_side}
 use Rattle.ftp_client_model.specs.Calls as near
-use Rattle.ftp_client_model.specs.Calls.{data_closed, gives_control, hears, is_busy, may_hear, report_of}
+use Rattle.ftp_client_model.specs.Calls.{data_closed, gives_control, hears, may_hear}
 use Rattle.ftp_client_model.specs.Failing.{Client}
 use Rattle.ftp_client_model.specs.View.{View as Near}
 use Rattle.ftp_client_model.specs.declared.client.Replied.{Replied}
@@ -26,8 +26,8 @@ use Rattle.laws_world.specs.Events.{ControlToClient, pushed}
 use Rattle.laws_world.specs.World.{ClosedByNear, Mark, Opened as IsOpened, World}
 use Rattle.laws_agreement.proofs.Chunks.{both_empty}
 use Rattle.laws_agreement.specs.Rising.{sending}
-use Rattle.laws_drivers.specs.control.Alone.{ClientIsCalm, reports_of}
-use Rattle.laws_drivers.specs.events.Moments.{AreMoments, begun_at, begun_by, number_in}
+use Rattle.laws_drivers.specs.control.Alone.{ClientIsCalm}
+use Rattle.laws_drivers.specs.events.Moments.{AreMoments, begun_at}
 use Rattle.laws_drivers.specs.control.Between.{Between, CanTurn, Client as ByClient, Has_lost}
 use Rattle.laws_drivers.proofs.world.Moves.{take_front}
 use Rattle.laws_drivers.proofs.events.Holding.{both, is_had, unclosed}
