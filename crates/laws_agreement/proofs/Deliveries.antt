@@ -10,7 +10,7 @@ use Rattle.laws_world.specs.Events.{ControlToServer, ControlToClient, pulled, pu
 use Rattle.laws_world.specs.World.{World, Mark}
 use Rattle.laws_dialogues.specs.Login.{AtFree, AtOperation}
 use Rattle.laws_dialogues.specs.Stage.{Way, Asking, Answering, Turns}
-use Rattle.laws_agreement.specs.Cut.{Crossed, Cut, world_at, of_ends, StandsAt, Goes}
+use Rattle.laws_agreement.specs.Cut.{Crossed, Cut, PlacedAt, world_at, of_ends, StandsAt, Goes}
 use Rattle.laws_agreement.specs.Follows.{Told, IsLost, IsLinked, Phase, Follows}
 use Rattle.laws_agreement.proofs.Keeps.{no_pull_to_server, no_pull_to_client, no_push_to_server, no_push_to_client, pulls_to_server, pulls_to_client, pushes_to_server, pushes_to_client}
 use Rattle.laws_agreement.proofs.Phases.{HasFollowed, turns_free, turns_under, follows_after}
@@ -41,18 +41,21 @@ pub taken_at : (b : World) (way : Way) (c : Cut) (octets : List ℕ) → record 
 taken_at b (Asking text) c octets = refl
 taken_at b (Answering rows) c octets = refl
 
--- a world stands as it did whatever octets are lent
+-- a world is placed as it was whatever octets are lent, where so much is so of its base
+abbrev pub placed_taken : {At : Way → World → Type 0} {w : World} (octets : List ℕ) (s : PlacedAt At w) → At s.way (record s.base { taken = octets })
+    → PlacedAt At (record w { taken = octets })
+placed_taken octets s here = record {
+  base = record s.base { taken = octets };
+  way = s.way;
+  cut = s.cut;
+  is = ap (λ (u : World). record u { taken = octets }) s.is ∙ taken_at s.base s.way s.cut octets;
+  fits = s.fits;
+  here = here;
+}
+
+-- a world stands so too
 stands_taken : (At : Way → Near → Far → Type 0) (octets : List ℕ) (w : World) → StandsAt At w → StandsAt At (record w { taken = octets })
-stands_taken At octets w s =
-    let lends : World → World = λ u. record u { taken = octets } in
-    record {
-      base = record s.base { taken = octets };
-      way = s.way;
-      cut = s.cut;
-      is = ap lends s.is ∙ taken_at s.base s.way s.cut octets;
-      fits = s.fits;
-      here = s.here;
-    }
+stands_taken At octets w s = placed_taken {At = of_ends At} octets s s.here
 
 -- ---- a movement of octets of the control connection
 

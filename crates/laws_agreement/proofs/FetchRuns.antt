@@ -1,5 +1,5 @@
 -- Every delivery keeps what follows of what is asked for.
-use Rattle.std.proofs.Common.{◌≡◌, ◌⊎◌, inl, inr, ℕ, ◌≤◌, Bool, true, false, List, [], ◌∷◌, ◌++◌, length, take, None, refl, sym, ap, subst, ◌∙◌, arith}
+use Rattle.std.proofs.Common.{◌≡◌, ◌⊎◌, inl, inr, ℕ, ◌≤◌, Bool, true, false, List, [], ◌∷◌, ◌++◌, length, take, None, refl, sym, subst, ◌∙◌, arith}
 use Rattle.ftp_direct.specs.Direct.{State}
 use Rattle.ftp_ends.specs.Reply.{Reply}
 use Rattle.ftp_server_model.specs.Machine.{Reading, IsReading}
@@ -15,7 +15,7 @@ use Rattle.laws_agreement.specs.PeekStages.{AtHalt, IsHaltCross}
 use Rattle.laws_agreement.specs.Rising.{Lift, Offered, Rising, Risen, Settled, Declined, Unjoined, Closing, Shut, Vanished}
 use Rattle.laws_agreement.specs.Runs.{IsAsked, IsFetching, IsFetchingOn, IsHalting, Runs}
 use Rattle.laws_agreement.specs.Stages.{Course, Giving, Given, Ended, Severed, Refusing, Unopened, Unclosed, Closed, Lost, Stage, PortAsked, PortTold, Dials, Restarts, Retrieves, Carries, Rises, Tells, Answers, Holds, AtFetch, IsLasting, PortWanted, PortSaid, PortTaken, PortDenied, Awaits, Unaccepted, Dismissed, is_passing, is_served, AtServed, IsServed}
-use Rattle.laws_agreement.proofs.Deliveries.{taken_at}
+use Rattle.laws_agreement.proofs.Deliveries.{placed_taken}
 use Rattle.laws_agreement.proofs.FetchData.{AtFlow, flow_pulls, flow_pushes, flow_is}
 use Rattle.laws_agreement.proofs.FetchServed.{Served, lasting_stays, port_asked_serves, port_taken_closes, port_wanted_serves, given_closes, refusing_closes}
 use Rattle.laws_agreement.proofs.FetchTold.{answers_served}
@@ -298,16 +298,8 @@ module _ (read : Reading) (reads : IsReading read) (from : State) (begun : List 
   -- what was asked for is under way also with other octets lent
   pub fetching_taken : (octets : List ℕ) (w : World) → Fetching w → Fetching (record w { taken = octets })
   fetching_taken octets w f =
-      let lends : World → World = λ u. record u { taken = octets } in
       fetching_moved w (record w { taken = octets }) f (record { marks = refl; reports = refl; control = refl; cutoff = refl })
-      (record {
-        base = record f.stands.base { taken = octets };
-        way = f.stands.way;
-        cut = f.stands.cut;
-        is = ap lends f.stands.is ∙ taken_at f.stands.base f.stands.way f.stands.cut octets;
-        fits = f.stands.fits;
-        here = here_taken w f octets f.stands.way f.stands.base f.stands.here;
-      })
+      (placed_taken {At = At w f} octets f.stands (here_taken w f octets f.stands.way f.stands.base f.stands.here))
 
   -- what outlasts an event outlasts it with other octets lent
   lasts_taken : (octets : List ℕ) (w : World) (f : Fetching w) (here : At w f f.stands.way f.stands.base) → IsLasting f.now f.ask read f.own f.stands.way f.stands.base here
@@ -331,17 +323,9 @@ module _ (read : Reading) (reads : IsReading read) (from : State) (begun : List 
   -- a world whose octets of the control connection have moved is one also with other octets lent
   pub serving_taken : (octets : List ℕ) (w : World) (f : Fetching w) (u : World) → Serving w f u → Serving w f (record u { taken = octets })
   serving_taken octets w f u m =
-      let lends : World → World = λ v. record v { taken = octets } in
       let s = m.placed in
       record {
-        placed = record {
-          base = record s.base { taken = octets };
-          way = s.way;
-          cut = s.cut;
-          is = ap lends s.is ∙ taken_at s.base s.way s.cut octets;
-          fits = s.fits;
-          here = (here_taken w f octets s.way s.base s.here.0, served_taken octets w f s.way s.base s.here.0 s.here.1);
-        };
+        placed = placed_taken octets s (here_taken w f octets s.way s.base s.here.0, served_taken octets w f s.way s.base s.here.0 s.here.1);
         kept = record { marks = m.kept.marks; reports = m.kept.reports; control = m.kept.control; cutoff = m.kept.cutoff };
       }
 
@@ -394,23 +378,15 @@ module _ (read : Reading) (reads : IsReading read) (from : State) (begun : List 
   -- octets of the link flow also with other octets lent
   pub moved_taken : (octets : List ℕ) (w : World) (f : Fetching w) (u : World) → Moved w f u → Moved w f (record u { taken = octets })
   moved_taken octets w f u m =
-      let lends : World → World = λ v. record v { taken = octets } in
       let s = m.flowing in
       record {
-        flowing = record {
-          base = record s.base { taken = octets };
-          way = s.way;
-          cut = s.cut;
-          is = ap lends s.is ∙ taken_at s.base s.way s.cut octets;
-          fits = s.fits;
-          here = record {
-            course = s.here.course;
-            came = s.here.came;
-            queue = s.here.queue;
-            flows = s.here.flows;
-            holds = holds_taken w f octets (Carries (record { course = s.here.course; came = s.here.came; queue = s.here.queue })) s.way s.base s.here.holds;
-          };
-        };
+        flowing = placed_taken octets s (record {
+          course = s.here.course;
+          came = s.here.came;
+          queue = s.here.queue;
+          flows = s.here.flows;
+          holds = holds_taken w f octets (Carries (record { course = s.here.course; came = s.here.came; queue = s.here.queue })) s.way s.base s.here.holds;
+        });
         kept = record { marks = m.kept.marks; reports = m.kept.reports; control = m.kept.control; cutoff = m.kept.cutoff };
       }
 

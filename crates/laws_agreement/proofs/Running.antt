@@ -21,7 +21,7 @@ use Rattle.laws_agreement.specs.Follows.{IsFree, IsUnder, IsLinked, Phase, Follo
 use Rattle.laws_agreement.specs.Runs.{IsFetchingOn, IsHaltingOn, IsTrailing, Runs}
 use Rattle.laws_agreement.proofs.Asks.{IsAskOf, ask_of, store_of}
 use Rattle.laws_agreement.proofs.Begins.{begins_free}
-use Rattle.laws_agreement.proofs.Deliveries.{taken_at}
+use Rattle.laws_agreement.proofs.Deliveries.{placed_taken}
 use Rattle.laws_agreement.proofs.Events.{IsNoBeginning, both_false, happens, lent_again, never, under_busy}
 use Rattle.laws_agreement.proofs.FetchBegins.{begins_fetch}
 use Rattle.laws_agreement.proofs.FetchParting.{fetch_parts, trailing_parts}
@@ -39,7 +39,6 @@ use Rattle.laws_agreement.proofs.Unsendable.{upload_free, upload_lost}
 -- what is lent is of no matter
 pub trailing_taken : (from : State) (begun : List Order) (octets : List ℕ) (w : World) → IsTrailing from begun w → IsTrailing from begun (record w { taken = octets })
 trailing_taken from begun octets w t =
-    let lends : World → World = λ u. record u { taken = octets } in
     let s = t.stands in
     record {
       done = t.done;
@@ -57,22 +56,15 @@ trailing_taken from begun octets w t =
       told = t.told;
       fares = t.fares;
       linked = record { control = t.linked.control; cutoff = t.linked.cutoff };
-      stands = record {
-        base = record s.base { taken = octets };
-        way = s.way;
-        cut = s.cut;
-        is = ap lends s.is ∙ taken_at s.base s.way s.cut octets;
-        fits = s.fits;
-        here = record {
-          near = s.here.near;
-          session = s.here.session;
-          steady = s.here.steady;
-          link = s.here.link;
-          to_server = s.here.to_server;
-          to_client = s.here.to_client;
-          way_is = s.here.way_is;
-        };
-      };
+      stands = placed_taken octets s (record {
+        near = s.here.near;
+        session = s.here.session;
+        steady = s.here.steady;
+        link = s.here.link;
+        to_server = s.here.to_server;
+        to_client = s.here.to_client;
+        way_is = s.here.way_is;
+      });
     }
 
 -- where three hold together, the first two hold

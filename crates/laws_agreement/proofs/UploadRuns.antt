@@ -12,7 +12,7 @@ use Rattle.laws_agreement.specs.Cut.{Cut, Fits, PlacedAt, world_at}
 use Rattle.laws_agreement.specs.Rising.{Lift, Offered, Rising, Risen, Settled, Declined, Unjoined, lifts}
 use Rattle.laws_agreement.specs.Runs.{IsFetching, Runs}
 use Rattle.laws_agreement.specs.Stages.{AtFetch, Rises, Holds}
-use Rattle.laws_agreement.proofs.Deliveries.{taken_at}
+use Rattle.laws_agreement.proofs.Deliveries.{placed_taken}
 use Rattle.laws_agreement.proofs.FetchRuns.{IsKept, fetch_after, fetching_moved, holds_taken, no_change}
 use Rattle.laws_agreement.proofs.UploadData.{AtRise, rise_ends, rise_is, rise_pulls, rise_pushes}
 
@@ -43,22 +43,14 @@ module _ (read : Reading) (reads : IsReading read) (from : State) (begun : List 
   -- what is lent is of no matter
   pub moved_taken : (octets : List ℕ) (w : World) (f : Fetching w) (u : World) → Moved w f u → Moved w f (record u { taken = octets })
   moved_taken octets w f u m =
-      let lends : World → World = λ v. record v { taken = octets } in
       let s = m.climbing in
       record {
-        climbing = record {
-          base = record s.base { taken = octets };
-          way = s.way;
-          cut = s.cut;
-          is = ap lends s.is ∙ taken_at s.base s.way s.cut octets;
-          fits = s.fits;
-          here = record {
-            rise = s.here.rise;
-            lift = s.here.lift;
-            rises = s.here.rises;
-            holds = holds_taken read reads from begun w f octets (Rises s.here.rise s.here.lift) s.way s.base s.here.holds;
-          };
-        };
+        climbing = placed_taken octets s (record {
+          rise = s.here.rise;
+          lift = s.here.lift;
+          rises = s.here.rises;
+          holds = holds_taken read reads from begun w f octets (Rises s.here.rise s.here.lift) s.way s.base s.here.holds;
+        });
         kept = record { marks = m.kept.marks; reports = m.kept.reports; control = m.kept.control; cutoff = m.kept.cutoff };
       }
 
