@@ -18,7 +18,7 @@ use Rattle.ftp_server_model.specs.Calls as far
 use Rattle.ftp_server_model.specs.Failing.{GiveFails}
 use Rattle.ftp_server_model.specs.Machine.{later}
 use Rattle.ftp_server_model.specs.View.{View as Far}
-use Rattle.laws_examples.proofs.transfers.Moves.{endpoint, port_text, steps}
+use Rattle.laws_examples.proofs.transfers.Moves.{endpoint, opened_now, port_text, steps}
 use Rattle.laws_examples.proofs.transfers.Playing.{far_in, near_in, none_yet, one_stands}
 
 -- one stands, and there is more to give
@@ -37,20 +37,7 @@ pub far_dials : (endpoint : Endpoint) (v new : Far) → far.wants v ≡ Want.Con
 far_dials endpoint v new wants owed is rest = (
   (
     ((steps (λ v w. ⊥) (far.opened_step endpoint.host) v new is, refl), rest),
-    record {
-      had = Connected endpoint None None;
-      is_had = inr (endpoint, refl, refl);
-      none = refl;
-      alone = refl;
-      adds = tt;
-      stands = refl;
-      fate = refl;
-      rests = refl;
-      left = refl;
-      written = refl;
-      unwritten = refl;
-      untold = refl;
-    },
+    opened_now Rests.More (Connected endpoint None None) (inr (endpoint, refl, refl)),
     (wants, owed),
   ),
   refl,
@@ -76,20 +63,7 @@ pub near_accepts : (host : Host) (n : Near) → near.wants n ≡ Want.Accept →
 near_accepts host n wants owed rest = (
   (
     ((((λ calm. refl), (λ moved. absurd (moved refl))), inl refl), rest),
-    record {
-      had = Came host None None;
-      is_had = inl refl;
-      none = refl;
-      alone = refl;
-      adds = tt;
-      stands = refl;
-      fate = refl;
-      rests = refl;
-      left = refl;
-      written = refl;
-      unwritten = refl;
-      untold = refl;
-    },
+    opened_now Rests.Nothing (Came host None None) (inl refl),
     (wants, owed),
   ),
   refl,

@@ -1,9 +1,9 @@
 -- What is done with the data connection of a fetch and of an upload: each action of either end, where it can be done.
 use Rattle.std.proofs.Common.{◌≡◌, inl, inr, ℕ, ◌<◌, false, true, true≢false, List, [], ◌∷◌, ◌++◌, length, take, drop, None, Some, refl, sym, ap, subst, ◌∙◌, append-nil, arith, codes, decimal}
 use Rattle.std.proofs.lemmas.Fmt.{decimal_digit, decimal_step}
-use Rattle.ftp_ports.specs.Asking.{Came, Connected, Ended as EndedBy, Shut}
+use Rattle.ftp_ports.specs.Asking.{Asked, Came, Connected, Ended as EndedBy, Shut}
 use Rattle.ftp_ports.specs.Actions.{Done, Other}
-use Rattle.ftp_ports.specs.Channel.{Channel, with_rest}
+use Rattle.ftp_ports.specs.Channel.{AreOctetsWritten, Channel, IsHad, IsOpened, IsRead, with_rest}
 use Rattle.ftp_ports.specs.Machine.{Closed, End, Gave, Got, Left, Listening, Opened, Received, Wrote, leaves, rest_by, rest_left}
 use Rattle.ftp_ports.specs.declared.whole.Fate.TheVariants as Fates
 use Rattle.ftp_ports.specs.declared.whole.Rest.{Rest}
@@ -22,6 +22,57 @@ use Rattle.ftp_server_model.specs.Far.{Steps}
 use Rattle.ftp_server_model.specs.Machine.{later}
 use Rattle.ftp_server_model.specs.View.{View as Far}
 use Rattle.laws_examples.proofs.transfers.Playing.{far_in, near_in, none_yet, one_stands, server_of}
+
+-- ---- what becomes of a data connection
+
+-- it was opened: nothing came over it, and nothing was given
+pub opened_now : {host : Host} (rest : Rest) (had : Asked) → IsHad host had None None
+    → IsOpened host (had ∷ []) None None rest none_yet (with_rest rest (one_stands [] []))
+opened_now rest had is_had = record {
+  had = had;
+  is_had = is_had;
+  none = refl;
+  alone = refl;
+  adds = tt;
+  stands = refl;
+  fate = refl;
+  rests = refl;
+  left = refl;
+  written = refl;
+  unwritten = refl;
+  untold = refl;
+}
+
+-- octets were read
+read_now : (octets : List ℕ) → IsRead octets (one_stands [] []) (one_stands [] octets)
+read_now octets = record {
+  is_open = (refl, refl);
+  stands = refl;
+  fate = refl;
+  rest = refl;
+  told = refl;
+  read = tt;
+  written = tt;
+  untold = refl;
+  unwritten = refl;
+  asked = refl;
+}
+
+-- the first of those that were given were written
+pub written_now : (rest : Rest) (octets all more : List ℕ) → 0 < length all → all ≡ octets ++ more
+    → AreOctetsWritten octets (with_rest rest (one_stands all [])) (with_rest rest (one_stands more []))
+written_now rest octets all more some first = record {
+  is_open = (refl, refl);
+  some = some;
+  stands = refl;
+  fate = refl;
+  rest = refl;
+  first = first;
+  wrote = tt;
+  left = tt;
+  untold = refl;
+  asked = refl;
+}
 
 -- ---- the server, which listens and gives
 
@@ -45,20 +96,7 @@ pub accepts : (host : Host) (v new : Far) → far.wants v ≡ Want.Accept → v.
 accepts host v new wants owed is rest = (
   (
     ((steps (λ v w. ⊥) (far.opened_step host) v new is, refl), rest),
-    record {
-      had = Came host None None;
-      is_had = inl refl;
-      none = refl;
-      alone = refl;
-      adds = tt;
-      stands = refl;
-      fate = refl;
-      rests = refl;
-      left = refl;
-      written = refl;
-      unwritten = refl;
-      untold = refl;
-    },
+    opened_now Rests.Nothing (Came host None None) (inl refl),
     (wants, owed),
   ),
   refl,
@@ -83,18 +121,7 @@ pub writes : (rest : Rest) (octets : List ℕ) (v : Far) → 0 < length octets
 writes rest octets v some = (
   (
     refl,
-    record {
-      is_open = (refl, refl);
-      some = some;
-      stands = refl;
-      fate = refl;
-      rest = refl;
-      first = sym (append-nil octets);
-      wrote = tt;
-      left = tt;
-      untold = refl;
-      asked = refl;
-    },
+    written_now rest octets octets [] some (sym (append-nil octets)),
     tt,
   ),
   refl,
@@ -131,20 +158,7 @@ pub dials : (endpoint : Endpoint) (n : Near) → near.wants n ≡ Want.Connect e
 dials endpoint n wants owed rest = (
   (
     ((((λ calm. refl), (λ moved. absurd (moved refl))), inl refl), rest),
-    record {
-      had = Connected endpoint None None;
-      is_had = inr (endpoint, refl, refl);
-      none = refl;
-      alone = refl;
-      adds = tt;
-      stands = refl;
-      fate = refl;
-      rests = refl;
-      left = refl;
-      written = refl;
-      unwritten = refl;
-      untold = refl;
-    },
+    opened_now Rests.Nothing (Connected endpoint None None) (inr (endpoint, refl, refl)),
     (wants, owed),
   ),
   refl,
@@ -156,18 +170,7 @@ pub gets : (octets : List ℕ) (n : Near) → near.wants n ≡ Want.Receive
 gets octets n wants = (
   (
     refl,
-    record {
-      is_open = (refl, refl);
-      stands = refl;
-      fate = refl;
-      rest = refl;
-      told = refl;
-      read = tt;
-      written = tt;
-      untold = refl;
-      unwritten = refl;
-      asked = refl;
-    },
+    read_now octets,
     wants,
   ),
   refl,
@@ -229,18 +232,7 @@ pub near_writes : (octets : List ℕ) (n : Near) → 0 < length octets
 near_writes octets n some = (
   (
     refl,
-    record {
-      is_open = (refl, refl);
-      some = some;
-      stands = refl;
-      fate = refl;
-      rest = refl;
-      first = sym (append-nil octets);
-      wrote = tt;
-      left = tt;
-      untold = refl;
-      asked = refl;
-    },
+    written_now Rests.Nothing octets octets [] some (sym (append-nil octets)),
     tt,
   ),
   refl,
@@ -281,18 +273,7 @@ pub far_gets : (octets : List ℕ) (v : Far) → far.wants v ≡ Want.Receive
 far_gets octets v wants = (
   (
     refl,
-    record {
-      is_open = (refl, refl);
-      stands = refl;
-      fate = refl;
-      rest = refl;
-      told = refl;
-      read = tt;
-      written = tt;
-      untold = refl;
-      unwritten = refl;
-      asked = refl;
-    },
+    read_now octets,
     wants,
   ),
   refl,

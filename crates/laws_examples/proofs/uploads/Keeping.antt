@@ -25,7 +25,7 @@ use Rattle.laws_drivers.specs.control.Between.{Client, Has, Has_lost}
 use Rattle.laws_drivers.specs.control.Example.{example}
 use Rattle.laws_examples.specs.transfers.Example.{example_name, example_octets}
 use Rattle.laws_examples.proofs.transfers.Calling.{client_first, far_first, near_first, quiet, starts_so}
-use Rattle.laws_examples.proofs.transfers.Moves.{near_shuts}
+use Rattle.laws_examples.proofs.transfers.Moves.{near_shuts, written_now}
 use Rattle.laws_examples.proofs.transfers.Playing.{can_take, far_in, lies, near_does, near_in, near_is_told, near_turn, none_yet, one_stands, takes_only}
 use Rattle.laws_examples.specs.uploads.Example.{ServerKnowsFirst, PassesAt, ServerFirstIsOver, first_octet, second_octet_alone, put}
 use Rattle.laws_examples.proofs.uploads.Cutting.{from_here, one_more}
@@ -56,18 +56,7 @@ writes_first : (n : Near) → Done (Other (Wrote first_octet)) (near_in (more_st
 writes_first n = (
   (
     refl,
-    record {
-      is_open = (refl, refl);
-      some = omega arith;
-      stands = refl;
-      fate = refl;
-      rest = refl;
-      first = refl;
-      wrote = tt;
-      left = tt;
-      untold = refl;
-      asked = refl;
-    },
+    written_now Rests.More first_octet first_octet [] (omega arith) refl,
     tt,
   ),
   refl,

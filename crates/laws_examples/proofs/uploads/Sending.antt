@@ -7,6 +7,7 @@ use Rattle.ftp_ports.specs.Actions.{Done, Other}
 use Rattle.ftp_ports.specs.Channel.{Channel, with_fate}
 use Rattle.ftp_ports.specs.Machine.{Break, Closed, Failed, Left, Wrote}
 use Rattle.ftp_ports.specs.declared.whole.Fate.TheVariants as Fates
+use Rattle.ftp_ports.specs.declared.whole.Rest.TheVariants as Rests
 use Rattle.ftp_tree.specs.Map.{Dir, File}
 use Rattle.ftp_tree.specs.Tree.{Table, node_at, room_at, under}
 use Rattle.ftp_tree.proofs.LawLemmas.{under-stands}
@@ -15,7 +16,7 @@ use Rattle.laws_drivers.specs.control.Between.{Client, Has, Has_ended, Has_lost}
 use Rattle.laws_drivers.specs.control.Example.{example}
 use Rattle.laws_examples.specs.transfers.Example.{example_name, example_octets}
 use Rattle.laws_examples.proofs.transfers.Calling.{quiet}
-use Rattle.laws_examples.proofs.transfers.Moves.{near_ends, near_is_closed, near_writes}
+use Rattle.laws_examples.proofs.transfers.Moves.{near_ends, near_is_closed, near_writes, written_now}
 use Rattle.laws_examples.proofs.transfers.Playing.{far_in, lies, near_does, near_in, near_turn, none_yet, one_stands}
 use Rattle.laws_examples.specs.uploads.Example.{ClientFirstIsOver, ClientKnowsFirst, IsServerAlone, PassesAt, ServerAloneIsOver, both_octets, first_octet, second_octet_alone, put}
 use Rattle.laws_examples.proofs.uploads.Cutting.{one_more}
@@ -33,18 +34,7 @@ writes_first : (n : Near) → Done (Other (Wrote first_octet)) (near_in (one_sta
 writes_first n = (
   (
     refl,
-    record {
-      is_open = (refl, refl);
-      some = omega arith;
-      stands = refl;
-      fate = refl;
-      rest = refl;
-      first = refl;
-      wrote = tt;
-      left = tt;
-      untold = refl;
-      asked = refl;
-    },
+    written_now Rests.Nothing first_octet both_octets second_octet_alone (omega arith) refl,
     tt,
   ),
   refl,
