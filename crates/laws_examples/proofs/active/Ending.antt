@@ -1,6 +1,6 @@
 -- How such a session ends: the client's drive reports and leaves its data connection, and the server's drive is over since the client left.
 use Rattle.std.proofs.Common.{◌≡◌, ℕ, false, List, [], ◌∷◌, Some, refl, ap}
-use Rattle.ftp_ports.specs.Asking.{Asked, Shut}
+use Rattle.ftp_ports.specs.Asking.{Asked}
 use Rattle.ftp_ports.specs.Channel.{Channel}
 use Rattle.ftp_ports.specs.Actions.{Done, Other, Stand}
 use Rattle.ftp_ports.specs.Machine.{Closed, Left}
@@ -22,7 +22,7 @@ use Rattle.laws_transfers.specs.Actions.{IsCarried}
 use Rattle.laws_active.specs.Actions.{ClientTransfersEitherWay}
 use Rattle.laws_active.specs.Over.{AreOver}
 use Rattle.laws_examples.proofs.transfers.Ending.{IsAnsweredBy, lies_over}
-use Rattle.laws_examples.proofs.transfers.Over.{IsLeft, Reports, far_drove, far_end, far_led, far_off, near_answers, near_does, near_done, near_drove}
+use Rattle.laws_examples.proofs.transfers.Over.{IsLeft, Reports, are_over, far_drove, far_end, far_led, far_off, near_answers, near_does, near_done, near_drove}
 use Rattle.laws_examples.proofs.transfers.Playing.{far_in, near_in, none_yet}
 use Rattle.laws_examples.proofs.active.Playing.{Played}
 
@@ -60,33 +60,11 @@ module _ (b : Beginning) (first : Far) (op : Op (List ℕ)) (said : Said) (clien
   -- the client left: both are over
   pub both_over : v.owed ≡ [] → Attends v → far.wants (far.control_end v) ≡ Want.CloseAll
       → (server : Stand server_side) × AreOver b moments ((op, said) ∷ []) server
-  unfolding all_asked near_answers near_drove far_drove far_led far_end near_done
+  unfolding all_asked near_answers near_drove far_drove far_led far_end near_done are_over
   both_over owed at over =
       let left : IsLeft first v (server_actions p.turns) = record { led = p.far_led; owed = owed; attends = at; over = over } in (
         far_off v,
-        record {
-          server_start = far_in none_yet first [];
-          client_start = near_in none_yet client_first [];
-          client = near_done n;
-          begins = begins;
-          untold = refl;
-          unwritten = refl;
-          server_unwritten = refl;
-          client_untold = refl;
-          drove = far_drove left;
-          answered = all_asked;
-          turns = Client (Other Closed) ∷ Client (Other (Left asked)) ∷ Client (Other (Report (Some said))) ∷ p.turns;
-          between = lies_over hold [] [];
-          happened = (lies_over hold [] [], (there, (there, p.happened, refl), can), refl);
-          closed = Shut;
-          server_is = refl;
-          client_is = ap (λ l. Other Closed ∷ Other (Left asked) ∷ Other (Report (Some said)) ∷ l) p.client_is;
-          last = far_in none_yet v [];
-          server_led = p.far_led;
-          server_end = far_end left;
-          serves = p.gives;
-          ports = p.ports;
-          told = p.told;
-          ordered = p.resets;
-        },
+        are_over client_first n (Client (Other Closed) ∷ Client (Other (Left asked)) ∷ Client (Other (Report (Some said))) ∷ p.turns) (lies_over hold [] [])
+            (lies_over hold [] [], (there, (there, p.happened, refl), can), refl) begins left all_asked
+            (ap (λ l. Other Closed ∷ Other (Left asked) ∷ Other (Report (Some said)) ∷ l) p.client_is) p.gives p.ports p.told p.resets,
       )

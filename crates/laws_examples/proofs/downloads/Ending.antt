@@ -1,7 +1,7 @@
 -- How such a session ends: the client's drive reports and leaves its data connection or its port, and the server's drive is over since the client left; and the
 -- moment in its midst.
 use Rattle.std.proofs.Common.{◌≡◌, inl, ℕ, false, List, [], ◌∷◌, ◌++◌, None, Some, refl, sym, ap, subst}
-use Rattle.ftp_ports.specs.Asking.{Asked, Shut}
+use Rattle.ftp_ports.specs.Asking.{Asked}
 use Rattle.ftp_ports.specs.Channel.{Channel}
 use Rattle.ftp_ports.specs.Actions.{Action, Done, Other, Stand}
 use Rattle.ftp_ports.specs.Machine.{Aside, Closed, Left}
@@ -27,7 +27,7 @@ use Rattle.laws_drivers.specs.events.Answers.{AreAnswered}
 use Rattle.laws_drivers.proofs.control.Playing.{Attends}
 use Rattle.laws_transfers.specs.Actions.{IsTransferred}
 use Rattle.laws_world.specs.Claims.{Beginning}
-use Rattle.laws_examples.proofs.transfers.Over.{IsLeft, Reports, far_drove, far_end, far_led, far_off, near_answers, near_does, near_done, near_drove}
+use Rattle.laws_examples.proofs.transfers.Over.{IsLeft, Reports, are_over, far_drove, far_end, far_led, far_off, near_answers, near_does, near_done, near_drove}
 use Rattle.laws_examples.proofs.transfers.Playing.{PlayedBy, far_in, near_in, none_yet}
 use Rattle.laws_examples.proofs.downloads.Breaking.{breaking, went_on}
 
@@ -103,37 +103,15 @@ module _ {before : List Turn} (b : Beginning) (first : Far) (op : Op (List ℕ))
   -- the client left: both are over, after those turns
   pub both_over : v.owed ≡ [] → Attends v → far.wants (far.control_end v) ≡ Want.CloseAll
       → (server : Stand server_side) × (over : AreOver b moments ((op, said) ∷ []) server) × (more : List Turn) × (over.turns ≡ more ++ before)
-  unfolding all_asked near_answers near_drove far_drove far_led far_end near_done
+  unfolding all_asked near_answers near_drove far_drove far_led far_end near_done are_over
   both_over owed at over =
       let each : AsksEach (client_actions p.turns) = subst AsksEach (sym p.client_is) (midst_each p.midst (Other (Begun op) ∷ []) p.are (all, tt)) in
       let left : IsLeft first v (server_actions p.turns) = record { led = p.far_led; owed = owed; attends = at; over = over } in
       let last_turns : List Turn = Client (Other Closed) ∷ Client (Other (Left asked)) ∷ Client (Other (Report (Some said))) ∷ [] in (
         far_off v,
-        record {
-          server_start = far_in none_yet first [];
-          client_start = near_in none_yet client_first [];
-          client = near_done n;
-          begins = begins;
-          untold = refl;
-          unwritten = refl;
-          server_unwritten = refl;
-          client_untold = refl;
-          drove = far_drove left;
-          answered = all_asked;
-          turns = last_turns ++ p.turns;
-          between = last;
-          happened = (last, (there, (there, p.happened, refl), can), refl);
-          closed = Shut;
-          server_is = refl;
-          client_is = ap (λ l. Other Closed ∷ Other (Left asked) ∷ Other (Report (Some said)) ∷ l) p.client_is;
-          last = far_in none_yet v [];
-          server_led = p.far_led;
-          server_end = far_end left;
-          serves = p.gives;
-          ports = p.ports;
-          told = p.told;
-          ordered = none_after p.turns there p.happened (far_in none_yet first []) (far_in none_yet v []) p.far_led each;
-        },
+        are_over client_first n (last_turns ++ p.turns) last (last, (there, (there, p.happened, refl), can), refl) begins left all_asked
+            (ap (λ l. Other Closed ∷ Other (Left asked) ∷ Other (Report (Some said)) ∷ l) p.client_is) p.gives p.ports p.told
+            (none_after p.turns there p.happened (far_in none_yet first []) (far_in none_yet v []) p.far_led each),
         last_turns ++ p.resets.0,
         ap (λ l. last_turns ++ l) p.resets.1,
       )

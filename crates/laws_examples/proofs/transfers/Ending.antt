@@ -34,7 +34,7 @@ use Rattle.laws_drivers.specs.control.Touches.{touch_in}
 use Rattle.laws_drivers.proofs.control.Playing.{Attends, ear_after, far_ending, far_hears, far_reading, far_saying, is_silent, no_events}
 use Rattle.laws_drivers.specs.events.Actions.{IsLast}
 use Rattle.laws_examples.proofs.transfers.Calling.{far_bye, far_done, quiet}
-use Rattle.laws_examples.proofs.transfers.Over.{IsLeft, Reports, far_drove, far_end, far_led, far_off, near_answers, near_does, near_done, near_drove}
+use Rattle.laws_examples.proofs.transfers.Over.{IsLeft, Reports, are_over, far_drove, far_end, far_led, far_off, near_answers, near_does, near_done, near_drove}
 use Rattle.laws_examples.proofs.transfers.Playing.{Played, far_in, lies, near_in, none_yet}
 use Rattle.laws_transfers.specs.Actions.{ClientTransfers, IsTransferred}
 use Rattle.laws_transfers.specs.Over.{AreOver}
@@ -174,35 +174,13 @@ module _ (b : Beginning) (first : Far) (op : Op (List ℕ)) (said : Said) (clien
   -- the client left: both are over
   pub both_over : v.owed ≡ [] → Attends v → far.wants (far.control_end v) ≡ Want.CloseAll
       → (server : Stand server_side) × AreOver b moments ((op, said) ∷ []) server
-  unfolding all_asked near_answers near_drove far_drove far_led far_end near_done
+  unfolding all_asked near_answers near_drove far_drove far_led far_end near_done are_over
   both_over owed at over =
       let left : IsLeft first v (server_actions p.turns) = record { led = p.far_led; owed = owed; attends = at; over = over } in (
         far_off v,
-        record {
-          server_start = far_in none_yet first [];
-          client_start = near_in none_yet client_first [];
-          client = near_done n;
-          begins = begins;
-          untold = refl;
-          unwritten = refl;
-          server_unwritten = refl;
-          client_untold = refl;
-          drove = far_drove left;
-          answered = all_asked;
-          turns = Client (Other Closed) ∷ Client (Other (Left asked)) ∷ Client (Other (Report (Some said))) ∷ p.turns;
-          between = lies_over hold [] [];
-          happened = (lies_over hold [] [], (there, (there, p.happened, refl), can), refl);
-          closed = Shut;
-          server_is = refl;
-          client_is = ap (λ l. Other Closed ∷ Other (Left asked) ∷ Other (Report (Some said)) ∷ l) p.client_is;
-          last = far_in none_yet v [];
-          server_led = p.far_led;
-          server_end = far_end left;
-          serves = p.gives;
-          ports = p.ports;
-          told = p.told;
-          ordered = p.resets;
-        },
+        are_over client_first n (Client (Other Closed) ∷ Client (Other (Left asked)) ∷ Client (Other (Report (Some said))) ∷ p.turns) (lies_over hold [] [])
+            (lies_over hold [] [], (there, (there, p.happened, refl), can), refl) begins left all_asked
+            (ap (λ l. Other Closed ∷ Other (Left asked) ∷ Other (Report (Some said)) ∷ l) p.client_is) p.gives p.ports p.told p.resets,
       )
 
   -- or QUIT was written, and heard

@@ -20,8 +20,14 @@ use Rattle.ftp_server_driver.specs.alone.Driving.{Drove as ServerDrove}
 use Rattle.ftp_server_driver.specs.alone.Side.{server_machine, server_side}
 use Rattle.ftp_server_model.specs.Calls as far
 use Rattle.ftp_server_model.specs.View.{View as Far}
+use Rattle.laws_drivers.specs.control.Between.{Between, Happened, Turn, client_actions, server_actions}
+use Rattle.laws_drivers.specs.control.Claims.{Begins}
 use Rattle.laws_drivers.specs.events.Actions.{Along, AreMidst}
-use Rattle.laws_drivers.specs.events.Answers.{Answers, AnswersBy}
+use Rattle.laws_drivers.specs.events.Answers.{Answers, AnswersBy, AreAnswered, actions_in}
+use Rattle.laws_drivers.specs.events.Faults.{Faults, ServerGoes}
+use Rattle.laws_drivers.specs.events.Moments.{AreToldAt}
+use Rattle.laws_drivers.specs.events.Over.{AreOver}
+use Rattle.laws_world.specs.Claims.{Beginning}
 use Rattle.laws_drivers.proofs.control.Playing.{Attends}
 use Rattle.laws_examples.proofs.transfers.Moves.{near_closes, says_answer}
 use Rattle.laws_examples.proofs.transfers.Playing.{far_in, near_in, none_yet}
@@ -144,3 +150,42 @@ module _ {first v : Far} {actions : List (Action server_side)} (l : IsLeft first
         };
         over = l.over;
       }
+
+-- ---- both
+
+-- such turns led to where the client left, and it answered all that was asked: both are over
+unfoldable pub are_over : {faults : Faults} {b : Beginning} {moments : ℕ → ℕ} {asked : List (Op (List ℕ) × Said)} {first v : Far} (client_first n : Near)
+    (turns : List Turn) (between : Between) (happened : Happened turns between) → Begins b (far_in none_yet first []) (near_in none_yet client_first [])
+    → (left : IsLeft first v (server_actions turns))
+    → (answered : AreAnswered faults.IsAnswer asked (near_in none_yet client_first []) (near_done n))
+    → client_actions turns ≡ actions_in faults.IsAnswer asked (near_in none_yet client_first []) (near_done n) answered
+    → Along (ServerGoes faults) (server_actions turns) (far_in none_yet first []) (far_in none_yet v []) left.led → faults.ArePorts turns
+    → AreToldAt moments turns (far_in none_yet first []) (far_in none_yet v []) left.led
+    → faults.AreOrdered moments turns between happened (far_in none_yet first []) (far_in none_yet v []) left.led
+    → AreOver faults b moments asked (far_off v)
+unfolding far_drove far_led far_end
+are_over {first = first} {v = v} client_first n turns between happened begins left answered client_is serves ports told ordered = record {
+  server_start = far_in none_yet first [];
+  client_start = near_in none_yet client_first [];
+  client = near_done n;
+  begins = begins;
+  untold = refl;
+  unwritten = refl;
+  server_unwritten = refl;
+  client_untold = refl;
+  drove = far_drove left;
+  answered = answered;
+  turns = turns;
+  between = between;
+  happened = happened;
+  closed = Shut;
+  server_is = refl;
+  client_is = client_is;
+  last = far_in none_yet v [];
+  server_led = left.led;
+  server_end = far_end left;
+  serves = serves;
+  ports = ports;
+  told = told;
+  ordered = ordered;
+}

@@ -1,6 +1,6 @@
 -- How such a session ends: the client's drive reports and shuts its port, and the server's drive is over since the client left; and the moment in its midst.
 use Rattle.std.proofs.Common.{◌≡◌, ℕ, false, List, [], ◌∷◌, ◌++◌, None, Some, refl, sym, ap, subst}
-use Rattle.ftp_ports.specs.Asking.{Asked, Shut}
+use Rattle.ftp_ports.specs.Asking.{Asked}
 use Rattle.ftp_ports.specs.Channel.{Channel}
 use Rattle.ftp_ports.specs.Actions.{Done, Other, Stand}
 use Rattle.ftp_ports.specs.Machine.{Closed, Left}
@@ -26,7 +26,7 @@ use Rattle.laws_drivers.proofs.control.Playing.{Attends}
 use Rattle.laws_transfers.specs.Actions.{IsTransferred}
 use Rattle.laws_world.specs.Claims.{Beginning}
 use Rattle.laws_examples.proofs.transfers.Moves.{near_closes, says_answer}
-use Rattle.laws_examples.proofs.transfers.Over.{IsLeft, Reports, far_drove, far_end, far_led, far_off, near_answers, near_done, near_drove}
+use Rattle.laws_examples.proofs.transfers.Over.{IsLeft, Reports, are_over, far_drove, far_end, far_led, far_off, near_answers, near_done, near_drove}
 use Rattle.laws_examples.proofs.transfers.Playing.{PlayedBy, far_in, near_in, none_yet}
 use Rattle.laws_examples.proofs.uploads.Cutting.{cut_along, cutting, loses_along, went_on}
 
@@ -116,37 +116,16 @@ module _ {before : List Turn} {at : Far} (b : Beginning) (first : Far) (op : Op 
   -- the client left: both are over, after those turns
   pub both_over : v.owed ≡ [] → Attends v → far.wants (far.control_end v) ≡ Want.CloseAll
       → (server : Stand server_side) × (are : AreOver b moments ((op, said) ∷ []) server) × (more : List Turn) × (are.over.turns ≡ more ++ before)
-  unfolding all_asked near_answers near_drove far_drove far_led far_end near_done
+  unfolding all_asked near_answers near_drove far_drove far_led far_end near_done are_over
   both_over owed attends over =
       let left : IsLeft first v (server_actions p.turns) = record { led = p.far_led; owed = owed; attends = attends; over = over } in
       let last_turns : List Turn = Client (Other Closed) ∷ Client (Other (Left asked)) ∷ Client (Other (Report (Some said))) ∷ [] in (
         far_off v,
         record {
-          over = record {
-            server_start = far_in none_yet first [];
-            client_start = near_in none_yet client_first [];
-            client = near_done n;
-            begins = begins;
-            untold = refl;
-            unwritten = refl;
-            server_unwritten = refl;
-            client_untold = refl;
-            drove = far_drove left;
-            answered = all_asked;
-            turns = last_turns ++ p.turns;
-            between = last;
-            happened = (last, (there, (there, p.happened, refl), can), refl);
-            closed = Shut;
-            server_is = refl;
-            client_is = ap (λ l. Other Closed ∷ Other (Left asked) ∷ Other (Report (Some said)) ∷ l) p.client_is;
-            last = far_in none_yet v [];
-            server_led = p.far_led;
-            server_end = far_end left;
-            serves = loses_along at (moments 0) (server_actions p.turns) (far_in none_yet first []) (far_in none_yet v []) p.far_led p.gives;
-            ports = p.ports;
-            told = p.told;
-            ordered = cut_along at (moments 0) steps moments refl p.turns p.resets.1 (far_in none_yet first []) (far_in none_yet v []) p.far_led p.gives;
-          };
+          over = are_over client_first n (last_turns ++ p.turns) last (last, (there, (there, p.happened, refl), can), refl) begins left all_asked
+              (ap (λ l. Other Closed ∷ Other (Left asked) ∷ Other (Report (Some said)) ∷ l) p.client_is)
+              (loses_along at (moments 0) (server_actions p.turns) (far_in none_yet first []) (far_in none_yet v []) p.far_led p.gives) p.ports p.told
+              (cut_along at (moments 0) steps moments refl p.turns p.resets.1 (far_in none_yet first []) (far_in none_yet v []) p.far_led p.gives);
           client_led = near_all.0;
           gives = near_all.1;
         },
