@@ -387,25 +387,25 @@ module _ (read : Reading) (reads : IsReading read) (from : State) (begun : List 
           leads = leads_then read [] [] w one.new (settled open_world) one.leads (opens read one.new asked rests_then serves_then);
           moment = moment;
           ahead = Level;
-          marked = s.marks ∙ one.marks;
+          marked = s.same.marks ∙ one.marks;
           together = record {
             beside = record {
               fits = ap (λ (y : Far). is_asked y.session.connection) is ∙ (keeps Opens xo refl).told;
               near = s.near ∙ ap (λ m. data_closed (taken m)) (sym led);
               far = s.far ∙ ap close_step far_then ∙ (keeps Opens xo refl).clock moment ∙ ap (λ y. clock_step moment (far_ahead Level y)) (sym is);
-              to_server = s.to_server ∙ one.to_server ∙ b.to_server
+              to_server = s.same.to_server ∙ one.to_server ∙ b.to_server
                   ∙ ap₂ (λ (y : Stand server_side) (m : Between). y.unheard ++ m.control.to_server) (sym did.1) (sym can.2);
-              to_client = s.to_client ∙ one.to_client;
-              rising = s.rising ∙ one.rising ∙ c.rising
+              to_client = s.same.to_client ∙ one.to_client;
+              rising = s.same.rising ∙ one.rising ∙ c.rising
                   ∙ ap₂ (λ o (m : Between). o ++ (m.data_ways.to_server ++ [])) (sym had.untold) (sym can.2);
-              falling = λ e. s.falling ∙ one.falling ∙ c.falling
+              falling = λ e. s.same.falling ∙ one.falling ∙ c.falling
                   ∙ ap₂ (λ o (m : Between). m.data_ways.to_client ++ o) (sym had.unwritten) (sym can.2);
-              listens = s.listens ∙ one.listens ∙ b.listens;
+              listens = s.same.listens ∙ one.listens ∙ b.listens;
               reported = s.reports ∙ one.reports ∙ b.reported ∙ ap (λ o. reports ++ o) none_said
                   ∙ ap (λ m. reports ++ option_to_list (report_of m)) (sym (led ∙ near_then));
-              control = s.control ∙ one.control ∙ b.control;
+              control = s.same.control ∙ one.control ∙ b.control;
               unready = λ e. unready_then;
-              cutoff = s.cutoff ∙ one.cutoff ∙ b.cutoff;
+              cutoff = s.same.cutoff ∙ one.cutoff ∙ b.cutoff;
             };
             holds = record {
               shut = subst (λ (y : Far). y.session.closing ≡ true → is_open y.session.connection ≡ false) (sym is)

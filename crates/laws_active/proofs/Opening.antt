@@ -14,21 +14,14 @@ use Rattle.laws_drivers.proofs.events.Holding.{unclosed}
 use Rattle.laws_transfers.specs.Ahead.{Listened, far_ahead}
 use Rattle.laws_transfers.proofs.Ahead.{far_settles, next_ahead}
 use Rattle.laws_transfers.proofs.Known.{is_near_held}
-use Rattle.laws_transfers.proofs.Settling.{NearSettles, near_settles}
+use Rattle.laws_transfers.proofs.Settling.{NearSettles, Same, near_settles}
 
 -- what is due is done, and what lies between is the same; one that the client has closed then it wanted closed
 pub record OpensTo (old new : World) : Type 0 where
   pub near : new.near ≡ data_closed (taken old.near)
   pub far : new.far ≡ close_step old.far
   pub reports : new.reports ≡ old.reports
-  pub to_server : new.control_to_server ≡ old.control_to_server
-  pub to_client : new.control_to_client ≡ old.control_to_client
-  pub rising : new.data_to_server ≡ old.data_to_server
-  pub falling : new.data_to_client ≡ old.data_to_client
-  pub control : new.control ≡ old.control
-  pub marks : new.marks ≡ old.marks
-  pub cutoff : new.cutoff ≡ old.cutoff
-  pub listens : new.listens ≡ old.listens
+  pub same : Same old new
   pub shut : old.near.closing ≡ true → is_near_held new.link ≡ false
   pub left : is_closed_by_near new.link ≡ true → old.near.closing ≡ true
 
@@ -53,14 +46,7 @@ opens_to w link none unasked one flat = by w.near.closing refl
           near = s.near;
           far = s.far ∙ sym (closed_is w.far (one is));
           reports = s.reports ∙ ap (λ o. w.reports ++ option_to_list o) none ∙ append-nil w.reports;
-          to_server = s.same.to_server;
-          to_client = s.same.to_client;
-          rising = s.same.rising;
-          falling = s.same.falling;
-          control = s.same.control;
-          marks = s.same.marks;
-          cutoff = s.same.cutoff;
-          listens = s.same.listens;
+          same = s.same;
           shut = s.closed;
           left = λ e. is;
         }
@@ -70,14 +56,16 @@ opens_to w link none unasked one flat = by w.near.closing refl
           near = s.near ∙ sym (none_taken w.near none) ∙ sym (unclosed (taken w.near) is);
           far = s.far ∙ level (is_asked w.far.session.connection) unasked w.far;
           reports = s.reports;
-          to_server = s.same.to_server;
-          to_client = s.same.to_client;
-          rising = s.same.data_to_server;
-          falling = s.same.data_to_client;
-          control = s.same.control;
-          marks = s.same.marks;
-          cutoff = s.same.cutoff;
-          listens = told (is_asked w.far.session.connection) unasked s.listens;
+          same = record {
+            to_server = s.same.to_server;
+            to_client = s.same.to_client;
+            rising = s.same.data_to_server;
+            falling = s.same.data_to_client;
+            control = s.same.control;
+            marks = s.same.marks;
+            cutoff = s.same.cutoff;
+            listens = told (is_asked w.far.session.connection) unasked s.listens;
+          };
           shut = λ e. absurd (true≢false (sym e ∙ is));
           left = λ e. absurd (true≢false (sym e ∙ s.same.link));
         }
