@@ -75,6 +75,23 @@ pub record IsHearing (octets more : List ℕ) (between : Between) (c : Stand cli
   pub queue : c.unheard ++ between.control.to_client ≡ octets ++ more
   pub called : is_called between.near ≡ false
 
+-- so it is where what comes to it comes otherwise, while nobody dialled its port
+abbrev pub hearing_still : {octets more rest : List ℕ} {between next : Between} {c : Stand client_side} (h : IsHearing octets more between c)
+    → c.unheard ++ next.control.to_client ≡ octets ++ rest → is_called next.near ≡ false → IsHearing octets rest next c
+hearing_still h queue called = record {
+  op = h.op;
+  flow = h.flow;
+  few = h.few;
+  port = h.port;
+  octet = h.octet;
+  others = h.others;
+  some = h.some;
+  opens = h.opens;
+  owed = h.owed;
+  queue = queue;
+  called = called;
+}
+
 -- the server has no data connection, and nothing comes to it
 pub record IsIdle (between : Between) (server : Stand server_side) : Type 0 where
   pub free : server.owner.end.server.view.session.connection ≡ Data.Free

@@ -37,7 +37,7 @@ use Rattle.laws_transfers.proofs.Simulating.{ResetsNone}
 use Rattle.laws_active.specs.Lead.{Even, Joined, Lead, Told, led_by}
 use Rattle.laws_active.specs.Refusals.{Gain, Heard, Led, ServerTries, has_failed, is_heard, marked_by_turn}
 use Rattle.laws_active.proofs.Accepting.{is_transfer, joined_link, joins}
-use Rattle.laws_active.proofs.Gaining.{GainSo, GainsTo, gained_between, gained_client, gained_told, heard_between, heard_client, hearing_follows, idle_never, idles_on}
+use Rattle.laws_active.proofs.Gaining.{GainSo, GainsTo, gained_between, gained_client, gained_told, heard_between, heard_client, hearing_follows, idle_never, idles_on, hearing_still}
 use Rattle.laws_active.proofs.Joining.{joins_form}
 use Rattle.laws_active.proofs.Leading.{Comes, Stays, Waits, led_between, led_client}
 use Rattle.laws_active.proofs.Leads.{LedSo}
@@ -143,19 +143,7 @@ module _ (read : Reading) (reads : IsReading read) (from : State) (moments : ℕ
             gain = Heard octets;
             left = f.rest;
             so = (
-              record {
-                op = so.0.op;
-                flow = so.0.flow;
-                few = so.0.few;
-                port = so.0.port;
-                octet = so.0.octet;
-                others = so.0.others;
-                some = so.0.some;
-                opens = so.0.opens;
-                owed = so.0.owed;
-                queue = f.queue client.unheard so.0.queue;
-                called = ap is_called (serving_near action old.owner is.0 p q can) ∙ so.0.called;
-              },
+              hearing_still so.0 (f.queue client.unheard so.0.queue) (ap is_called (serving_near action old.owner is.0 p q can) ∙ so.0.called),
               idles_on read reads old new serves p q so.1 action tries can did,
             );
             heard = λ e. was;
@@ -174,19 +162,7 @@ module _ (read : Reading) (reads : IsReading read) (from : State) (moments : ℕ
             gain = Heard octets;
             left = more;
             so = (
-              record {
-                op = so.0.op;
-                flow = so.0.flow;
-                few = so.0.few;
-                port = so.0.port;
-                octet = so.0.octet;
-                others = so.0.others;
-                some = so.0.some;
-                opens = so.0.opens;
-                owed = so.0.owed;
-                queue = so.0.queue;
-                called = so.0.called;
-              },
+              hearing_still so.0 so.0.queue so.0.called,
               record {
                 free = ap (λ (at : Timed). at.server.view.session.connection) did.0.0 ∙ so.1.free;
                 none_comes = ap (λ (s : Stand server_side). s.unheard ++ p.control.to_server) did.1 ∙ so.1.none_comes;

@@ -1,5 +1,5 @@
 -- Two drives that put and fetch files over data connections that either dials, as a list of a world's events: action by action.
-use Rattle.std.proofs.Common.{◌≡◌, ℕ, Bool, true, true≢false, List, [], ◌∷◌, ◌++◌, Option, option_to_list, refl, sym, ap, ap₂, subst, ◌∙◌, append-nil}
+use Rattle.std.proofs.Common.{◌≡◌, ℕ, Bool, true, true≢false, List, [], ◌∷◌, ◌++◌, Option, option_to_list, refl, sym, ap, subst, ◌∙◌, append-nil}
 use Rattle.ftp_ports.specs.Asking.{Reset}
 use Rattle.ftp_ports.specs.Actions.{Action, Done, Led as HaveLed, Other, Stand}
 use Rattle.ftp_ports.specs.Machine.{Aside, Left, Listening}
@@ -16,7 +16,6 @@ use Rattle.ftp_operation.specs.declared.op.Op.{Op}
 use Rattle.laws_dialogues.specs.Fetches.{busy}
 use Rattle.ftp_operation.specs.Answer.{Said}
 use Rattle.ftp_server_driver.specs.alone.Side.{server_side}
-use Rattle.ftp_server_model.specs.Calls as far
 use Rattle.ftp_server_model.specs.Machine.{IsReading, Reading}
 use Rattle.laws_world.specs.Agreement.{Order}
 use Rattle.laws_world.specs.Claims.{Beginning, IsFair, state_of, world_of}
@@ -29,21 +28,21 @@ use Rattle.laws_drivers.specs.control.Touches.{touch_in}
 use Rattle.laws_drivers.specs.control.Claims.{Begins}
 use Rattle.laws_drivers.proofs.control.Taken.{taken, taken_wants}
 use Rattle.laws_drivers.proofs.control.Worlds.{LeadsOn, leads_none, leads_then}
-use Rattle.laws_drivers.specs.world.Ahead.{is_asked, is_open}
 use Rattle.laws_drivers.proofs.world.Running.{all_runs}
 use Rattle.laws_drivers.proofs.world.Known.{is_doing}
 use Rattle.laws_drivers.proofs.events.Fresh.{Fresh}
-use Rattle.laws_drivers.proofs.events.Holding.{both, unclosed}
+use Rattle.laws_drivers.proofs.events.Holding.{unclosed}
 use Rattle.laws_drivers.proofs.events.NearForms.{no_close}
 use Rattle.laws_drivers.proofs.events.Plain.{Whatever}
 use Rattle.laws_drivers.proofs.events.Stands.{ClientFetches as ClientRests, ServerServes, wants_port}
-use Rattle.laws_transfers.specs.Ahead.{Ahead, Level, far_ahead}
+use Rattle.laws_transfers.specs.Ahead.{Ahead, Level}
 use Rattle.laws_transfers.proofs.Beside.{Together}
 use Rattle.laws_transfers.proofs.Known.{AreCarried, Known, both_carried}
 use Rattle.laws_transfers.proofs.Called.{BreaksNone}
 use Rattle.laws_transfers.proofs.Lost.{with_lost}
 use Rattle.laws_transfers.proofs.Running.{world_known}
 use Rattle.laws_transfers.proofs.Simulating.{ResetsNone, doing_same, orders_after, orders_are}
+use Rattle.laws_transfers.proofs.Reaching.{begins_together}
 use Rattle.laws_active.specs.Actions.{ArePortsOfTurns, listened_in_turns}
 use Rattle.laws_active.specs.Lead.{Even, Joined, Told}
 use Rattle.laws_active.specs.Refusals.{ClientTriesAlong, ClientTriesEitherWay, Gain, Heard, Led, ServerTries, gained_by, has_failed, is_heard, marked_by_turn, marks_in_turns}
@@ -193,43 +192,7 @@ module _ (read : Reading) (reads : IsReading read) (moments : ℕ → ℕ) (time
         dials = ap (λ n. wants_port n.connection) begins.client_view;
       },
     );
-    together = record {
-      beside = record {
-        fits = ap (λ f. is_asked f.session.connection) begins.server_view;
-        near = ap (λ n. near.data_closed (taken n)) (sym begins.client_view);
-        far = ap (λ f. far.clock_step 0 (far_ahead Level f)) (sym begins.server_view);
-        to_server = ap (λ q. q ++ []) (sym begins.server_unheard);
-        to_client = ap (λ q. q ++ []) (sym begins.client_unheard);
-        rising = ap₂ (λ q r. q ++ ([] ++ r)) (sym untold) (sym unwritten);
-        falling = λ e. ap₂ (λ q r. q ++ ([] ++ r)) (sym near_untold) (sym far_unwritten);
-        listens = refl;
-        reported = ap (λ n. option_to_list (near.report_of n)) (sym begins.client_view);
-        control = refl;
-        unready = λ e. absurd (true≢false (sym e));
-        cutoff = refl;
-      };
-      holds = record {
-        shut = λ e. ap (λ f. is_open f.session.connection) begins.server_view;
-        had = λ e. absurd (both e (ap (λ f. is_open f.session.connection) begins.server_view));
-        called = λ c e. absurd (true≢false (sym c));
-        opened = λ e. absurd (true≢false (sym e));
-      };
-      comes = record {
-        bare = λ e. untold;
-        spare = λ e. untold;
-        over = λ e. untold;
-        shut = λ e. ap (λ f. is_open f.session.connection) begins.server_view;
-      };
-      serves = record { spare = λ e. far_unwritten; bare = λ e. far_unwritten };
-      takes = record { bare = λ e. near_untold };
-      gives = record { spare = λ e. unwritten; bare = λ e. unwritten };
-      keeping = record {
-        had = λ e. absurd (true≢false (sym e));
-        shut = λ e. absurd (both e (ap (λ n. n.closing) begins.client_view));
-        over = λ e. refl;
-      };
-      twin = λ e. absurd (true≢false (sym e));
-    };
+    together = begins_together read b server client begins untold unwritten far_unwritten near_untold;
     serves = record { running = ap (λ f. f.session.life) begins.server_view; none_waits = ap (λ f. f.waiting) begins.server_view };
     keeping = subst IsCarrying (sym begins.client_view) (record { job = tt; run = refl });
     fresh = λ e. absurd (true≢false (sym e));

@@ -1,7 +1,7 @@
 -- A client over whose data connection no octet came yet sent no ABOR, since of a Peek one octet at least is asked for, whether it dials or has ports of its
 -- own;
 -- and while the server was dialled and did not accept yet, none came.
-use Rattle.std.proofs.Common.{◌≡◌, ℕ, Bool, true, false, true≢false, ◌&&◌, List, [], ◌∷◌, length, take, None, Some, refl, sym, ap, subst, ◌∙◌}
+use Rattle.std.proofs.Common.{◌≡◌, ℕ, Bool, true, false, true≢false, ◌&&◌, List, [], ◌∷◌, length, take, refl, sym, ap, subst, ◌∙◌}
 use Rattle.ftp_ports.specs.Asking.{Came, Connected, Ended as EndedBy, Reset, Shut}
 use Rattle.ftp_ports.specs.Actions.{Action, Done, Heard, Other, Read, Said as Says, Stand}
 use Rattle.ftp_ports.specs.Channel.{Channel}
@@ -20,15 +20,15 @@ use Rattle.ftp_client_model.specs.declared.client.ClientLink.TheVariants as Data
 use Rattle.ftp_operation.specs.declared.op.Op.{Op}
 use Rattle.laws_agreement.proofs.Chunks.{both_empty}
 use Rattle.laws_drivers.specs.control.Alone.{ClientIsCalm}
-use Rattle.laws_drivers.specs.control.Between.{Between, Can, CanTurn, Client, Far as TheServer, Has, Has_ended, Has_lost, Hold}
-use Rattle.laws_drivers.specs.control.Touches.{Touch, None_of_it, Says as SaysOctets, Reads, Parts, Listens, Dials, Accepts, IsDenied, IsMissed, Writes, Takes, Ends, Resets, ToldEnd, ToldBreak}
+use Rattle.laws_drivers.specs.control.Between.{Between, Can, CanTurn, Client, Far as TheServer}
+use Rattle.laws_drivers.specs.control.Touches.{Touch}
 use Rattle.laws_drivers.proofs.control.Taken.{reports_is}
 use Rattle.laws_drivers.specs.world.Unaborted.{is_unaborted}
 use Rattle.laws_drivers.proofs.events.Fresh.{Fresh}
 use Rattle.laws_drivers.proofs.events.Fresh as dialling
-use Rattle.laws_drivers.proofs.events.Holding.{both, is_called}
+use Rattle.laws_drivers.proofs.events.Holding.{is_called}
 use Rattle.laws_drivers.proofs.events.Plain.{IsSome, Whatever}
-use Rattle.laws_transfers.proofs.Called.{BreaksNone}
+use Rattle.laws_transfers.proofs.Called.{BreaksNone, far_called}
 use Rattle.laws_active.specs.Actions.{ClientTransfersEitherWay}
 use Rattle.laws_active.proofs.Accepting.{few_unsettled}
 use Rattle.laws_active.proofs.Calls.{carried_some}
@@ -142,33 +142,11 @@ pub called_unaborted : (between : Between) (client : Stand client_side) → Stay
 called_unaborted between client fresh called = fresh_unaborted client.owner.end.view (fresh called).keeping
 
 -- an action of the server
-module _ (p q : Between) (client : Stand client_side) (fresh : StaysFresh p client) where
-  -- what goes to the client is the same, and how the server stands
-  goes_same : q.far ≡ p.far → q.data_ways.to_client ≡ p.data_ways.to_client → StaysFresh q client
-  goes_same hold ways called =
-      let f = fresh (ap is_called (sym hold) ∙ called) in record { keeping = f.keeping; untold = f.untold; none = ways ∙ f.none }
-
-  -- or it was not dialled
-  goes_apart : (hold : Hold) → q.far ≡ hold → is_called hold ≡ false → StaysFresh q client
-  goes_apart hold is none called = absurd (both called (ap is_called is ∙ none))
-
-  pub far_fresh : (touch : Touch) → Can TheServer touch p q → StaysFresh q client
-  far_fresh None_of_it can = goes_same (ap (λ (m : Between). m.far) can) (ap (λ (m : Between). m.data_ways.to_client) can)
-  far_fresh Parts can = goes_same (ap (λ (m : Between). m.far) can) (ap (λ (m : Between). m.data_ways.to_client) can)
-  far_fresh (Listens None) can = goes_same (ap (λ (m : Between). m.far) can) (ap (λ (m : Between). m.data_ways.to_client) can)
-  far_fresh (IsDenied endpoint) can = goes_same (ap (λ (m : Between). m.far) can) (ap (λ (m : Between). m.data_ways.to_client) can)
-  far_fresh IsMissed can = goes_same (ap (λ (m : Between). m.far) can) (ap (λ (m : Between). m.data_ways.to_client) can)
-  far_fresh (SaysOctets octets) can = goes_same (ap (λ (m : Between). m.far) can) (ap (λ (m : Between). m.data_ways.to_client) can)
-  far_fresh (Reads octets) can = goes_same (ap (λ (m : Between). m.far) can.1) (ap (λ (m : Between). m.data_ways.to_client) can.1)
-  far_fresh (Listens (Some port)) can = goes_apart _ (ap (λ (m : Between). m.far) can.1) refl
-  far_fresh (Dials endpoint) can = goes_apart Has (ap (λ (m : Between). m.far) can.2) refl
-  far_fresh (Accepts host) can = goes_apart Has (ap (λ (m : Between). m.far) can.1) refl
-  far_fresh (Writes octets) can = goes_apart Has (ap (λ (m : Between). m.far) can.1 ∙ can.0) refl
-  far_fresh (Takes octets) can = goes_apart Has (ap (λ (m : Between). m.far) can.2 ∙ can.0) refl
-  far_fresh Ends can = goes_apart Has_ended (ap (λ (m : Between). m.far) can.1) refl
-  far_fresh Resets can = goes_apart Has_lost (ap (λ (m : Between). m.far) can.1) refl
-  far_fresh ToldEnd can = goes_same (ap (λ (m : Between). m.far) can.2) (ap (λ (m : Between). m.data_ways.to_client) can.2)
-  far_fresh ToldBreak can = goes_apart Has_lost (ap (λ (m : Between). m.far) can.1) refl
+pub far_fresh : (p q : Between) (client : Stand client_side) → StaysFresh p client → (touch : Touch) → Can TheServer touch p q → StaysFresh q client
+far_fresh p q client fresh touch can called =
+    let was = far_called p q touch can called in
+    let f = fresh was.0 in
+    record { keeping = f.keeping; untold = f.untold; none = was.1 ∙ f.none }
 
 -- one of the client
 module _ (p q : Between) (old new : Stand client_side) (fresh : StaysFresh p old) where

@@ -9,7 +9,7 @@ use Rattle.ftp_ports.specs.declared.whole.Rest.{Rest}
 use Rattle.ftp_ports.specs.Machine.{Aside, Break, Closed, End, Failed, Gave, Got, Left, LetGo, Opened, Received, Refused, Waited, Wrote}
 use Rattle.ftp_client_driver.specs.Side.{Reporting, Starting, client_side}
 use Rattle.ftp_client_model.specs.Calls as near
-use Rattle.ftp_client_model.specs.Calls.{receives, starts}
+use Rattle.ftp_client_model.specs.Calls.{receives}
 use Rattle.ftp_client_model.specs.Plan.{count_of}
 use Rattle.ftp_client_model.specs.View.{Doing, Idle, Job, Told, Transferring, View as Near, Waiting}
 use Rattle.ftp_operation.specs.declared.op.Op.{Op}
@@ -51,33 +51,43 @@ transferred_plain op is = record { dials = is.1; some = by op is.0 }
 
 -- ---- the server does an action
 
-module _ (p q : Between) (client : Stand client_side) (fresh : StaysFresh p client) where
-  -- what goes to the client is the same, and how the server stands
-  goes_same : q.far ≡ p.far → q.data_ways.to_client ≡ p.data_ways.to_client → StaysFresh q client
-  goes_same hold ways called =
-      let f = fresh (ap is_called (sym hold) ∙ called) in record { plain = f.plain; untold = f.untold; none = ways ∙ f.none }
+module _ (p q : Between) where
+  -- where it is dialled behind one it was so before, and what goes to the client is the same
+  abbrev pub WasCalled : Type 0
+  WasCalled = is_called q.far ≡ true → (is_called p.far ≡ true) × (q.data_ways.to_client ≡ p.data_ways.to_client)
+
+  -- how the server stands is the same
+  goes_same : q.far ≡ p.far → q.data_ways.to_client ≡ p.data_ways.to_client → WasCalled
+  goes_same hold ways called = (ap is_called (sym hold) ∙ called, ways)
 
   -- or it was not dialled
-  goes_apart : (hold : Hold) → q.far ≡ hold → is_called hold ≡ false → StaysFresh q client
+  goes_apart : (hold : Hold) → q.far ≡ hold → is_called hold ≡ false → WasCalled
   goes_apart hold is none called = absurd (both called (ap is_called is ∙ none))
 
-  pub far_fresh : (touch : Touch) → Can TheServer touch p q → StaysFresh q client
-  far_fresh None_of_it can = goes_same (ap (λ (m : Between). m.far) can) (ap (λ (m : Between). m.data_ways.to_client) can)
-  far_fresh Parts can = goes_same (ap (λ (m : Between). m.far) can) (ap (λ (m : Between). m.data_ways.to_client) can)
-  far_fresh (Listens None) can = goes_same (ap (λ (m : Between). m.far) can) (ap (λ (m : Between). m.data_ways.to_client) can)
-  far_fresh (IsDenied endpoint) can = goes_same (ap (λ (m : Between). m.far) can) (ap (λ (m : Between). m.data_ways.to_client) can)
-  far_fresh IsMissed can = goes_same (ap (λ (m : Between). m.far) can) (ap (λ (m : Between). m.data_ways.to_client) can)
-  far_fresh (SaysOctets octets) can = goes_same (ap (λ (m : Between). m.far) can) (ap (λ (m : Between). m.data_ways.to_client) can)
-  far_fresh (Reads octets) can = goes_same (ap (λ (m : Between). m.far) can.1) (ap (λ (m : Between). m.data_ways.to_client) can.1)
-  far_fresh (Listens (Some port)) can = goes_apart _ (ap (λ (m : Between). m.far) can.1) refl
-  far_fresh (Dials endpoint) can = goes_apart Has (ap (λ (m : Between). m.far) can.2) refl
-  far_fresh (Accepts host) can = goes_apart Has (ap (λ (m : Between). m.far) can.1) refl
-  far_fresh (Writes octets) can = goes_apart Has (ap (λ (m : Between). m.far) can.1 ∙ can.0) refl
-  far_fresh (Takes octets) can = goes_apart Has (ap (λ (m : Between). m.far) can.2 ∙ can.0) refl
-  far_fresh Ends can = goes_apart Has_ended (ap (λ (m : Between). m.far) can.1) refl
-  far_fresh Resets can = goes_apart Has_lost (ap (λ (m : Between). m.far) can.1) refl
-  far_fresh ToldEnd can = goes_same (ap (λ (m : Between). m.far) can.2) (ap (λ (m : Between). m.data_ways.to_client) can.2)
-  far_fresh ToldBreak can = goes_apart Has_lost (ap (λ (m : Between). m.far) can.1) refl
+  pub far_called : (touch : Touch) → Can TheServer touch p q → WasCalled
+  far_called None_of_it can = goes_same (ap (λ (m : Between). m.far) can) (ap (λ (m : Between). m.data_ways.to_client) can)
+  far_called Parts can = goes_same (ap (λ (m : Between). m.far) can) (ap (λ (m : Between). m.data_ways.to_client) can)
+  far_called (Listens None) can = goes_same (ap (λ (m : Between). m.far) can) (ap (λ (m : Between). m.data_ways.to_client) can)
+  far_called (IsDenied endpoint) can = goes_same (ap (λ (m : Between). m.far) can) (ap (λ (m : Between). m.data_ways.to_client) can)
+  far_called IsMissed can = goes_same (ap (λ (m : Between). m.far) can) (ap (λ (m : Between). m.data_ways.to_client) can)
+  far_called (SaysOctets octets) can = goes_same (ap (λ (m : Between). m.far) can) (ap (λ (m : Between). m.data_ways.to_client) can)
+  far_called (Reads octets) can = goes_same (ap (λ (m : Between). m.far) can.1) (ap (λ (m : Between). m.data_ways.to_client) can.1)
+  far_called (Listens (Some port)) can = goes_apart _ (ap (λ (m : Between). m.far) can.1) refl
+  far_called (Dials endpoint) can = goes_apart Has (ap (λ (m : Between). m.far) can.2) refl
+  far_called (Accepts host) can = goes_apart Has (ap (λ (m : Between). m.far) can.1) refl
+  far_called (Writes octets) can = goes_apart Has (ap (λ (m : Between). m.far) can.1 ∙ can.0) refl
+  far_called (Takes octets) can = goes_apart Has (ap (λ (m : Between). m.far) can.2 ∙ can.0) refl
+  far_called Ends can = goes_apart Has_ended (ap (λ (m : Between). m.far) can.1) refl
+  far_called Resets can = goes_apart Has_lost (ap (λ (m : Between). m.far) can.1) refl
+  far_called ToldEnd can = goes_same (ap (λ (m : Between). m.far) can.2) (ap (λ (m : Between). m.data_ways.to_client) can.2)
+  far_called ToldBreak can = goes_apart Has_lost (ap (λ (m : Between). m.far) can.1) refl
+
+-- so none came behind it
+pub far_fresh : (p q : Between) (client : Stand client_side) → StaysFresh p client → (touch : Touch) → Can TheServer touch p q → StaysFresh q client
+far_fresh p q client fresh touch can called =
+    let was = far_called p q touch can called in
+    let f = fresh was.0 in
+    record { plain = f.plain; untold = f.untold; none = was.1 ∙ f.none }
 
 -- ---- the client does
 

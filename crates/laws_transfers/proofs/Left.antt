@@ -5,7 +5,6 @@ use Rattle.std.proofs.lemmas.Bool.{and_right}
 use Rattle.ftp_ends.specs.Ear.{ear_out, ear_step}
 use Rattle.ftp_ends.proofs.EventLemmas.{out_one}
 use Rattle.ftp_nvt.specs.Lines.{NvtEvent, line, too_long, owed}
-use Rattle.ftp_path.specs.Path.{Names}
 use Rattle.ftp_server_model.specs.Act.{decided}
 use Rattle.ftp_server_model.specs.Calls as far
 use Rattle.ftp_server_model.specs.Endpoint.{is_standing}
@@ -14,8 +13,6 @@ use Rattle.ftp_server_model.specs.Replies.{Turn, said_octets}
 use Rattle.ftp_server_model.specs.View.{Session, Transfer, View as Far, line_limit}
 use Rattle.ftp_server_model.specs.declared.heard.HeardLine.{HeardLine}
 use Rattle.ftp_server_model.specs.declared.heard.HeardLine.TheVariants.{TooLong}
-use Rattle.ftp_server_model.specs.declared.reply.ReplyKind.{ReplyKind}
-use Rattle.ftp_server_model.specs.declared.reply.ReplyKind.TheVariants as Replies
 use Rattle.ftp_server_model.specs.declared.session.Pending.TheVariants as Pendings
 use Rattle.ftp_server_model.specs.declared.session.ServerLink.{ServerLink}
 use Rattle.ftp_server_model.specs.declared.session.ServerLink.TheVariants as Data
@@ -23,7 +20,7 @@ use Rattle.ftp_server_model.specs.declared.session.Way.TheVariants as Ways
 use Rattle.laws_server.specs.one.Links.{Aims, Asks, Begins, Forgets, Stays, Turned, TurnsBeside, turned_so, with_link}
 use Rattle.laws_server.proofs.one.LineTurns.{lines_go_beside}
 use Rattle.laws_drivers.specs.world.Ahead.{accepts, is_open}
-use Rattle.laws_drivers.proofs.world.Hearing.{at_link}
+use Rattle.laws_drivers.proofs.world.Hearing.{at_link, said_same}
 use Rattle.laws_transfers.specs.Ahead.{without_connection}
 
 -- ---- what is made of such a data connection
@@ -69,22 +66,6 @@ same_goes g h same (inr (inl l)) = inr (inl (record {
 same_goes g h same (inr (inr s)) = inr (inr (record { transfer = s.transfer; is = ap (λ (f : Far). f.session.connection) (same Data.Passive refl) ∙ s.is }))
 
 -- ---- a line is acted on
-
--- what is said does not look at it
-said_same : (link : ServerLink Transfer) (closing : Bool) (s : Session) (kind : ReplyKind Names)
-    → said_octets (with_link link closing s) kind ≡ said_octets s kind
-said_same link closing s Replies.Nothing = refl
-said_same link closing s (Replies.Fixed text) = refl
-said_same link closing s Replies.Here = refl
-said_same link closing s (Replies.Made path) = refl
-said_same link closing s (Replies.Restarting place) = refl
-said_same link closing s (Replies.Passive endpoint) = refl
-said_same link closing s (Replies.Extended port) = refl
-said_same link closing s (Replies.Size count) = refl
-said_same link closing s (Replies.Stamp digits) = refl
-said_same link closing s (Replies.Entry path) = refl
-said_same link closing s Replies.Features = refl
-said_same link closing s Replies.Chosen = refl
 
 -- a server after a turn, but for its data connection
 abbrev after : Turn → Far → Far

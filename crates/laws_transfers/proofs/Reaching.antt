@@ -46,6 +46,48 @@ use Rattle.laws_transfers.proofs.Lost.{IsSeen, far_done, is_lost, near_done, res
 use Rattle.laws_transfers.proofs.ServerStays.{server_resets}
 use Rattle.laws_transfers.proofs.Simulating.{Reached, asks, client_fresh, client_goes, client_plain, in_carried, known, orders_are, runs, server_goes}
 
+-- as a session begins its first world is beside both ends
+pub begins_together : (read : Reading) (b : Beginning) (server : Stand server_side) (client : Stand client_side) → Begins b server client
+    → server.owner.channel.untold ≡ [] → client.owner.channel.unwritten ≡ [] → server.owner.channel.unwritten ≡ [] → client.owner.channel.untold ≡ []
+    → Together read [] 0 Level nothing_yet 0 server client [] (world_of b)
+begins_together read b server client begins untold unwritten far_unwritten near_untold = record {
+  beside = record {
+    fits = ap (λ f. is_asked f.session.connection) begins.server_view;
+    near = ap (λ n. near.data_closed (taken n)) (sym begins.client_view);
+    far = ap (λ f. far.clock_step 0 (far_ahead Level f)) (sym begins.server_view);
+    to_server = ap (λ q. q ++ []) (sym begins.server_unheard);
+    to_client = ap (λ q. q ++ []) (sym begins.client_unheard);
+    rising = ap₂ (λ q r. q ++ ([] ++ r)) (sym untold) (sym unwritten);
+    falling = λ e. ap₂ (λ q r. q ++ ([] ++ r)) (sym near_untold) (sym far_unwritten);
+    listens = refl;
+    reported = ap (λ n. option_to_list (near.report_of n)) (sym begins.client_view);
+    control = refl;
+    unready = λ e. absurd (true≢false (sym e));
+    cutoff = refl;
+  };
+  holds = record {
+    shut = λ e. ap (λ f. is_open f.session.connection) begins.server_view;
+    had = λ e. absurd (both e (ap (λ f. is_open f.session.connection) begins.server_view));
+    called = λ c e. absurd (true≢false (sym c));
+    opened = λ e. absurd (true≢false (sym e));
+  };
+  comes = record {
+    bare = λ e. untold;
+    spare = λ e. untold;
+    over = λ e. untold;
+    shut = λ e. ap (λ f. is_open f.session.connection) begins.server_view;
+  };
+  serves = record { spare = λ e. far_unwritten; bare = λ e. far_unwritten };
+  takes = record { bare = λ e. near_untold };
+  gives = record { spare = λ e. unwritten; bare = λ e. unwritten };
+  keeping = record {
+    had = λ e. absurd (true≢false (sym e));
+    shut = λ e. absurd (both e (ap (λ n. n.closing) begins.client_view));
+    over = λ e. refl;
+  };
+  twin = λ e. absurd (true≢false (sym e));
+}
+
 -- the ports of the actions before one are those of a world too
 pub earlier : (action : Action server_side) (before : List (Action server_side)) → ArePorts (action ∷ before) → ArePorts before
 earlier (Other (Listening port)) before ports = ports.0
@@ -187,43 +229,7 @@ module _ (read : Reading) (reads : IsReading read) (moments : ℕ → ℕ) (time
       leads = leads_none read (world_of b);
       last = 0;
       ahead = Level;
-      together = record {
-        beside = record {
-          fits = ap (λ f. is_asked f.session.connection) begins.server_view;
-          near = ap (λ n. near.data_closed (taken n)) (sym begins.client_view);
-          far = ap (λ f. far.clock_step 0 (far_ahead Level f)) (sym begins.server_view);
-          to_server = ap (λ q. q ++ []) (sym begins.server_unheard);
-          to_client = ap (λ q. q ++ []) (sym begins.client_unheard);
-          rising = ap₂ (λ q r. q ++ ([] ++ r)) (sym untold) (sym unwritten);
-          falling = λ e. ap₂ (λ q r. q ++ ([] ++ r)) (sym near_untold) (sym far_unwritten);
-          listens = refl;
-          reported = ap (λ n. option_to_list (near.report_of n)) (sym begins.client_view);
-          control = refl;
-          unready = λ e. absurd (true≢false (sym e));
-          cutoff = refl;
-        };
-        holds = record {
-          shut = λ e. ap (λ f. is_open f.session.connection) begins.server_view;
-          had = λ e. absurd (both e (ap (λ f. is_open f.session.connection) begins.server_view));
-          called = λ c e. absurd (true≢false (sym c));
-          opened = λ e. absurd (true≢false (sym e));
-        };
-        comes = record {
-          bare = λ e. untold;
-          spare = λ e. untold;
-          over = λ e. untold;
-          shut = λ e. ap (λ f. is_open f.session.connection) begins.server_view;
-        };
-        serves = record { spare = λ e. far_unwritten; bare = λ e. far_unwritten };
-        takes = record { bare = λ e. near_untold };
-        gives = record { spare = λ e. unwritten; bare = λ e. unwritten };
-        keeping = record {
-          had = λ e. absurd (true≢false (sym e));
-          shut = λ e. absurd (both e (ap (λ n. n.closing) begins.client_view));
-          over = λ e. refl;
-        };
-        twin = λ e. absurd (true≢false (sym e));
-      };
+      together = begins_together read b server client begins untold unwritten far_unwritten near_untold;
       serves = record { running = ap (λ f. f.session.life) begins.server_view; none_waits = ap (λ f. f.waiting) begins.server_view };
       plain = subst IsPlainly (sym begins.client_view) (record { job = tt; port = refl; run = refl });
       sound = ap (λ n. is_sound_at n.standing) begins.client_view;

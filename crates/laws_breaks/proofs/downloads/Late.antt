@@ -112,17 +112,18 @@ hears_over (octet ∷ octets) v o =
     hears_over octets (hears_octet v octet)
     (events_over (ear_out reply_limit v.ear octet) (record v { ear = ear_step reply_limit v.ear octet }) (record { told = o.told; late = o.late }))
 
--- it takes no octets
-abbrev is_receive : Wants → Bool
-is_receive Want.Receive = true
-is_receive other = false
+-- it takes no octets, and gives none
+abbrev pub is_moving : Wants → Bool
+is_moving Want.Receive = true
+is_moving Want.Send = true
+is_moving other = false
 
-over_takes : (v : View) → IsOver v → wants v ≡ Want.Receive → ⊥
+pub over_moves : (v : View) → IsOver v → is_moving (wants v) ≡ true → ⊥
 unfolding wants
-over_takes v o e = by v.closing (is_sound v.standing) v.connection v.job o.told (ap is_receive e)
+over_moves v o e = by v.closing (is_sound v.standing) v.connection v.job o.told e
   where
     by : (closing sound : Bool) (connection : ClientLink) (job : Job) → is_told job ≡ true
-        → is_receive (if closing then Want.CloseData
+        → is_moving (if closing then Want.CloseData
         else (if sound then link_wants connection (record v { closing = closing; connection = connection; job = job }) else Want.CloseAll)) ≡ true → ⊥
     by true sound connection job told e = true≢false (sym e)
     by false false connection job told e = true≢false (sym e)
@@ -137,6 +138,9 @@ over_takes v o e = by v.closing (is_sound v.standing) v.connection v.job o.told 
     by false true Data.Open (Waiting op) told e = true≢false (sym told)
     by false true Data.Open (Doing op step) told e = true≢false (sym told)
     by false true Data.Open (Transferring op transfer) told e = true≢false (sym told)
+
+over_takes : (v : View) → IsOver v → wants v ≡ Want.Receive → ⊥
+over_takes v o e = over_moves v o (ap is_moving e)
 
 -- ---- under a download
 

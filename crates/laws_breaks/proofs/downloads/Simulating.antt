@@ -46,7 +46,7 @@ use Rattle.laws_breaks.proofs.downloads.Following.{follows}
 use Rattle.laws_breaks.proofs.downloads.Lagging.{Lags, Leftover, OfMarks, Then, Whole, beside, feeding_few, feeds, is_failed, lag_step, leaves, unbroken}
 use Rattle.laws_breaks.proofs.downloads.Last.{AreFew, actions_all, last_few, short_few}
 use Rattle.laws_breaks.proofs.downloads.Preceding.{Precedes, opened_at, asks_none, precede_server}
-use Rattle.laws_breaks.proofs.downloads.Steps.{Again, again, client_step, idle_again, server_step, told_late}
+use Rattle.laws_breaks.proofs.downloads.Steps.{Again, again, client_step, idle_same, server_step, told_late}
 use Rattle.laws_breaks.proofs.downloads.Seen.{IsTold, Sees, dropped, sees_fresh}
 use Rattle.laws_breaks.proofs.downloads.Unbroken.{sees_unbroken}
 use Rattle.laws_breaks.proofs.downloads.Unsent.{Unsent, near_unsent, reset_fresh}
@@ -228,11 +228,9 @@ module _ (read : Reading) (reads : IsReading read) (moments : ℕ → ℕ) (time
       breaks_early : Loading v → L (Then (Other Break) old.owner Are) (Other Break ∷ actions) q count server new
       breaks_early loads =
           let whole : unbroken q ≡ p = ap unbroken can.1 ∙ ap (λ h. with_hold TheClient h p) (sym can.0) in
-          let same : beside old.owner new ≡ old = ap (beside old.owner) did.1 in
-          let got : Again read reads moments timed b fair (Other Break ∷ actions) (unbroken q) count server (beside old.owner new) w.marks =
-          subst (λ (c : Stand client_side). Again read reads moments timed b fair (Other Break ∷ actions) (unbroken q) count server c w.marks) (sym same)
-          (subst (λ (m : Between). Again read reads moments timed b fair (Other Break ∷ actions) m count server old w.marks) (sym whole)
-          (idle_again read reads moments timed b fair (Other Break) actions o.at refl refl)) in
+          let got =
+          idle_same read reads moments timed b fair (Other Break) actions o.at (unbroken q) (beside old.owner new) (ap (beside old.owner) did.1) whole refl
+          refl in
           record {
             was = old.owner;
             at = got.0;

@@ -1,6 +1,6 @@
 -- A client of an upload, beside which a world stands, is told of the break of its data connection: it still gives, or it gave all and did not write all. From
 -- then on that world is beside one that was not told.
-use Rattle.std.proofs.Common.{◌≡◌, inl, inr, ℕ, Bool, true, false, List, [], ◌∷◌, ◌++◌, refl, sym, ap, ap₂, subst, ◌∙◌}
+use Rattle.std.proofs.Common.{◌≡◌, inl, inr, ℕ, Bool, true, false, List, [], ◌∷◌, ◌++◌, refl, sym, ap, ap₂, ◌∙◌}
 use Rattle.ftp_ports.specs.Actions.{Calls, Action, Other, Stand}
 use Rattle.ftp_ports.specs.Channel.{Channel, with_fate}
 use Rattle.ftp_ports.specs.Machine.{Break}
@@ -33,7 +33,7 @@ use Rattle.laws_transfers.proofs.Simulating.{known, runs}
 use Rattle.laws_breaks.proofs.downloads.ClientBroken.{broken_channel}
 use Rattle.laws_breaks.proofs.downloads.Faults.{closing_same}
 use Rattle.laws_breaks.proofs.downloads.Lagging.{OfMarks, Then, Whole, beside, is_failed, unbroken}
-use Rattle.laws_breaks.proofs.downloads.Steps.{Again, idle_again}
+use Rattle.laws_breaks.proofs.downloads.Steps.{idle_same}
 use Rattle.laws_breaks.proofs.downloads.Unsent.{AskAll, all_carried}
 use Rattle.laws_breaks.proofs.uploads.Climbing.{HasGiven, world_given}
 use Rattle.laws_breaks.proofs.uploads.Lifting.{Lifts, fault_begun, form, lifts_plain}
@@ -79,11 +79,9 @@ module _ (read : Reading) (reads : IsReading read) (moments : ℕ → ℕ) (time
       → UpLags read reads moments timed b fair (Then (Other Break) old.owner Are) (Other Break ∷ actions) q count server new
   lags lifts due =
       let whole : unbroken q ≡ p = ap unbroken can.1 ∙ ap (λ h. with_hold TheClient h p) (sym can.0) in
-      let same : beside old.owner new ≡ old = ap (beside old.owner) did.1 in
-      let got : Again read reads moments timed b fair (Other Break ∷ actions) (unbroken q) count server (beside old.owner new) w.marks =
-      subst (λ (c : Stand client_side). Again read reads moments timed b fair (Other Break ∷ actions) (unbroken q) count server c w.marks) (sym same)
-      (subst (λ (m : Between). Again read reads moments timed b fair (Other Break ∷ actions) m count server old w.marks) (sym whole)
-      (idle_again read reads moments timed b fair (Other Break) actions o.at refl refl)) in
+      let got =
+      idle_same read reads moments timed b fair (Other Break) actions o.at (unbroken q) (beside old.owner new) (ap (beside old.owner) did.1) whole refl
+      refl in
       record {
         was = old.owner;
         at = got.0;

@@ -1,10 +1,9 @@
 -- A client of an upload that hears control octets: as long as it then still gives octets, these and the break of its link can come before or after.
-use Rattle.std.proofs.Common.{◌≡◌, ◌⊎◌, inl, inr, ℕ, ◌==◌, ◌&&◌, Bool, true, false, true≢false, List, [], ◌∷◌, ◌++◌, Option, Some, None, refl, sym, ap, subst, ◌∙◌}
+use Rattle.std.proofs.Common.{◌≡◌, ◌⊎◌, inl, inr, ℕ, ◌==◌, ◌&&◌, Bool, true, false, List, [], ◌∷◌, ◌++◌, Option, Some, None, refl, sym, ap, subst, ◌∙◌}
 use Rattle.std.specs.Prelude.{if◌then◌else◌}
 use Rattle.ftp_ends.specs.Ear.{Ear, ear_out, ear_step}
 use Rattle.ftp_ends.proofs.EventLemmas.{out_one}
 use Rattle.ftp_ends.specs.Reply.{reply_limit}
-use Rattle.ftp_ends.specs.declared.link.Wants.{Wants}
 use Rattle.ftp_ends.specs.declared.link.Wants.TheVariants as Want
 use Rattle.ftp_nvt.specs.Lines.{NvtEvent, line, owed, too_long}
 use Rattle.ftp_operation.specs.Answer.{Said}
@@ -13,48 +12,25 @@ use Rattle.ftp_reply.specs.Lines.{Text, joined}
 use Rattle.ftp_reply.specs.Reader.{Between, Faulty, Gathered, GoesOn, Heard, Says, line_heard}
 use Rattle.ftp_reply.specs.Values.{mark_value}
 use Rattle.ftp_reply.specs.declared.code.TheConstants.{MARK}
-use Rattle.ftp_client_model.specs.Calls.{data_fault, event_taken, events_taken, hears, hears_octet, is_sound, line_taken, link_wants, wants}
+use Rattle.ftp_client_model.specs.Calls.{data_fault, event_taken, events_taken, hears, hears_octet, line_taken, wants}
 use Rattle.ftp_client_model.specs.Dialogue.{answered, answers_once_over, carries_on, finishes_read, judged, judged_reply, marked_flow, sends_abort, with_reply}
 use Rattle.ftp_client_model.specs.Octets.{has_settled}
 use Rattle.ftp_client_model.specs.Plan.{count_of}
 use Rattle.ftp_client_model.specs.Replies.{Closing, Completion, Displaced, Intermediate, Negative, Preliminary, Verdict, verdict_of}
-use Rattle.ftp_client_model.specs.View.{Doing, Flow, Idle, Job, Sending, Told, Transfer, Transferring, View, Waiting}
+use Rattle.ftp_client_model.specs.View.{Flow, Sending, Transfer, Transferring, View}
 use Rattle.ftp_client_model.specs.declared.client.Abort.TheVariants as Aborts
-use Rattle.ftp_client_model.specs.declared.client.ClientLink.{ClientLink}
 use Rattle.ftp_client_model.specs.declared.client.ClientLink.TheVariants as Data
 use Rattle.ftp_client_model.specs.declared.client.Ending.TheVariants as Endings
 use Rattle.ftp_client_model.specs.declared.client.Replied.{Replied}
 use Rattle.ftp_client_model.specs.declared.client.Replied.TheVariants as Replies
 use Rattle.ftp_client_model.specs.declared.client.Standing.TheVariants as Stands
-use Rattle.laws_breaks.proofs.downloads.Late.{IsOver, hears_over, is_told, judges, over}
+use Rattle.laws_breaks.proofs.downloads.Late.{IsOver, hears_over, is_moving, judges, over, over_moves}
 use Rattle.laws_breaks.specs.uploads.Late.{UploadsBreakLate, uploading}
 
 -- ---- one that has its answer gives no octets
 
-abbrev is_send : Wants → Bool
-is_send Want.Send = true
-is_send other = false
-
 pub over_sends : (v : View) → IsOver v → wants v ≡ Want.Send → ⊥
-unfolding wants
-over_sends v o e = by v.closing (is_sound v.standing) v.connection v.job o.told (ap is_send e)
-  where
-    by : (closing sound : Bool) (connection : ClientLink) (job : Job) → is_told job ≡ true
-        → is_send (if closing then Want.CloseData
-        else (if sound then link_wants connection (record v { closing = closing; connection = connection; job = job }) else Want.CloseAll)) ≡ true → ⊥
-    by true sound connection job told e = true≢false (sym e)
-    by false false connection job told e = true≢false (sym e)
-    by false true Data.Free job told e = true≢false (sym e)
-    by false true Data.ListenWanted job told e = true≢false (sym e)
-    by false true (Data.Listening port) job told e = true≢false (sym e)
-    by false true (Data.Connecting endpoint) job told e = true≢false (sym e)
-    by false true (Data.Accepting port) job told e = true≢false (sym e)
-    by false true (Data.Over ending) job told e = true≢false (sym e)
-    by false true Data.Open (Told answer) told e = true≢false (sym e)
-    by false true Data.Open Idle told e = true≢false (sym told)
-    by false true Data.Open (Waiting op) told e = true≢false (sym told)
-    by false true Data.Open (Doing op step) told e = true≢false (sym told)
-    by false true Data.Open (Transferring op transfer) told e = true≢false (sym told)
+over_sends v o e = over_moves v o (ap is_moving e)
 
 -- ---- under an upload with octets to give
 

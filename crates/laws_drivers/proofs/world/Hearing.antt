@@ -29,7 +29,7 @@ abbrev pub at_link : ServerLink Transfer → Bool → Far → Far
 at_link link closing v = record v { session = with_link link closing v.session }
 
 -- what is said does not look at it
-said_same : (link : ServerLink Transfer) (closing : Bool) (s : Session) (kind : ReplyKind Names)
+pub said_same : (link : ServerLink Transfer) (closing : Bool) (s : Session) (kind : ReplyKind Names)
     → said_octets (with_link link closing s) kind ≡ said_octets s kind
 said_same link closing s Replies.Nothing = refl
 said_same link closing s (Replies.Fixed text) = refl
