@@ -143,6 +143,20 @@ module _ (state : State) (rise : Rise) (n : Near) (f : Far) (steady : IsSteadySe
     pub fine : AreNotes notes
     pub last : (mark : Option ℕ) → past ≡ false → last_held mark notes ≡ says_last mark
 
+  -- a call that does the same takes them so too, and they say the same last number
+  taken_as : {before : Bool} {v w : Far} {owed : List ℕ} {d : Decoder} {says other : Option ℕ → Option ℕ} → Taken before w owed d says → v ≡ w
+      → ((mark : Option ℕ) → says mark ≡ other mark) → Taken before v owed d other
+  taken_as t same last = record {
+    past = t.past;
+    notes = t.notes;
+    is = same ∙ t.is;
+    since = t.since;
+    over = t.over;
+    few = t.few;
+    fine = t.fine;
+    last = λ mark e. t.last mark e ∙ last mark;
+  }
+
   -- past a limit nothing changes
   past_stays : (d : Decoder) (owed : List ℕ) (said : List Said) → takes_all said (taking_at true d owed) ≡ taking_at true d owed
   past_stays d owed [] = refl
@@ -188,7 +202,7 @@ module _ (state : State) (rise : Rise) (n : Near) (f : Far) (steady : IsSteadySe
       on : Taken false (takes_all more (taking_at false (with_sign d sign) owed)) owed (with_all (with_sign d sign) more) (λ mark. mark)
           → is_some (excess_of rise state (length (with_sign d sign).content)) ≡ false
           → Taken false (takes_all (says sign ∷ more) (taking_at false d owed)) owed (with_all d (says sign ∷ more)) (λ mark. mark)
-      on t e = record { past = t.past; notes = t.notes; is = step false e ∙ t.is; since = t.since; over = t.over; few = t.few; fine = t.fine; last = t.last }
+      on t e = taken_as t (step false e) (λ mark. refl)
 
   -- a marker is answered by the octets held, and then signs are taken
   marker_taken : (owed : List ℕ) (d : Decoder) (text : List ℕ) (more : List Said) → is_marker text ≡ true → IsSigns more → kept_count keep + length d.content < 10 ^ 18
@@ -211,17 +225,7 @@ module _ (state : State) (rise : Rise) (n : Near) (f : Far) (steady : IsSteadySe
   said_taken : (owed : List ℕ) (d : Decoder) (said : List Said) → IsSigns said ⊎ IsMarked said → kept_count keep + length d.content < 10 ^ 18
       → Taken false (takes_all said (taking_at false d owed)) owed (with_all d said) (λ mark. reached (kept_count keep + length d.content) mark said)
   said_taken owed d said (inl signs) few =
-      let t = signs_taken owed d said signs few in
-      record {
-        past = t.past;
-        notes = t.notes;
-        is = t.is;
-        since = t.since;
-        over = t.over;
-        few = t.few;
-        fine = t.fine;
-        last = λ mark e. t.last mark e ∙ sym (reached_none (kept_count keep + length d.content) mark said signs);
-      }
+      taken_as (signs_taken owed d said signs few) refl (λ mark. sym (reached_none (kept_count keep + length d.content) mark said signs))
   said_taken owed d said (inr marked) few =
       subst (λ said. Taken false (takes_all said (taking_at false d owed)) owed (with_all d said) (λ mark. reached (kept_count keep + length d.content) mark said)) (sym marked.is)
       (marker_taken owed d marked.text marked.more marked.fine marked.signs few)
