@@ -24,24 +24,12 @@ pub ask_of : (op : Op (List ℕ)) (moment : ℕ) → IsFetch op → can_be_sent 
 ask_of (Ops.Get text how) moment fetches can = record { ask = download_ask None text how; good = download_is_ask None text how can; op_is = refl; timely = tt }
 ask_of (Ops.GetFrom text at how) moment fetches can =
     record { ask = download_ask (Some at) text how; good = download_is_ask (Some at) text how can; op_is = refl; timely = tt }
-ask_of Ops.Where moment fetches can = absurd fetches
-ask_of (Ops.ChangeDir text) moment fetches can = absurd fetches
-ask_of Ops.Up moment fetches can = absurd fetches
-ask_of (Ops.MakeDir text) moment fetches can = absurd fetches
-ask_of (Ops.RemoveDir text) moment fetches can = absurd fetches
-ask_of (Ops.Delete text) moment fetches can = absurd fetches
-ask_of (Ops.Rename text new) moment fetches can = absurd fetches
-ask_of (Ops.Put text octets how) moment fetches can = absurd fetches
-ask_of (Ops.Append text octets how) moment fetches can = absurd fetches
-ask_of (Ops.PutFrom text at octets how) moment fetches can = absurd fetches
 ask_of (Ops.Peek text count how) moment fetches can =
     record { ask = peek_ask text count how; good = peek_is_ask text count how can; op_is = refl; timely = tt }
-ask_of (Ops.Size text how) moment fetches can = absurd fetches
-ask_of (Ops.Modified text) moment fetches can = absurd fetches
-ask_of (Ops.Facts text) moment fetches can = absurd fetches
 ask_of (Ops.List text how) moment fetches can = record { ask = list_ask text how; good = list_is_ask text how can; op_is = refl; timely = tt }
 ask_of (Ops.Names text how) moment fetches can = record { ask = names_ask text how; good = names_is_ask text how can; op_is = refl; timely = tt }
 ask_of (Ops.Text verb text how) moment fetches can = record { ask = text_ask verb text how; good = text_is_ask verb text how can; op_is = refl; timely = tt }
+ask_of op moment fetches can = absurd fetches
 
 -- so is an upload
 pub store_of : (op : Op (List ℕ)) (moment : ℕ) → IsStore op → can_be_sent op ≡ true → moment ≤ last_second → IsAskOf op moment
@@ -51,19 +39,4 @@ store_of (Ops.Append text octets how) moment plain can dated =
     record { ask = upload_ask Behind text octets how moment; good = upload_is_ask Behind text octets how moment can dated; op_is = refl; timely = refl }
 store_of (Ops.PutFrom text at octets how) moment plain can dated =
     record { ask = upload_ask (From at) text octets how moment; good = upload_is_ask (From at) text octets how moment can dated; op_is = refl; timely = refl }
-store_of Ops.Where moment plain can dated = absurd plain
-store_of (Ops.ChangeDir text) moment plain can dated = absurd plain
-store_of Ops.Up moment plain can dated = absurd plain
-store_of (Ops.MakeDir text) moment plain can dated = absurd plain
-store_of (Ops.RemoveDir text) moment plain can dated = absurd plain
-store_of (Ops.Delete text) moment plain can dated = absurd plain
-store_of (Ops.Rename text new) moment plain can dated = absurd plain
-store_of (Ops.Get text how) moment plain can dated = absurd plain
-store_of (Ops.GetFrom text at how) moment plain can dated = absurd plain
-store_of (Ops.Peek text count how) moment plain can dated = absurd plain
-store_of (Ops.Size text how) moment plain can dated = absurd plain
-store_of (Ops.Modified text) moment plain can dated = absurd plain
-store_of (Ops.Facts text) moment plain can dated = absurd plain
-store_of (Ops.List text how) moment plain can dated = absurd plain
-store_of (Ops.Names text how) moment plain can dated = absurd plain
-store_of (Ops.Text verb text how) moment plain can dated = absurd plain
+store_of op moment plain can dated = absurd plain

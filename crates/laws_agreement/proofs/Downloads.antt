@@ -60,13 +60,7 @@ joined kind structure mode = record { kind = kind; structure = structure; mode =
 -- of all kinds, structures and modes only image files in blocks have markers
 only_marked : (kind : Kind) (structure : Structure) (mode : Mode) → has_markers (joined kind structure mode) ≡ true → joined kind structure mode ≡ image_blocks
 only_marked Kinds.Image Structures.File Modes.Block is = refl
-only_marked Kinds.Image Structures.File Modes.Stream is = absurd (cc)
-only_marked Kinds.Image Structures.Record Modes.Block is = absurd (cc)
-only_marked Kinds.Image Structures.Record Modes.Stream is = absurd (cc)
-only_marked Kinds.Ascii Structures.File Modes.Block is = absurd (cc)
-only_marked Kinds.Ascii Structures.File Modes.Stream is = absurd (cc)
-only_marked Kinds.Ascii Structures.Record Modes.Block is = absurd (cc)
-only_marked Kinds.Ascii Structures.Record Modes.Stream is = absurd (cc)
+only_marked kind structure mode is = absurd (cc)
 
 -- a representation with markers is that of image files in blocks
 pub marked_is : (r : Representation) → has_markers r ≡ true → r ≡ image_blocks

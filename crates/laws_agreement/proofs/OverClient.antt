@@ -10,7 +10,7 @@ use Rattle.ftp_endpoint.specs.declared.endpoint.Endpoint.{Endpoint}
 use Rattle.ftp_reply.specs.Lines.{Text, joined}
 use Rattle.ftp_ends.specs.Link.{same_host}
 use Rattle.ftp_client_model.specs.Tries.{Run, next_in, after_size, after_try, is_size, run_at}
-use Rattle.ftp_client_model.specs.Calls.{report_of_job, line_taken, event_taken, accepted}
+use Rattle.ftp_client_model.specs.Calls.{report_of_job, line_taken, event_taken}
 use Rattle.ftp_client_model.specs.Dialogue.{sends, sends_if, last_job, placed, goes_on, next_job, finishes_by, finishes_read, is_to_abort, sends_abort, aborts_once_enough, abort_answered, begins, finishes, greeted, enters_with, login_ends, user_answered, pass_answered, set_accepted, dials, endpoint_named, port_named, passive_named, step_done, intermediate, awaits_reply, step_answered, answer_in, judged, answers_by, answers_job, answers_once_over, closes_once_given_by, closes_once_given, carries_on, with_reply, awaited, transfer_opened, marked_flow, noted, unless_open, before_opening, behind_opening, transfer_answered, job_answered, stand_answered, judged_reply, answered, closes, has_begun, is_given}
 use Rattle.ftp_client_model.specs.Octets.{flow_of}
 use Rattle.ftp_client_model.specs.Plan.{asked_settings, command_of, first_step, next_step, settings_behind as set_by, is_extended}
@@ -38,16 +38,8 @@ told_same {one = one} {other = other} is = let e : Some one ≡ Some other = ap 
 
 -- a step of an operation begins whatever the client did before
 placed_job : (next : Op (List ℕ)) (step : Step) (job : Job) (v : View) → placed next step (record v { job = job }) ≡ placed next step v
-placed_job next Steps.Kind job v = refl
-placed_job next Steps.Structure job v = refl
-placed_job next Steps.Mode job v = refl
-placed_job next Steps.Listen job v = refl
-placed_job next Steps.Port job v = refl
-placed_job next Steps.Passive job v = refl
-placed_job next Steps.Connect job v = refl
-placed_job next Steps.Restart job v = refl
-placed_job next Steps.Source job v = refl
 placed_job next Steps.Last job v = refl
+placed_job next step job v = refl
 
 -- so does an operation
 pub begins_job : (next : Op (List ℕ)) (job : Job) (v : View) → begins next (record v { job = job }) ≡ begins next v

@@ -33,44 +33,14 @@ store_done : (op : Op (List ℕ)) (now : State) (moment : ℕ) → IsStore op �
 store_done (Ops.Put text octets how) now moment store = refl
 store_done (Ops.Append text octets how) now moment store = refl
 store_done (Ops.PutFrom text offset octets how) now moment store = refl
-store_done Ops.Where now moment store = absurd store
-store_done (Ops.ChangeDir text) now moment store = absurd store
-store_done Ops.Up now moment store = absurd store
-store_done (Ops.MakeDir text) now moment store = absurd store
-store_done (Ops.RemoveDir text) now moment store = absurd store
-store_done (Ops.Delete text) now moment store = absurd store
-store_done (Ops.Rename text new) now moment store = absurd store
-store_done (Ops.Get text how) now moment store = absurd store
-store_done (Ops.GetFrom text at how) now moment store = absurd store
-store_done (Ops.Peek text count how) now moment store = absurd store
-store_done (Ops.Size text how) now moment store = absurd store
-store_done (Ops.Modified text) now moment store = absurd store
-store_done (Ops.Facts text) now moment store = absurd store
-store_done (Ops.List text how) now moment store = absurd store
-store_done (Ops.Names text how) now moment store = absurd store
-store_done (Ops.Text verb text how) now moment store = absurd store
+store_done op now moment store = absurd store
 
 -- what is settled of octets that came for an upload would be an answer of octets
 store_settled : (op : Op (List ℕ)) (content : List ℕ) (said : Said) → IsStore op → content_answer op content ≡ Some said → gives_octets said ≡ true
 store_settled (Ops.Put text octets how) content said store is = sym (ap may_give is)
 store_settled (Ops.Append text octets how) content said store is = sym (ap may_give is)
 store_settled (Ops.PutFrom text offset octets how) content said store is = sym (ap may_give is)
-store_settled Ops.Where content said store is = absurd store
-store_settled (Ops.ChangeDir text) content said store is = absurd store
-store_settled Ops.Up content said store is = absurd store
-store_settled (Ops.MakeDir text) content said store is = absurd store
-store_settled (Ops.RemoveDir text) content said store is = absurd store
-store_settled (Ops.Delete text) content said store is = absurd store
-store_settled (Ops.Rename text new) content said store is = absurd store
-store_settled (Ops.Get text how) content said store is = absurd store
-store_settled (Ops.GetFrom text at how) content said store is = absurd store
-store_settled (Ops.Peek text count how) content said store is = absurd store
-store_settled (Ops.Size text how) content said store is = absurd store
-store_settled (Ops.Modified text) content said store is = absurd store
-store_settled (Ops.Facts text) content said store is = absurd store
-store_settled (Ops.List text how) content said store is = absurd store
-store_settled (Ops.Names text how) content said store is = absurd store
-store_settled (Ops.Text verb text how) content said store is = absurd store
+store_settled op content said store is = absurd store
 
 -- so no upload is halted
 store_halted : (now : State) (ask : Ask) (own : List Mark) (moment : ℕ) (w : World) → IsStore ask.op → AtHalt now ask own w → ⊥

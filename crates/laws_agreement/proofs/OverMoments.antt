@@ -14,7 +14,7 @@ use Rattle.ftp_server_model.specs.View.{View as Far, line_limit}
 use Rattle.ftp_server_model.specs.declared.heard.HeardLine.TheVariants.{TooLong}
 use Rattle.laws_world.specs.Events.{ControlToServer, ControlToClient, pulled, filled}
 use Rattle.laws_world.specs.Serving.{near_served_by, far_served_by, near_served, far_served, served, link_closed_by_near, link_closed_by_far, left_by_near, left_by_far, collected_by, after_event}
-use Rattle.laws_world.specs.World.{World, Link, Gone, Opened, ClosedByNear, ClosedByFar, Control, Stands, LeftByNear, LeftByFar, Parted, port_at}
+use Rattle.laws_world.specs.World.{World, Link, Gone, Control, Stands, port_at}
 use Rattle.laws_dialogues.proofs.Context.{line_context, waited_context}
 
 -- ---- what is served
@@ -22,16 +22,12 @@ use Rattle.laws_dialogues.proofs.Context.{line_context, waited_context}
 -- a close of the client leaves the server
 near_link : (link : Link) (w : World) → (link_closed_by_near link w).far ≡ w.far
 near_link Gone w = refl
-near_link Opened w = refl
-near_link ClosedByNear w = refl
-near_link ClosedByFar w = refl
+near_link link w = refl
 
 -- so does its leave
 near_left : (control : Control) (w : World) → (left_by_near control w).far ≡ w.far
 near_left Stands w = refl
-near_left LeftByNear w = refl
-near_left LeftByFar w = refl
-near_left Parted w = refl
+near_left control w = refl
 
 -- a client that is served leaves the server
 near_by : (wants : Wants) (w : World) → (near_served_by wants w).far ≡ w.far
@@ -43,16 +39,12 @@ near_by wants w = refl
 -- a close of the server leaves the server itself
 far_link : (link : Link) (w : World) → (link_closed_by_far link w).far ≡ w.far
 far_link Gone w = refl
-far_link Opened w = refl
-far_link ClosedByNear w = refl
-far_link ClosedByFar w = refl
+far_link link w = refl
 
 -- so does its leave
 far_left : (control : Control) (w : World) → (left_by_far control w).far ≡ w.far
 far_left Stands w = refl
-far_left LeftByNear w = refl
-far_left LeftByFar w = refl
-far_left Parted w = refl
+far_left control w = refl
 
 -- a server that is told that its close is done keeps its moment
 closed_context : (f : Far) → (far.data_closed f).context ≡ f.context

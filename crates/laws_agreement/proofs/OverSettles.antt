@@ -122,22 +122,7 @@ store_up : (op : Op (List ℕ)) (settings : Representation) → IsStore op → f
 store_up (Ops.Put text octets how) settings store is = let e : Some false ≡ Some true = ap (option_map is_down) is in cc
 store_up (Ops.Append text octets how) settings store is = let e : Some false ≡ Some true = ap (option_map is_down) is in cc
 store_up (Ops.PutFrom text at octets how) settings store is = let e : Some false ≡ Some true = ap (option_map is_down) is in cc
-store_up Ops.Where settings store is = store
-store_up (Ops.ChangeDir text) settings store is = store
-store_up Ops.Up settings store is = store
-store_up (Ops.MakeDir text) settings store is = store
-store_up (Ops.RemoveDir text) settings store is = store
-store_up (Ops.Delete text) settings store is = store
-store_up (Ops.Rename text new) settings store is = store
-store_up (Ops.Get text how) settings store is = store
-store_up (Ops.GetFrom text at how) settings store is = store
-store_up (Ops.Peek text count how) settings store is = store
-store_up (Ops.Size text how) settings store is = store
-store_up (Ops.Modified text) settings store is = store
-store_up (Ops.Facts text) settings store is = store
-store_up (Ops.List text how) settings store is = store
-store_up (Ops.Names text how) settings store is = store
-store_up (Ops.Text verb text how) settings store is = store
+store_up op settings store is = store
 
 -- so it was begun at the moment that the server has
 rises_at : (op : Op (List ℕ)) (sends : Direction) (settings : Representation) → IsStore op → flow_of op ≡ Some (carrying sends settings) → (a b : ℕ) → IsTimely sends a → IsTimely sends b → a ≡ b
@@ -149,22 +134,7 @@ store_how : (op : Op (List ℕ)) → IsStore op → how_of op ≡ None → ⊥
 store_how (Ops.Put text octets how) store none = let e : Some how ≡ None = none in cc
 store_how (Ops.Append text octets how) store none = let e : Some how ≡ None = none in cc
 store_how (Ops.PutFrom text at octets how) store none = let e : Some how ≡ None = none in cc
-store_how Ops.Where store none = store
-store_how (Ops.ChangeDir text) store none = store
-store_how Ops.Up store none = store
-store_how (Ops.MakeDir text) store none = store
-store_how (Ops.RemoveDir text) store none = store
-store_how (Ops.Delete text) store none = store
-store_how (Ops.Rename text new) store none = store
-store_how (Ops.Get text how) store none = store
-store_how (Ops.GetFrom text at how) store none = store
-store_how (Ops.Peek text count how) store none = store
-store_how (Ops.Size text how) store none = store
-store_how (Ops.Modified text) store none = store
-store_how (Ops.Facts text) store none = store
-store_how (Ops.List text how) store none = store
-store_how (Ops.Names text how) store none = store
-store_how (Ops.Text verb text how) store none = store
+store_how op store none = store
 
 -- no mark is among none
 no_mark : (mark : Mark) → IsAmong mark [] → ⊥
