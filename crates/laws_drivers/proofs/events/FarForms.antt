@@ -52,30 +52,14 @@ is_listen Want.Listen = true
 is_listen other = false
 
 pub asked_listens : (link : ServerLink Transfer) → is_listen (wants_of link) ≡ is_asked link
-asked_listens Data.Free = refl
-asked_listens (Data.Asked verb) = refl
-asked_listens (Data.Active endpoint) = refl
-asked_listens Data.Passive = refl
-asked_listens Data.Ready = refl
 asked_listens (Data.Opening transfer Ways.Accept) = refl
-asked_listens (Data.Opening transfer (Ways.Connect endpoint)) = refl
-asked_listens (Data.Transferring (Transfers.Upload path keep d)) = refl
 asked_listens (Data.Transferring Transfers.OverLimit) = refl
-asked_listens (Data.Transferring (Transfers.Download rest)) = refl
-asked_listens (Data.Transferring (Transfers.Listing rest)) = refl
+asked_listens link = refl
 
 pub accepts_accepts : (link : ServerLink Transfer) → is_accepting (wants_of link) ≡ accepts link
-accepts_accepts Data.Free = refl
-accepts_accepts (Data.Asked verb) = refl
-accepts_accepts (Data.Active endpoint) = refl
-accepts_accepts Data.Passive = refl
-accepts_accepts Data.Ready = refl
 accepts_accepts (Data.Opening transfer Ways.Accept) = refl
-accepts_accepts (Data.Opening transfer (Ways.Connect endpoint)) = refl
-accepts_accepts (Data.Transferring (Transfers.Upload path keep d)) = refl
 accepts_accepts (Data.Transferring Transfers.OverLimit) = refl
-accepts_accepts (Data.Transferring (Transfers.Download rest)) = refl
-accepts_accepts (Data.Transferring (Transfers.Listing rest)) = refl
+accepts_accepts link = refl
 
 -- one that goes on without its data connection has none open
 pub leaves_open : (link : ServerLink Transfer) → leaves (wants_of link) ≡ true → is_open link ≡ false
@@ -99,17 +83,9 @@ pub never_all : (link : ServerLink Transfer) → wants_of link ≡ Want.CloseAll
 never_all link e = true≢false (sym (ap is_all e) ∙ by link)
   where
     by : (link : ServerLink Transfer) → is_all (wants_of link) ≡ false
-    by Data.Free = refl
-    by (Data.Asked verb) = refl
-    by (Data.Active endpoint) = refl
-    by Data.Passive = refl
-    by Data.Ready = refl
     by (Data.Opening transfer Ways.Accept) = refl
-    by (Data.Opening transfer (Ways.Connect endpoint)) = refl
-    by (Data.Transferring (Transfers.Upload path keep d)) = refl
     by (Data.Transferring Transfers.OverLimit) = refl
-    by (Data.Transferring (Transfers.Download rest)) = refl
-    by (Data.Transferring (Transfers.Listing rest)) = refl
+    by link = refl
 
 -- one that waits asked for no port
 pub waits_unasked : (link : ServerLink Transfer) → waits (wants_of link) ≡ true → is_asked link ≡ false

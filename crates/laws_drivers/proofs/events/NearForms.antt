@@ -215,30 +215,40 @@ starts_closing op n = by (can_be_sent op) n.standing
     by false Stands.User = refl
     by false Stands.Pass = refl
 
--- so does an ABOR
-aborts_closing : (op : Op (List ℕ)) (transfer : Transfer) (n : Near) → (aborts_once_enough (Transferring op transfer) n).closing ≡ n.closing
-aborts_closing op transfer n = by (is_to_abort n.connection op transfer)
-  where
-    by : (aborts : Bool) → (if aborts then sends_abort op transfer n else n).closing ≡ n.closing
-    by true = refl
-    by false = refl
+-- what keeps its wish to close, and whether it has failed
+record KeepsBoth (new old : Near) : Type 0 where
+  closing : new.closing ≡ old.closing
+  standing : new.standing ≡ old.standing
 
--- octets that come keep it
-octet_closing : (octet : ℕ) (n : Near) → (receives_octet n octet).closing ≡ n.closing
-octet_closing octet n = by n.job
+-- so does an ABOR
+aborts_keeps : (op : Op (List ℕ)) (transfer : Transfer) (n : Near) → KeepsBoth (aborts_once_enough (Transferring op transfer) n) n
+aborts_keeps op transfer n = by (is_to_abort n.connection op transfer)
   where
-    by : (job : Job) → (near.heard_by job octet n).closing ≡ n.closing
+    by : (aborts : Bool) → KeepsBoth (if aborts then sends_abort op transfer n else n) n
+    by true = record { closing = refl; standing = refl }
+    by false = record { closing = refl; standing = refl }
+
+-- so does an octet that comes
+octet_keeps : (octet : ℕ) (n : Near) → KeepsBoth (receives_octet n octet) n
+octet_keeps octet n = by n.job
+  where
+    by : (job : Job) → KeepsBoth (near.heard_by job octet n) n
     by (Transferring op transfer) =
         let heard : Transfer = record transfer { flow = heard_flow transfer.abort transfer.flow octet } in
-        aborts_closing op heard (record n { job = Transferring op heard })
-    by Idle = refl
-    by (Waiting op) = refl
-    by (Doing op step) = refl
-    by (Told said) = refl
+        let kept = aborts_keeps op heard (record n { job = Transferring op heard }) in
+        record { closing = kept.closing; standing = kept.standing }
+    by job = record { closing = refl; standing = refl }
+
+-- so do octets
+receives_keeps : (octets : List ℕ) (n : Near) → KeepsBoth (receives n octets) n
+receives_keeps [] n = record { closing = refl; standing = refl }
+receives_keeps (octet ∷ octets) n =
+    let one = octet_keeps octet n in
+    let more = receives_keeps octets (receives_octet n octet) in
+    record { closing = more.closing ∙ one.closing; standing = more.standing ∙ one.standing }
 
 pub receives_closing : (octets : List ℕ) (n : Near) → (receives n octets).closing ≡ n.closing
-receives_closing [] n = refl
-receives_closing (octet ∷ octets) n = receives_closing octets (receives_octet n octet) ∙ octet_closing octet n
+receives_closing octets n = (receives_keeps octets n).closing
 
 -- the link that it dialled is there: its wish to close stays, and whose host is there is of no matter
 pub dialled_closing : (endpoint : Endpoint) (host : Host) (n : Near) → Dialling endpoint n → (data_opened host n).closing ≡ false
@@ -292,29 +302,9 @@ starts_standing op n = by (can_be_sent op) n.standing refl
     by false Stands.User is = refl
     by false Stands.Pass is = refl
 
--- octets that come
-aborts_standing : (op : Op (List ℕ)) (transfer : Transfer) (n : Near) → (aborts_once_enough (Transferring op transfer) n).standing ≡ n.standing
-aborts_standing op transfer n = by (is_to_abort n.connection op transfer)
-  where
-    by : (aborts : Bool) → (if aborts then sends_abort op transfer n else n).standing ≡ n.standing
-    by true = refl
-    by false = refl
-
-octet_standing : (octet : ℕ) (n : Near) → (receives_octet n octet).standing ≡ n.standing
-octet_standing octet n = by n.job
-  where
-    by : (job : Job) → (near.heard_by job octet n).standing ≡ n.standing
-    by (Transferring op transfer) =
-        let heard : Transfer = record transfer { flow = heard_flow transfer.abort transfer.flow octet } in
-        aborts_standing op heard (record n { job = Transferring op heard })
-    by Idle = refl
-    by (Waiting op) = refl
-    by (Doing op step) = refl
-    by (Told said) = refl
-
+-- so do octets that come
 pub receives_standing : (octets : List ℕ) (n : Near) → (receives n octets).standing ≡ n.standing
-receives_standing [] n = refl
-receives_standing (octet ∷ octets) n = receives_standing octets (receives_octet n octet) ∙ octet_standing octet n
+receives_standing octets n = (receives_keeps octets n).standing
 
 -- and the link that it dialled
 pub dialled_standing : (endpoint : Endpoint) (host : Host) (n : Near) → Dialling endpoint n → (data_opened host n).standing ≡ n.standing

@@ -46,13 +46,9 @@ pub record Idling (w : World) : Type 0 where
 
 -- no transfer is under way where nothing is asked for or waits
 pub aside_still : (link : ServerLink Transfer) → is_set_aside link ≡ true → is_transferring link ≡ false
-aside_still FarData.Free is = refl
-aside_still (FarData.Active endpoint) is = refl
-aside_still FarData.Passive is = refl
-aside_still FarData.Ready is = refl
-aside_still (FarData.Asked verb) is = refl
 aside_still (FarData.Opening transfer way) is = absurd (true≢false (sym is))
 aside_still (FarData.Transferring transfer) is = absurd (true≢false (sym is))
+aside_still link is = refl
 
 -- octets are on their way in one direction at most
 pub one_way : (At : Way → World → Type 0) (w : World) → PlacedAt At w → (octet : ℕ) (octets : List ℕ) → w.far.owed ≡ octet ∷ octets → w.control_to_server ≡ []

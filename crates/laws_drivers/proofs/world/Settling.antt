@@ -11,7 +11,7 @@ use Rattle.ftp_server_model.specs.declared.session.ServerLink.{ServerLink}
 use Rattle.ftp_server_model.specs.declared.session.ServerLink.TheVariants as Data
 use Rattle.laws_world.specs.Events.{is_closed_by_near}
 use Rattle.laws_world.specs.Serving.{link_closed_by_far, near_closes}
-use Rattle.laws_world.specs.World.{ClosedByFar, ClosedByNear, Gone, Link, Opened, World, next_listen, port_at}
+use Rattle.laws_world.specs.World.{ClosedByNear, Link, Opened, World, next_listen, port_at}
 use Rattle.laws_drivers.proofs.control.Taken.{taken}
 use Rattle.laws_drivers.specs.world.Ahead.{WorldAhead, Fits, Level, ListenedAhead, Listens, far_world_ahead, is_asked}
 use Rattle.laws_drivers.proofs.world.Ahead.{closed_is}
@@ -48,12 +48,7 @@ next_ahead false port = Level
 
 pub fits_next : (link : ServerLink Transfer) (port : ℕ) → Fits (next_ahead (is_asked link) port) link
 fits_next (Data.Asked verb) port = refl
-fits_next Data.Free port = refl
-fits_next (Data.Active endpoint) port = refl
-fits_next Data.Passive port = refl
-fits_next Data.Ready port = refl
-fits_next (Data.Opening transfer way) port = refl
-fits_next (Data.Transferring transfer) port = refl
+fits_next link port = refl
 
 pub record FarSettles (old new : World) : Type 0 where
   pub near : new.near ≡ old.near
@@ -80,72 +75,34 @@ far_same : (w : World) → is_closed_by_near w.link ≡ false → Same w (far_sh
     × ((far_shut w).listens ≡ w.listens) × ((far_shut w).reports ≡ w.reports)
 far_same w unclosed = by w.far.session.closing refl
   where
-    by_link : (link : Link) → w.link ≡ link → is_closed_by_near link ≡ false → let u : World = link_closed_by_far link (record w { far = close_step w.far }) in
+    same_as : (far : Far) → let u : World = record w { far = far } in Same w u
+    same_as far =
+        record { to_server = refl; to_client = refl; data_to_server = refl; data_to_client = refl; control = refl; marks = refl; cutoff = refl; link = unclosed }
+
+    by_link : (link : Link) → is_closed_by_near link ≡ false → let u : World = link_closed_by_far link (record w { far = close_step w.far }) in
         Same w u × (u.near ≡ w.near) × (u.far ≡ close_step w.far) × (u.listens ≡ w.listens) × (u.reports ≡ w.reports)
-    by_link Gone is one = (
-      record {
-        to_server = refl;
-        to_client = refl;
-        data_to_server = refl;
-        data_to_client = refl;
-        control = refl;
-        marks = refl;
-        cutoff = refl;
-        link = ap is_closed_by_near is;
-      },
-      refl,
-      refl,
-      refl,
-      refl,
-    )
-    by_link Opened is one = (
+    by_link Opened one = (
       record { to_server = refl; to_client = refl; data_to_server = refl; data_to_client = refl; control = refl; marks = refl; cutoff = refl; link = refl },
       refl,
       refl,
       refl,
       refl,
     )
-    by_link ClosedByFar is one = (
-      record {
-        to_server = refl;
-        to_client = refl;
-        data_to_server = refl;
-        data_to_client = refl;
-        control = refl;
-        marks = refl;
-        cutoff = refl;
-        link = ap is_closed_by_near is;
-      },
-      refl,
-      refl,
-      refl,
-      refl,
-    )
-    by_link ClosedByNear is one = absurd (true≢false one)
+    by_link ClosedByNear one = absurd (true≢false one)
+    by_link link one = (same_as (close_step w.far), refl, refl, refl, refl)
 
     by : (closing : Bool) → w.far.session.closing ≡ closing
         → let u : World = (if closing then link_closed_by_far w.link (record w { far = close_step w.far }) else w) in
         Same w u × (u.near ≡ w.near) × (u.far ≡ close_step w.far) × (u.listens ≡ w.listens) × (u.reports ≡ w.reports)
-    by false is = (
-      record { to_server = refl; to_client = refl; data_to_server = refl; data_to_client = refl; control = refl; marks = refl; cutoff = refl; link = unclosed },
-      refl,
-      sym (closed_is w.far is),
-      refl,
-      refl,
-    )
-    by true is = by_link w.link refl unclosed
+    by false is = (same_as w.far, refl, sym (closed_is w.far is), refl, refl)
+    by true is = by_link w.link unclosed
 
 -- then it is told a port, if it wants one
 told_ahead : (link : ServerLink Transfer) (port : ℕ) (v : Far)
     → (if is_asked link then listening_step port (close_step (at link v)) else close_step (at link v)) ≡ far_world_ahead (next_ahead (is_asked link) port) (at link v)
 told_ahead (Data.Asked Asking.Pasv) port v = refl
 told_ahead (Data.Asked Asking.Epsv) port v = refl
-told_ahead Data.Free port v = refl
-told_ahead (Data.Active endpoint) port v = refl
-told_ahead Data.Passive port v = refl
-told_ahead Data.Ready port v = refl
-told_ahead (Data.Opening transfer way) port v = refl
-told_ahead (Data.Transferring transfer) port v = refl
+told_ahead link port v = refl
 
 -- a port is told or not
 told_same : (w : World) → is_closed_by_near w.link ≡ false → Same w (far_told w) × ((far_told w).near ≡ w.near)
