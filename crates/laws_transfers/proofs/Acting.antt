@@ -29,13 +29,9 @@ is_acting link = false
 
 -- none that is set aside does so
 pub aside_idle : (link : ServerLink Transfer) → is_set_aside link ≡ true → is_acting link ≡ false
-aside_idle Data.Free is = refl
-aside_idle (Data.Active endpoint) is = refl
-aside_idle Data.Passive is = refl
-aside_idle Data.Ready is = refl
-aside_idle (Data.Asked verb) is = refl
 aside_idle (Data.Opening transfer way) is = absurd (true≢false (sym is))
 aside_idle (Data.Transferring transfer) is = absurd (true≢false (sym is))
+aside_idle link is = refl
 
 -- one that does not takes none of an upload, and gives none
 pub idle_rests : (link : ServerLink Transfer) → is_acting link ≡ false → (is_upload link ≡ false) × (is_giving link ≡ false)

@@ -75,12 +75,7 @@ next_whole false port = refl
 
 pub fits_next : (link : ServerLink Transfer) (port : ℕ) → Fits (next_ahead (is_asked link) port) link
 fits_next (Data.Asked verb) port = refl
-fits_next Data.Free port = refl
-fits_next (Data.Active endpoint) port = refl
-fits_next Data.Passive port = refl
-fits_next Data.Ready port = refl
-fits_next (Data.Opening transfer way) port = refl
-fits_next (Data.Transferring transfer) port = refl
+fits_next link port = refl
 
 -- that is no other than where files are fetched alone
 far_next : (asked : Bool) (port : ℕ) (v : Far) → plainly.far_world_ahead (settling.next_ahead asked port) v ≡ far_ahead (next_ahead asked port) v

@@ -242,13 +242,7 @@ module _ (read : Reading) (orders : List Order) (server : Stand server_side) (ol
     where
       not_receive : (q : Wants) → q ≢ Want.Receive → is_receive q ≡ false
       not_receive Want.Receive none = absurd (none refl)
-      not_receive Want.Nothing none = refl
-      not_receive Want.Listen none = refl
-      not_receive Want.Accept none = refl
-      not_receive (Want.Connect endpoint) none = refl
-      not_receive Want.Send none = refl
-      not_receive Want.CloseData none = refl
-      not_receive Want.CloseAll none = refl
+      not_receive wants none = refl
 
   -- octets are written
   pub client_wrote : (octets : List ℕ) (moment : ℕ) (ahead : Ahead) (between next : Between) (told : ℕ)

@@ -4,7 +4,7 @@ use Rattle.std.specs.Prelude.{if◌then◌else◌}
 use Rattle.ftp_direct.specs.declared.refusal.Refusal.{Refusal}
 use Rattle.ftp_ends.specs.declared.link.Wants.{Wants}
 use Rattle.ftp_ends.specs.declared.link.Wants.TheVariants as Want
-use Rattle.ftp_mode.specs.Said.{Said, marker, says}
+use Rattle.ftp_mode.specs.Said.{Said, says}
 use Rattle.ftp_mode.specs.declared.fault.FrameFault.{FrameFault}
 use Rattle.ftp_path.specs.Path.{Names}
 use Rattle.ftp_wire.specs.Decoder.{broken, ended, fault_of, is_whole, octet_says, read_on}
@@ -31,17 +31,9 @@ is_receive other = false
 
 -- it wants octets just of an upload
 pub receives_upload : (link : ServerLink Transfer) → is_receive (wants_of link) ≡ is_upload link
-receives_upload Data.Free = refl
-receives_upload (Data.Asked verb) = refl
-receives_upload (Data.Active endpoint) = refl
-receives_upload Data.Passive = refl
-receives_upload Data.Ready = refl
 receives_upload (Data.Opening transfer Ways.Accept) = refl
-receives_upload (Data.Opening transfer (Ways.Connect endpoint)) = refl
-receives_upload (Data.Transferring (Transfers.Upload path keep d)) = refl
 receives_upload (Data.Transferring Transfers.OverLimit) = refl
-receives_upload (Data.Transferring (Transfers.Download rest)) = refl
-receives_upload (Data.Transferring (Transfers.Listing rest)) = refl
+receives_upload link = refl
 
 -- one that is not open takes none
 pub shut_untaken : (link : ServerLink Transfer) → is_open link ≡ false → is_upload link ≡ false
@@ -79,16 +71,7 @@ record Beside (f : Far → Far) (v : Far) : Type 0 where
 
 said_beside : (link : ServerLink Transfer) (said : Said) (v : Far) → Beside (λ f. takes_said link said f) v
 said_beside (Data.Transferring (Transfers.Upload path keep d)) (says sign) v = record { clock = λ moment. refl; waiting = refl }
-said_beside (Data.Transferring (Transfers.Upload path keep d)) (marker text) v = record { clock = λ moment. refl; waiting = refl }
-said_beside (Data.Transferring Transfers.OverLimit) said v = record { clock = λ moment. refl; waiting = refl }
-said_beside (Data.Transferring (Transfers.Download rest)) said v = record { clock = λ moment. refl; waiting = refl }
-said_beside (Data.Transferring (Transfers.Listing rest)) said v = record { clock = λ moment. refl; waiting = refl }
-said_beside Data.Free said v = record { clock = λ moment. refl; waiting = refl }
-said_beside (Data.Asked verb) said v = record { clock = λ moment. refl; waiting = refl }
-said_beside (Data.Active endpoint) said v = record { clock = λ moment. refl; waiting = refl }
-said_beside Data.Passive said v = record { clock = λ moment. refl; waiting = refl }
-said_beside Data.Ready said v = record { clock = λ moment. refl; waiting = refl }
-said_beside (Data.Opening transfer way) said v = record { clock = λ moment. refl; waiting = refl }
+said_beside link said v = record { clock = λ moment. refl; waiting = refl }
 
 all_beside : (said : List Said) (v : Far) → Beside (λ f. takes_all said f) v
 all_beside [] v = record { clock = λ moment. refl; waiting = refl }
@@ -105,15 +88,7 @@ data_beside (Data.Transferring (Transfers.Upload path keep d)) octet v = by (fau
         let on = all_beside (octet_says d octet) (far.with_connection (Data.Transferring (Transfers.Upload path keep (read_on d octet))) v) in
         record { clock = on.clock; waiting = on.waiting }
     by (Some fault) = record { clock = λ moment. refl; waiting = refl }
-data_beside (Data.Transferring Transfers.OverLimit) octet v = record { clock = λ moment. refl; waiting = refl }
-data_beside (Data.Transferring (Transfers.Download rest)) octet v = record { clock = λ moment. refl; waiting = refl }
-data_beside (Data.Transferring (Transfers.Listing rest)) octet v = record { clock = λ moment. refl; waiting = refl }
-data_beside Data.Free octet v = record { clock = λ moment. refl; waiting = refl }
-data_beside (Data.Asked verb) octet v = record { clock = λ moment. refl; waiting = refl }
-data_beside (Data.Active endpoint) octet v = record { clock = λ moment. refl; waiting = refl }
-data_beside Data.Passive octet v = record { clock = λ moment. refl; waiting = refl }
-data_beside Data.Ready octet v = record { clock = λ moment. refl; waiting = refl }
-data_beside (Data.Opening transfer way) octet v = record { clock = λ moment. refl; waiting = refl }
+data_beside link octet v = record { clock = λ moment. refl; waiting = refl }
 
 octet_beside : (octet : ℕ) (v : Far) → v.waiting ≡ None → Beside (λ f. receives_octet f octet) v
 unfolding receives_octet

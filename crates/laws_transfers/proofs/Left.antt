@@ -136,19 +136,13 @@ spare_still : (link : ServerLink Transfer) → is_spare link ≡ true → is_tra
 spare_still Data.Free spare = refl
 spare_still Data.Passive spare = refl
 spare_still Data.Ready spare = refl
-spare_still (Data.Active endpoint) spare = absurd (true≢false (sym spare))
-spare_still (Data.Asked verb) spare = absurd (true≢false (sym spare))
-spare_still (Data.Opening transfer way) spare = absurd (true≢false (sym spare))
-spare_still (Data.Transferring transfer) spare = absurd (true≢false (sym spare))
+spare_still link spare = absurd (true≢false (sym spare))
 
 spare_idle : (link : ServerLink Transfer) → is_spare link ≡ true → is_connection_busy link ≡ false
 spare_idle Data.Free spare = refl
 spare_idle Data.Passive spare = refl
 spare_idle Data.Ready spare = refl
-spare_idle (Data.Active endpoint) spare = absurd (true≢false (sym spare))
-spare_idle (Data.Asked verb) spare = absurd (true≢false (sym spare))
-spare_idle (Data.Opening transfer way) spare = absurd (true≢false (sym spare))
-spare_idle (Data.Transferring transfer) spare = absurd (true≢false (sym spare))
+spare_idle link spare = absurd (true≢false (sym spare))
 
 -- a line waits, or is acted on
 abbrev acts : Bool → HeardLine (List ℕ) → ServerLink Transfer → Far → Far

@@ -2,7 +2,7 @@
 -- way to the client still.
 use Rattle.std.proofs.Common.{◌≡◌, ◌⊎◌, inl, inr, ℕ, Bool, true, false, List, [], ◌++◌, Some, None, refl, sym, ap, subst, ◌∙◌, append_assoc}
 use Rattle.laws_drivers.specs.control.Between.{Awaits, Between, Can, Far, Has, Has_ended, Has_lost, Hold, IsOver, IsStanding, Is_called, Near, Who, coming_to, dialled, sent, with_coming, with_hold}
-use Rattle.laws_drivers.specs.control.Touches.{Accepts, Dials, Ends, IsDenied, IsMissed, Listens, None_of_it, Parts, Reads, Resets, Says, Takes, ToldBreak, ToldEnd, Touch, Writes}
+use Rattle.laws_drivers.specs.control.Touches.{Accepts, Dials, Ends, Listens, Reads, Resets, Says, Takes, ToldBreak, ToldEnd, Touch, Writes}
 use Rattle.laws_drivers.proofs.events.Holding.{both, is_had}
 
 -- an end that stands so to a data connection has reset it or was told that it broke, or has none since
@@ -143,11 +143,7 @@ module _ (p q s : Between) (seen : IsSeen p s) where
   -- ---- the server
 
   pub far_done : (touch : Touch) → Can Far touch p q → DoneThere Far touch s q
-  far_done None_of_it can = record { after = s; can = refl; is_seen = same_there can }
-  far_done Parts can = record { after = s; can = refl; is_seen = same_there can }
   far_done (Listens None) can = record { after = s; can = refl; is_seen = same_there can }
-  far_done (IsDenied endpoint) can = record { after = s; can = refl; is_seen = same_there can }
-  far_done IsMissed can = record { after = s; can = refl; is_seen = same_there can }
   far_done (Says octets) can = says_there Far octets can
   far_done (Reads octets) can = reads_there Far octets can
   far_done (Listens (Some port)) can = record {
@@ -205,6 +201,7 @@ module _ (p q s : Between) (seen : IsSeen p s) where
     can = (seen.far ∙ can.0, refl);
     is_seen = far_there Has_lost can.1 (λ e. refl);
   }
+  far_done touch can = record { after = s; can = refl; is_seen = same_there can }
 
   -- ---- the client
 
@@ -235,11 +232,7 @@ module _ (p q s : Between) (seen : IsSeen p s) where
   }
 
   pub near_done : (touch : Touch) → Can Near touch p q → DoneThere Near touch s q
-  near_done None_of_it can = record { after = s; can = refl; is_seen = same_there can }
-  near_done Parts can = record { after = s; can = refl; is_seen = same_there can }
   near_done (Listens None) can = record { after = s; can = refl; is_seen = same_there can }
-  near_done (IsDenied endpoint) can = record { after = s; can = refl; is_seen = same_there can }
-  near_done IsMissed can = record { after = s; can = refl; is_seen = same_there can }
   near_done (Says octets) can = says_there Near octets can
   near_done (Reads octets) can = reads_there Near octets can
   near_done (Listens (Some port)) can = record {
@@ -284,6 +277,7 @@ module _ (p q s : Between) (seen : IsSeen p s) where
     is_seen = same_there can.2;
   }
   near_done ToldBreak can = record { after = with_hold Near Has_lost s; can = (seen.near ∙ can.0, refl); is_seen = near_there Has_lost can.1 (λ e. refl) }
+  near_done touch can = record { after = s; can = refl; is_seen = same_there can }
 
   -- the server resets one of which octets are unwritten; of one that it does not have, none are
   pub resets_losing : (octets : List ℕ) → (is_had p.far ≡ false → octets ≡ []) → Can Far Resets p q → IsSeen q (with_lost octets (with_hold Far Has_lost s))

@@ -25,7 +25,7 @@ use Rattle.laws_dialogues.specs.Stage.{Answering, Asking, Way}
 use Rattle.laws_agreement.specs.Cut.{Cut, PlacedAt, of_ends, world_at}
 use Rattle.laws_agreement.specs.Follows.{Follows, IsUnlinked, Phase}
 use Rattle.laws_agreement.specs.Over.{OverRuns}
-use Rattle.laws_agreement.specs.Rising.{Lift, Settled, Rising, Risen, Offered, Declined, Unjoined}
+use Rattle.laws_agreement.specs.Rising.{Lift, Offered}
 use Rattle.laws_agreement.specs.Runs.{AtClosed, IsFetching, IsFetchingOn, IsHalting, IsHaltingOn, IsTrailing}
 use Rattle.laws_agreement.specs.Stages.{AtFetch, Carries, Holds, Rises, Stage}
 use Rattle.laws_agreement.proofs.Deliveries.{pushed_client as still_heard, pushed_server as still_told}
@@ -82,11 +82,7 @@ module _ (read : Reading) (state : State) (ask : Ask) (good : IsAsk ask) (own : 
 
       by_lift : (rise : Rise) (lift : Lift) → Holds state ask own (Rises rise lift) s.way s.base → is_sound s.base.near.standing ≡ true
       by_lift rise Offered h = ap (λ (n : Near). is_sound n.standing) h.near
-      by_lift rise (Rising past octet more came queue mark notes) h = ap (λ (n : Near). is_sound n.standing) h.near
-      by_lift rise (Risen past closed came queue mark notes) h = ap (λ (n : Near). is_sound n.standing) h.near
-      by_lift rise (Settled begun mark notes fate left after) h = ap (λ (n : Near). is_sound n.standing) h.near
-      by_lift rise (Declined why door) h = ap (λ (n : Near). is_sound n.standing) h.near
-      by_lift rise Unjoined h = ap (λ (n : Near). is_sound n.standing) h.near
+      by_lift rise lift h = ap (λ (n : Near). is_sound n.standing) h.near
 
       by_stage : (stage : Stage) → Holds state ask own stage s.way s.base → is_sound s.base.near.standing ≡ true
       by_stage (Rises rise lift) h = by_lift rise lift h
@@ -105,11 +101,7 @@ module _ (read : Reading) (state : State) (ask : Ask) (good : IsAsk ask) (own : 
 
       by_lift : (rise : Rise) (lift : Lift) → Holds state ask own (Rises rise lift) s.way s.base → is_unaborted s.base.near.job ≡ true
       by_lift rise Offered h = ap (λ (n : Near). is_unaborted n.job) h.near
-      by_lift rise (Rising past octet more came queue mark notes) h = ap (λ (n : Near). is_unaborted n.job) h.near
-      by_lift rise (Risen past closed came queue mark notes) h = ap (λ (n : Near). is_unaborted n.job) h.near
-      by_lift rise (Settled begun mark notes fate left after) h = ap (λ (n : Near). is_unaborted n.job) h.near
-      by_lift rise (Declined why door) h = ap (λ (n : Near). is_unaborted n.job) h.near
-      by_lift rise Unjoined h = ap (λ (n : Near). is_unaborted n.job) h.near
+      by_lift rise lift h = ap (λ (n : Near). is_unaborted n.job) h.near
 
       by_stage : (stage : Stage) → Holds state ask own stage s.way s.base → is_unaborted s.base.near.job ≡ true
       by_stage (Rises rise lift) h = by_lift rise lift h

@@ -226,13 +226,7 @@ module _ (read : Reading) (orders : List Order) (old new : Stand server_side) (c
     where
       not_receive : (q : Wants) → q ≢ Want.Receive → is_receive q ≡ false
       not_receive Want.Receive none = absurd (none refl)
-      not_receive Want.Nothing none = refl
-      not_receive Want.Listen none = refl
-      not_receive Want.Accept none = refl
-      not_receive (Want.Connect endpoint) none = refl
-      not_receive Want.Send none = refl
-      not_receive Want.CloseData none = refl
-      not_receive Want.CloseAll none = refl
+      not_receive wants none = refl
 
       untaken : (closing : Bool) → v.session.closing ≡ closing → is_upload v.session.connection ≡ false
       untaken true is = shut_untaken v.session.connection (t.holds.shut is)
