@@ -38,7 +38,7 @@ use Rattle.laws_agreement.specs.PeekStages.{AtHalt, halt_tie}
 use Rattle.laws_agreement.specs.Runs.{IsFetching, IsFetchingOn, IsHalting}
 use Rattle.laws_agreement.specs.Over.{OverRuns}
 use Rattle.laws_agreement.specs.Rising.{Closing, Declined, Door, Lift, Offered, Risen, Rising, Settled, Shut, Unjoined, Vanished, door_near}
-use Rattle.laws_agreement.specs.Stages.{Answers, AtFetch, Awaits, Carries, Dials, Dismissed, Early, Dialled, Holds, PortAsked, PortDenied, PortSaid, PortTaken, PortTold, PortWanted, Ported, Restarts, Retrieves, Rises, Tells, Tie, Joined, Parting, Left, Over, Unaccepted, early_near, near_link, tie_of}
+use Rattle.laws_agreement.specs.Stages.{Answers, AtFetch, Awaits, Carries, Dials, Dismissed, Early, Dialled, Holds, PortAsked, PortDenied, PortSaid, PortTaken, PortTold, PortWanted, Ported, Restarts, Retrieves, Rises, Tells, Tie, Joined, Unaccepted, early_near, near_link, tie_of}
 use Rattle.laws_agreement.proofs.Deliveries.{pushed_client as still_heard}
 use Rattle.laws_agreement.proofs.FetchRuns.{OnOrHalted, pushed_client, serving_first}
 use Rattle.laws_agreement.proofs.FetchServed.{leads_still}
@@ -73,9 +73,7 @@ pub record Asks (w : World) : Type 0 where
 
 tie_portless : (tie : Tie) → wants_port (near_link tie) ≡ false
 tie_portless Joined = refl
-tie_portless Parting = refl
-tie_portless Left = refl
-tie_portless (Over ending) = refl
+tie_portless tie = refl
 
 early_portless : (early : Early) → wants_port (early_near early) ≡ false
 early_portless (Dialled true) = refl

@@ -105,12 +105,7 @@ quiet_apart action at is e = absurd is
 -- a server that takes octets is at a transfer
 lifts_busy : (link : ServerLink Transfer) → is_upload link ≡ true → is_transferring link ≡ true
 lifts_busy (Data.Transferring transfer) e = refl
-lifts_busy Data.Free e = absurd (true≢false (sym e))
-lifts_busy (Data.Asked verb) e = absurd (true≢false (sym e))
-lifts_busy (Data.Active endpoint) e = absurd (true≢false (sym e))
-lifts_busy Data.Passive e = absurd (true≢false (sym e))
-lifts_busy Data.Ready e = absurd (true≢false (sym e))
-lifts_busy (Data.Opening transfer way) e = absurd (true≢false (sym e))
+lifts_busy link e = absurd (true≢false (sym e))
 
 -- one that owes these
 abbrev owing : List ℕ → Far → Far
