@@ -152,6 +152,19 @@ IsFew op d = (mark : Option ℕ) → has_settled (count_of op) (Receiving d mark
 pub all_few : (op : Op (List ℕ)) → count_of op ≡ None → (d : Decoder) → IsFew op d
 all_few op all d mark = ap (λ c. has_settled c (Receiving d mark)) all
 
+-- one that has its answer, whatever was read
+pub read_over : (op : Op (List ℕ)) (read : Option Said) (v : View) → v.standing ≡ Stands.Entered → v.run ≡ None → (transfer : Transfer)
+    → v.job ≡ Transferring op transfer → IsOver (finishes_read read v)
+read_over op read v standing run transfer job =
+    subst (λ w. IsOver (finishes_read read w)) (λ i. record v { standing = sym standing i; run = sym run i; job = sym job i }) (by read)
+  where
+    at : View
+    at = record v { standing = Stands.Entered; run = None; job = Transferring op transfer }
+
+    by : (read : Option Said) → IsOver (finishes_read read at)
+    by None = record { told = refl; late = refl }
+    by (Some answer) = record { told = refl; late = refl }
+
 module _ (op : Op (List ℕ)) where
   abbrev pub down : Replied → Decoder → Option ℕ → View → View
   down replied d mark n = downloading op replied d mark n
@@ -253,19 +266,6 @@ module _ (op : Op (List ℕ)) where
   abbrev pub Turns : (View → View) → Replied → View → Type 0
   Turns does replied n = ((d : Decoder) → IsFew op d → (mark : Option ℕ) → IsOver (does (down replied d mark n))) ⊎ Goes does replied n
 
-  -- one that has its answer, whatever was read
-  read_over : (read : Option Said) (v : View) → v.standing ≡ Stands.Entered → v.run ≡ None → (transfer : Transfer) → v.job ≡ Transferring op transfer
-      → IsOver (finishes_read read v)
-  read_over read v standing run transfer job =
-      subst (λ w. IsOver (finishes_read read w)) (λ i. record v { standing = sym standing i; run = sym run i; job = sym job i }) (by read)
-    where
-      at : View
-      at = record v { standing = Stands.Entered; run = None; job = Transferring op transfer }
-
-      by : (read : Option Said) → IsOver (finishes_read read at)
-      by None = record { told = refl; late = refl }
-      by (Some answer) = record { told = refl; late = refl }
-
   -- a 110 is of no matter to a download
   marked_none : (read : Option ℕ) (d : Decoder) (mark : Option ℕ) → marked_flow read (Receiving d mark) ≡ Receiving d mark
   marked_none None d mark = refl
@@ -296,7 +296,7 @@ module _ (op : Op (List ℕ)) where
   reply_turns Completion code texts Replies.Nothing n = inl (λ d few mark. record { told = refl; late = refl })
   reply_turns Intermediate code texts Replies.Nothing n = inl (λ d few mark. record { told = refl; late = refl })
   reply_turns Negative code texts Replies.Nothing n =
-      inl (λ d few mark. read_over (judged Endings.Ours Aborts.Unsent code op (Receiving d mark))
+      inl (λ d few mark. read_over op (judged Endings.Ours Aborts.Unsent code op (Receiving d mark))
       (record (down (Replies.Final code) d mark n) { connection = Data.Over Endings.Ours; closing = true }) refl refl (so_far (Replies.Final code) d mark) refl)
   reply_turns Preliminary code texts Replies.Begun n = by (code == MARK) refl
     where

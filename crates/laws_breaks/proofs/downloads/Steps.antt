@@ -127,11 +127,11 @@ module _ (read : Reading) (reads : IsReading read) (moments : ℕ → ℕ) (time
       )
 
   -- where it begins and reports nothing
-  pub both_again : (actions : List (Action client_side)) {between : Between} {count : ℕ} {server : Stand server_side} {old : Stand client_side}
-      (o : At actions between count server old) (marks : List (List Mark)) (next : Between) (told : Stand server_side) (new : Stand client_side)
-      → GoesTo read [] (begun_at moments actions) next count told new (reports_in actions ++ []) marks o.world → ServerServes told.owner
-      → is_sound new.owner.end.view.standing ≡ true → IsPlainly new.owner.end.view → StaysFresh next new → Again actions next count told new marks
-  both_again actions {between} {count} {server} {old} o marks next told new went serves sound plain fresh =
+  pub went_again : (actions : List (Action client_side)) {between : Between} {count : ℕ} {server : Stand server_side} {old : Stand client_side}
+      (o : At actions between count server old) (marks : List (List Mark)) (next : Between) (after : ℕ) (told : Stand server_side) (new : Stand client_side)
+      → GoesTo read [] (begun_at moments actions) next after told new (reports_in actions) marks o.world → ServerServes told.owner
+      → is_sound new.owner.end.view.standing ≡ true → IsPlainly new.owner.end.view → StaysFresh next new → Again actions next after told new marks
+  went_again actions {between} {count} {server} {old} o marks next after told new went serves sound plain fresh =
       let begun : List Order = begun_at moments actions in (
         record {
           world = went.world;
@@ -139,8 +139,7 @@ module _ (read : Reading) (reads : IsReading read) (moments : ℕ → ℕ) (time
               (leads_then read begun [] (world_of b) o.world went.world o.leads went.leads);
           last = went.moment;
           ahead = went.ahead;
-          together = subst (λ (r : List Said). Together read begun went.moment went.ahead next count told new r went.world) (append-nil (reports_in actions))
-              went.together;
+          together = went.together;
           serves = serves;
           plain = plain;
           sound = sound;
@@ -148,6 +147,15 @@ module _ (read : Reading) (reads : IsReading read) (moments : ℕ → ℕ) (time
         },
         went.marked,
       )
+
+  pub both_again : (actions : List (Action client_side)) {between : Between} {count : ℕ} {server : Stand server_side} {old : Stand client_side}
+      (o : At actions between count server old) (marks : List (List Mark)) (next : Between) (told : Stand server_side) (new : Stand client_side)
+      → GoesTo read [] (begun_at moments actions) next count told new (reports_in actions ++ []) marks o.world → ServerServes told.owner
+      → is_sound new.owner.end.view.standing ≡ true → IsPlainly new.owner.end.view → StaysFresh next new → Again actions next count told new marks
+  both_again actions {between} {count} {server} {old} o marks next told new went serves sound plain fresh =
+      went_again actions o marks next count told new
+      (subst (λ (r : List Said). GoesTo read [] (begun_at moments actions) next count told new r marks o.world) (append-nil (reports_in actions)) went)
+      serves sound plain fresh
 
   -- and its server is as before
   pub same_again : (actions : List (Action client_side)) {between : Between} {count : ℕ} {server : Stand server_side} {old : Stand client_side}
@@ -195,21 +203,7 @@ module _ (read : Reading) (reads : IsReading read) (moments : ℕ → ℕ) (time
       → Goes read [] (begun_at moments actions) q (listened_in (action ∷ before)) new client (reports_in actions) o.world → ServerServes new.owner
       → Again actions q (listened_in (action ∷ before)) new client o.world.marks
   served action old new actions before p q client fresh o went serves =
-      let begun : List Order = begun_at moments actions in (
-        record {
-          world = went.world;
-          leads = subst (λ l. LeadsOn read l (world_of b) went.world) (append-nil begun)
-              (leads_then read begun [] (world_of b) o.world went.world o.leads went.leads);
-          last = went.moment;
-          ahead = went.ahead;
-          together = went.together;
-          serves = serves;
-          plain = o.plain;
-          sound = o.sound;
-          fresh = fresh;
-        },
-        went.marked,
-      )
+      went_again actions o o.world.marks q (listened_in (action ∷ before)) new client went serves o.sound o.plain fresh
 
   -- a write of the server's data connection fails: it is told of nothing
   server_failed : (old new : Stand server_side) → ServerIsCalm old.owner new.owner → (actions : List (Action client_side)) → AreCarried (begun_at moments actions)

@@ -265,27 +265,11 @@ module _ (start : Stand server_side) (n : ℕ) (taking : IsTaking start.owner) (
 -- so many were read where a decoder stands there, and there alone
 read_at : (link : ServerLink FarTransfer) (n : ℕ) → HasReadUp link (counted n) → UpAt link n
 read_at (Data.Transferring (Transfers.Upload path keep d)) n has = subst (λ r. IsAt r n) (sym has.1) refl
-read_at (Data.Transferring Transfers.OverLimit) n has = tt
-read_at (Data.Transferring (Transfers.Download rest)) n has = tt
-read_at (Data.Transferring (Transfers.Listing rest)) n has = tt
-read_at Data.Free n has = tt
-read_at (Data.Asked verb) n has = tt
-read_at (Data.Active endpoint) n has = tt
-read_at Data.Passive n has = tt
-read_at Data.Ready n has = tt
-read_at (Data.Opening transfer way) n has = tt
+read_at link n has = tt
 
 at_read : (link : ServerLink FarTransfer) (n after : ℕ) → UpAt link n → HasReadUp link after → after ≡ counted n
 at_read (Data.Transferring (Transfers.Upload path keep d)) n after at has = subst (λ r. IsAt r n) has.1 at
-at_read (Data.Transferring Transfers.OverLimit) n after at has = absurd has
-at_read (Data.Transferring (Transfers.Download rest)) n after at has = absurd has
-at_read (Data.Transferring (Transfers.Listing rest)) n after at has = absurd has
-at_read Data.Free n after at has = absurd has
-at_read (Data.Asked verb) n after at has = absurd has
-at_read (Data.Active endpoint) n after at has = absurd has
-at_read Data.Passive n after at has = absurd has
-at_read Data.Ready n after at has = absurd has
-at_read (Data.Opening transfer way) n after at has = absurd has
+at_read link n after at has = absurd has
 
 pub uploads_are_counted : UploadsAreCounted
 uploads_are_counted actions start now led taking takes before after had has =

@@ -100,14 +100,7 @@ passed_idle state job came passed = passed
 pub came_idle : (link : ServerLink Transfer) (state : State) (job : Job) (came : ℕ) → CameOver link state (idle_of job) came → CameOver link state job came
 came_idle (Data.Transferring (Transfers.Upload path keep d)) state job came is = is
 came_idle (Data.Transferring Transfers.OverLimit) state job came is = passed_idle state job came is
-came_idle (Data.Transferring (Transfers.Download rest)) state job came is = absurd is
-came_idle (Data.Transferring (Transfers.Listing rest)) state job came is = absurd is
-came_idle Data.Free state job came is = absurd is
-came_idle (Data.Asked verb) state job came is = absurd is
-came_idle (Data.Active endpoint) state job came is = absurd is
-came_idle Data.Passive state job came is = absurd is
-came_idle Data.Ready state job came is = absurd is
-came_idle (Data.Opening transfer way) state job came is = absurd is
+came_idle link state job came is = absurd is
 
 -- nor is how far its transfer is
 pub came_any : (link : ServerLink Transfer) (state : State) (op : Op (List ℕ)) (now then : Running) (came : ℕ)

@@ -49,14 +49,7 @@ transfer_refuses moment (Transfers.Upload path keep d) s = off (is_overtaken kee
   where
     by_why : (why : Refusal) → verdict_of (fixed_reply_code (refusal_text why)) ≡ Negative
     by_why Refusals.LocalFault = refl
-    by_why Refusals.NoRoom = refl
-    by_why Refusals.BadArgument = refl
-    by_why Refusals.BadParameter = refl
-    by_why Refusals.NotLoggedIn = refl
-    by_why Refusals.Unavailable = refl
-    by_why Refusals.NotAllowed = refl
-    by_why Refusals.TooMuch = refl
-    by_why Refusals.BadName = refl
+    by_why why = refl
 
     by : (why : Option Refusal) → verdict_of (fixed_reply_code (ends_by why moment path keep (broken d).content Texts.Broken s).1) ≡ Negative
     by None = refl

@@ -28,9 +28,9 @@ use Rattle.ftp_client_model.specs.declared.client.Ending.TheVariants as Endings
 use Rattle.ftp_client_model.specs.declared.client.Replied.{Replied}
 use Rattle.ftp_client_model.specs.declared.client.Replied.TheVariants as Replies
 use Rattle.ftp_client_model.specs.declared.client.Standing.TheVariants as Stands
-use Rattle.laws_breaks.proofs.downloads.Late.{IsOver, hears_over}
+use Rattle.laws_breaks.proofs.downloads.Late.{IsOver, hears_over, read_over}
 use Rattle.laws_breaks.specs.uploads.Late.{UploadsGiveLate, uploading}
-use Rattle.laws_breaks.proofs.uploads.Late.{goes_open, marked_next, next_mark, over_sends, read_over}
+use Rattle.laws_breaks.proofs.uploads.Late.{goes_open, marked_next, next_mark, over_sends}
 
 module _ (op : Op (List ℕ)) (all : count_of op ≡ None) where
   abbrev up : ℕ → List ℕ → Replied → Option ℕ → View → View
@@ -145,7 +145,7 @@ module _ (op : Op (List ℕ)) (all : count_of op ≡ None) where
   reply_turns Completion code texts Replies.Nothing mark n = inl (λ octet more. record { told = refl; late = refl })
   reply_turns Intermediate code texts Replies.Nothing mark n = inl (λ octet more. record { told = refl; late = refl })
   reply_turns Negative code texts Replies.Nothing mark n =
-      inl (λ octet more. read_over op all octet more (judged Endings.Ours Aborts.Unsent code op (Sending (octet ∷ more) mark))
+      inl (λ octet more. read_over op (judged Endings.Ours Aborts.Unsent code op (Sending (octet ∷ more) mark))
       (record (up octet more (Replies.Final code) mark n) { connection = Data.Over Endings.Ours; closing = true }) refl refl
       (so_far (octet ∷ more) (Replies.Final code) mark) refl)
   reply_turns Preliminary code texts Replies.Begun mark n = by (code == MARK) refl

@@ -6,7 +6,6 @@ use Rattle.ftp_ends.proofs.EventLemmas.{out_one}
 use Rattle.ftp_ends.specs.Reply.{reply_limit}
 use Rattle.ftp_ends.specs.declared.link.Wants.TheVariants as Want
 use Rattle.ftp_nvt.specs.Lines.{NvtEvent, line, owed, too_long}
-use Rattle.ftp_operation.specs.Answer.{Said}
 use Rattle.ftp_operation.specs.declared.op.Op.{Op}
 use Rattle.ftp_reply.specs.Lines.{Text, joined}
 use Rattle.ftp_reply.specs.Reader.{Between, Faulty, Gathered, GoesOn, Heard, Says, line_heard}
@@ -23,8 +22,7 @@ use Rattle.ftp_client_model.specs.declared.client.ClientLink.TheVariants as Data
 use Rattle.ftp_client_model.specs.declared.client.Ending.TheVariants as Endings
 use Rattle.ftp_client_model.specs.declared.client.Replied.{Replied}
 use Rattle.ftp_client_model.specs.declared.client.Replied.TheVariants as Replies
-use Rattle.ftp_client_model.specs.declared.client.Standing.TheVariants as Stands
-use Rattle.laws_breaks.proofs.downloads.Late.{IsOver, hears_over, is_moving, judges, over, over_moves}
+use Rattle.laws_breaks.proofs.downloads.Late.{IsOver, hears_over, is_moving, judges, over, over_moves, read_over}
 use Rattle.laws_breaks.specs.uploads.Late.{UploadsBreakLate, uploading}
 
 -- ---- one that has its answer gives no octets
@@ -121,19 +119,6 @@ module _ (op : Op (List ℕ)) (all : count_of op ≡ None) (first : ℕ) (more :
   abbrev Turns : (View → View) → Replied → Option ℕ → View → Type 0
   Turns does replied mark n = IsOver (does (up replied mark n)) ⊎ Goes does replied mark n
 
-  -- one that has its answer, whatever was read
-  pub read_over : (read : Option Said) (v : View) → v.standing ≡ Stands.Entered → v.run ≡ None → (transfer : Transfer) → v.job ≡ Transferring op transfer
-      → IsOver (finishes_read read v)
-  read_over read v standing run transfer job =
-      subst (λ w. IsOver (finishes_read read w)) (λ i. record v { standing = sym standing i; run = sym run i; job = sym job i }) (by read)
-    where
-      at : View
-      at = record v { standing = Stands.Entered; run = None; job = Transferring op transfer }
-
-      by : (read : Option Said) → IsOver (finishes_read read at)
-      by None = record { told = refl; late = refl }
-      by (Some answer) = record { told = refl; late = refl }
-
   reply_turns : (verdict : Verdict) (code : ℕ) (texts : List Text) (replied : Replied) (mark : Option ℕ) (n : View)
       → Turns (judged_reply verdict code texts) replied mark n
   reply_turns Closing code texts replied mark n = inl (record { told = refl; late = refl })
@@ -162,7 +147,7 @@ module _ (op : Op (List ℕ)) (all : count_of op ≡ None) (first : ℕ) (more :
   reply_turns Completion code texts Replies.Nothing mark n = inl (record { told = refl; late = refl })
   reply_turns Intermediate code texts Replies.Nothing mark n = inl (record { told = refl; late = refl })
   reply_turns Negative code texts Replies.Nothing mark n =
-      inl (read_over (judged Endings.Ours Aborts.Unsent code op (flow mark))
+      inl (read_over op (judged Endings.Ours Aborts.Unsent code op (flow mark))
       (record (up (Replies.Final code) mark n) { connection = Data.Over Endings.Ours; closing = true }) refl refl (so_far (Replies.Final code) mark) refl)
   reply_turns Preliminary code texts Replies.Begun mark n = by (code == MARK) refl
     where

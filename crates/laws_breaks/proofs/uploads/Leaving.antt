@@ -8,7 +8,6 @@ use Rattle.ftp_ports.specs.Machine.{Aside, Break, Closed, End, Failed, Gave, Got
 use Rattle.ftp_ports.specs.declared.whole.Fate.TheVariants as Fates
 use Rattle.ftp_client_driver.specs.Side.{Reporting, Starting, client_side}
 use Rattle.ftp_client_model.specs.Calls as near
-use Rattle.ftp_client_model.specs.Calls.{is_busy}
 use Rattle.ftp_client_model.specs.Failing.{Client}
 use Rattle.ftp_client_model.specs.View.{View as Near}
 use Rattle.ftp_ends.specs.declared.link.Wants.{Wants}
@@ -91,12 +90,7 @@ seen_none Want.CloseAll e = refl
 -- a server that gives has it open
 giving_open : (link : ServerLink Transfer) → is_giving link ≡ true → is_open link ≡ true
 giving_open (Data.Transferring transfer) e = refl
-giving_open Data.Free e = absurd (true≢false (sym e))
-giving_open (Data.Asked verb) e = absurd (true≢false (sym e))
-giving_open (Data.Active endpoint) e = absurd (true≢false (sym e))
-giving_open Data.Passive e = absurd (true≢false (sym e))
-giving_open Data.Ready e = absurd (true≢false (sym e))
-giving_open (Data.Opening transfer way) e = absurd (true≢false (sym e))
+giving_open link e = absurd (true≢false (sym e))
 
 -- what stands is not left by its port
 pub shut_stands : (stands : Bool) (left written : Option (List ℕ)) (unwritten : List ℕ) → stands ≡ true → IsEnded stands left written unwritten Shut → ⊥

@@ -1,5 +1,5 @@
 -- A server that takes octets of an upload is told of the break: beside a world, or beside one whose client was not told.
-use Rattle.std.proofs.Common.{◌≡◌, ◌⊎◌, inl, inr, ℕ, true, false, true≢false, List, [], ◌∷◌, refl, sym, ap, subst, ◌∙◌, append-nil}
+use Rattle.std.proofs.Common.{◌≡◌, ◌⊎◌, inl, inr, ℕ, true, false, true≢false, List, [], ◌∷◌, refl, sym, ap, subst, ◌∙◌}
 use Rattle.ftp_ports.specs.Actions.{Calls, Action, Other, Stand}
 use Rattle.ftp_ports.specs.Machine.{Break}
 use Rattle.ftp_client_driver.specs.Side.{client_side}
@@ -19,25 +19,23 @@ use Rattle.ftp_server_model.specs.declared.session.ServerLink.{ServerLink}
 use Rattle.ftp_server_model.specs.declared.session.ServerLink.TheVariants as Data
 use Rattle.ftp_server_model.specs.declared.session.Transfer.TheVariants as Transfers
 use Rattle.laws_world.specs.Agreement.{Order}
-use Rattle.laws_world.specs.Claims.{Beginning, IsFair, state_of, world_of}
+use Rattle.laws_world.specs.Claims.{Beginning, IsFair, state_of}
 use Rattle.laws_world.specs.Events.{broken_by, is_gone, lends_none}
-use Rattle.laws_world.specs.World.{Broken, ClosedByNear, Mark, Opened, World, marked_last}
+use Rattle.laws_world.specs.World.{Broken, ClosedByNear, Opened, World, marked_last}
 use Rattle.laws_agreement.specs.Rising.{sending}
 use Rattle.laws_drivers.specs.control.Alone.{ServerIsCalm, reports_in}
 use Rattle.laws_drivers.specs.control.Between.{Between, Can, Far as TheServer, Has, Has_lost}
 use Rattle.laws_drivers.specs.control.Touches.{ToldBreak}
 use Rattle.laws_drivers.proofs.control.Taken.{taken, taken_none}
-use Rattle.laws_drivers.proofs.control.Worlds.{LeadsOn, leads_then}
 use Rattle.laws_drivers.proofs.world.Ahead.{closed_is}
 use Rattle.laws_drivers.proofs.world.Served.{far_wants, rests}
 use Rattle.laws_drivers.proofs.events.FarForms.{no_close, told_passive}
 use Rattle.laws_drivers.proofs.events.Holding.{both, is_called, unclosed}
 use Rattle.laws_drivers.proofs.events.Plain.{IsPlainBy, IsPlainly}
-use Rattle.laws_drivers.proofs.events.Stands.{ServerServes}
 use Rattle.laws_transfers.specs.Ahead.{Ahead, Fits, Level, Listens, Opens, Parted, far_ahead}
 use Rattle.laws_drivers.specs.events.Moments.{AreMoments, begun_at, last_of, number_in}
 use Rattle.laws_transfers.proofs.Ahead.{left_rests}
-use Rattle.laws_transfers.proofs.Beside.{GoesTo, Takes, Together, is_taking, rested}
+use Rattle.laws_transfers.proofs.Beside.{Takes, Together, is_taking, rested}
 use Rattle.laws_transfers.proofs.Called.{StaysFresh}
 use Rattle.laws_transfers.proofs.FarForms.{is_receive, receives_upload, upload_takes}
 use Rattle.laws_transfers.proofs.Known.{AreCarried, Known, is_giving, is_near_held}
@@ -45,7 +43,7 @@ use Rattle.laws_transfers.proofs.Running.{world_timed}
 use Rattle.laws_transfers.proofs.Simulating.{asks, known, runs}
 use Rattle.laws_breaks.proofs.downloads.Drained.{dried}
 use Rattle.laws_breaks.proofs.downloads.Lagging.{Lags, OfMarks, Whole, beside, feeds, unbroken}
-use Rattle.laws_breaks.proofs.downloads.Steps.{Again, At, idle_again}
+use Rattle.laws_breaks.proofs.downloads.Steps.{Again, At, idle_again, went_again}
 use Rattle.laws_breaks.proofs.downloads.Unsent.{AskAll, Unsent, all_carried}
 use Rattle.laws_breaks.specs.uploads.Coming.{CameOver, HasCome}
 use Rattle.laws_breaks.specs.uploads.Actions.{cut_marks}
@@ -149,29 +147,6 @@ module _ (client : Stand client_side) (p q : Between) (can : Can TheServer ToldB
   }
 
 module _ (read : Reading) (reads : IsReading read) (moments : ℕ → ℕ) (timed : AreMoments moments) (b : Beginning) (fair : IsFair b) where
-  -- a world is beside a server that did something and a client, with these marks
-  again_cut : (actions : List (Action client_side)) {between : Between} {count : ℕ} {server : Stand server_side} {old : Stand client_side}
-      (o : At read reads moments timed b fair actions between count server old) (marks : List (List Mark)) (next : Between) (told : Stand server_side)
-      (new : Stand client_side) → GoesTo read [] (begun_at moments actions) next count told new (reports_in actions) marks o.world → ServerServes told.owner
-      → is_sound new.owner.end.view.standing ≡ true → IsPlainly new.owner.end.view → StaysFresh next new
-      → Again read reads moments timed b fair actions next count told new marks
-  again_cut actions {between} {count} {server} {old} o marks next told new went serves sound plain fresh =
-      let begun : List Order = begun_at moments actions in (
-        record {
-          world = went.world;
-          leads = subst (λ l. LeadsOn read l (world_of b) went.world) (append-nil begun)
-              (leads_then read begun [] (world_of b) o.world went.world o.leads went.leads);
-          last = went.moment;
-          ahead = went.ahead;
-          together = went.together;
-          serves = serves;
-          plain = plain;
-          sound = sound;
-          fresh = fresh;
-        },
-        went.marked,
-      )
-
   module _ (actions : List (Action client_side)) (puts : AskAll (begun_at moments actions)) (p : Between) (count : ℕ) (old new : Stand server_side)
       (client : Stand client_side) (calm : ServerIsCalm old.owner new.owner) (o : At read reads moments timed b fair actions p count old client) where
     abbrev w : World
@@ -194,7 +169,7 @@ module _ (read : Reading) (reads : IsReading read) (moments : ℕ → ℕ) (time
           (λ takes. world_timed read reads (state_of b) moments actions carried w
           (runs read reads moments timed b fair actions p count old client (reports_in actions) o carried)
           t.beside.control t.beside.unready takes ∙ sym told) t r untold in
-          again_cut actions o (marked_last (Broken w.came) w.marks) next (dried new) after went.0 went.1 sound plain fresh
+          went_again read reads moments timed b fair actions o (marked_last (Broken w.came) w.marks) next count (dried new) after went.0 went.1 sound plain fresh
 
       -- a break marks
       pub cut_again : is_sound after.owner.end.view.standing ≡ true → IsPlainly after.owner.end.view → StaysFresh next after
