@@ -19,7 +19,6 @@ use Rattle.ftp_path.proofs.TextLemmas.{path_on_literals}
 use Rattle.ftp_reply.specs.Reader.{line_heard}
 use Rattle.ftp_server_driver.specs.alone.Side.{server_side}
 use Rattle.ftp_server_model.specs.Calls as far
-use Rattle.ftp_server_model.specs.Calls.{start}
 use Rattle.ftp_server_model.specs.Replies.{fixed_reply, reply_octets}
 use Rattle.ftp_server_model.specs.View.{View as Far}
 use Rattle.ftp_server_model.specs.declared.reply.FixedReply.TheVariants as Texts
@@ -35,7 +34,8 @@ use Rattle.laws_examples.specs.transfers.Example.{HasFile, example_name, example
 use Rattle.laws_examples.proofs.transfers.Moves.{endpoint, ends, far_closes, far_leaves, gets, near_leaves, one_over, takes_one, writes}
 use Rattle.laws_examples.proofs.transfers.Playing.{can_take, far_in, lies, near_in, none_yet, one_stands, takes_only}
 use Rattle.laws_examples.specs.active.Example.{CallIsOver, call_asked, call_how}
-use Rattle.laws_examples.proofs.active.Calling.{Listens, client_first, far_first, far_logged, far_sent, fetching, near_asking, near_first, obeys, quiet, starts_so, still}
+use Rattle.laws_examples.proofs.transfers.Calling.{far_first, far_logged, quiet, still}
+use Rattle.laws_examples.proofs.active.Calling.{Listens, client_first, far_sent, fetching, near_asking, near_first, obeys, starts_so}
 use Rattle.laws_examples.proofs.active.Ending.{IsCalled, both_over}
 use Rattle.laws_examples.proofs.active.Moves.{far_dials, gives_more, near_accepts, one_more}
 use Rattle.laws_examples.proofs.active.Playing.{Played, far_says, far_turn, near_is_told, near_turn}

@@ -20,20 +20,17 @@ use Rattle.ftp_ports.specs.Machine.{Listening}
 use Rattle.ftp_endpoint.specs.Written.{IsTypedEndpoint}
 use Rattle.ftp_ends.specs.RowWords.{here}
 use Rattle.ftp_nvt.specs.Lines.{written_line}
-use Rattle.ftp_operation.specs.Rights.{all_rights}
 use Rattle.ftp_operation.specs.declared.op.Op.{Op}
 use Rattle.ftp_path.specs.Path.{fits, resolved, text_of}
 use Rattle.ftp_path.proofs.TextLemmas.{path_on_literals}
 use Rattle.ftp_reply.specs.Reader.{line_heard}
 use Rattle.ftp_server_driver.specs.alone.Side.{server_side}
 use Rattle.ftp_settings.specs.Representation.{defaults}
-use Rattle.ftp_server_model.specs.Calls.{start}
 use Rattle.ftp_server_model.specs.Machine.{obeyed}
 use Rattle.ftp_server_model.specs.declared.heard.HeardLine.TheVariants.{Asks}
 use Rattle.ftp_server_model.specs.Replies.{fixed_reply, reply_octets}
 use Rattle.ftp_server_model.specs.View.{View as Far}
 use Rattle.ftp_server_model.specs.declared.reply.FixedReply.TheVariants as Texts
-use Rattle.ftp_server_model.specs.declared.session.Access.TheVariants as Accesses
 use Rattle.ftp_server_model.specs.declared.session.Way.TheVariants as Ways
 use Rattle.ftp_server_model.specs.declared.session.ServerLink.TheVariants as Data
 use Rattle.ftp_server_model.specs.declared.session.Transfer.TheVariants as Transfers
@@ -46,6 +43,7 @@ use Rattle.laws_drivers.specs.control.Claims.{Begins}
 use Rattle.laws_drivers.specs.control.Example.{example}
 use Rattle.laws_drivers.proofs.control.Playing.{Attends, ear_after, is_silent, no_events}
 use Rattle.laws_examples.specs.transfers.Example.{example_name, example_octets}
+use Rattle.laws_examples.proofs.transfers.Calling.{far_first, far_logged, quiet, still}
 use Rattle.laws_examples.proofs.transfers.Moves.{endpoint}
 use Rattle.laws_examples.proofs.transfers.Playing.{can_take, far_in, lies, near_in, none_yet, takes_only}
 use Rattle.laws_examples.proofs.active.Moves.{eprt_text, near_listens}
@@ -55,35 +53,19 @@ use Rattle.laws_examples.proofs.active.Playing.{Played, far_obeys, far_says, nea
 abbrev eprt : List ℕ
 eprt = codes "EPRT |1|127.0.0.1|49152|"
 
--- what an end holds as it owes nothing more
-abbrev pub quiet : Far → Far
-quiet v = record v { owed = [] }
-
-abbrev pub still : Near → Near
-still n = record n { owed = [] }
-
 -- ---- the server: at its start, once it is logged in, and once the endpoint is named
 
 module _ (table : Table) where
-  abbrev pub far_first : Far
-  far_first = start table (example table).accounts here here
-
-  abbrev pub far_logged : Far
-  far_logged = record far_first {
-    session = record far_first.session { access = Accesses.Known; root = []; rights = all_rights; cwd = [] };
-    owed = reply_octets (fixed_reply Texts.LoggedIn);
-  }
-
   abbrev pub far_named : Far
-  far_named = record far_logged {
-    session = record far_logged.session { connection = Data.Active endpoint };
+  far_named = record (far_logged table) {
+    session = record (far_logged table).session { connection = Data.Active endpoint };
     owed = reply_octets (fixed_reply Texts.EndpointTaken);
   }
 
   -- it has the file to give, and is to dial
   abbrev pub far_sent : Far
-  far_sent = record far_logged {
-    session = record far_logged.session { connection = Data.Opening (Transfers.Download example_octets) (Ways.Connect endpoint) };
+  far_sent = record (far_logged table) {
+    session = record (far_logged table).session { connection = Data.Opening (Transfers.Download example_octets) (Ways.Connect endpoint) };
     owed = reply_octets (fixed_reply Texts.Opens);
   }
 

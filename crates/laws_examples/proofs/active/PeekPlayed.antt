@@ -42,7 +42,8 @@ use Rattle.laws_examples.proofs.transfers.Moves.{endpoint, far_closes, gets, tak
 use Rattle.laws_examples.proofs.transfers.Peeking.{Heeds, far_resets, near_breaks, near_fails, near_resets, one_broken, one_failed}
 use Rattle.laws_examples.proofs.transfers.Playing.{can_take, far_in, lies, near_in, none_yet, one_stands, takes_only}
 use Rattle.laws_examples.specs.active.Example.{CallIsPeek, call_how, peek_asked}
-use Rattle.laws_examples.proofs.active.Calling.{Listens, client_first, far_first, far_logged, far_sent, fetching, near_asking, near_first, obeys, quiet, starts_so, still}
+use Rattle.laws_examples.proofs.transfers.Calling.{far_first, far_logged, quiet, still}
+use Rattle.laws_examples.proofs.active.Calling.{Listens, client_first, far_sent, fetching, near_asking, near_first, obeys, starts_so}
 use Rattle.laws_examples.proofs.active.Ending.{IsCalled, both_over}
 use Rattle.laws_examples.proofs.active.Moves.{far_dials, gives_more, near_accepts, one_more}
 use Rattle.laws_examples.proofs.active.Peeking.{far_hears_line}

@@ -22,7 +22,7 @@ use Rattle.laws_drivers.specs.control.Between.{Between, Client, Server, Turn}
 use Rattle.laws_transfers.specs.Actions.{IsAsking, IsServing}
 use Rattle.laws_examples.proofs.transfers.Moves.{steps}
 use Rattle.laws_examples.proofs.transfers.Peeking.{more_stands}
-use Rattle.laws_examples.proofs.transfers.Playing.{IsUnbroken, Kind, PlayedBy, far_in, none_yet, one_stands, server_of}
+use Rattle.laws_examples.proofs.transfers.Playing.{IsUnbroken, Kind, PlayedBy, far_in, none_yet, one_stands, played_as, server_of}
 
 -- ---- the kind
 
@@ -67,24 +67,7 @@ module _ {first : List Turn} {moments : ℕ → ℕ} {start : Stand server_side}
   -- from here on turns are after those so far
   pub from_here : (p : PlayedBy (breaking first) moments start begun op listened between server client)
       → PlayedBy (breaking p.turns) moments start begun op listened between server client
-  from_here p = record {
-    turns = p.turns;
-    happened = p.happened;
-    resets = ([], refl);
-    far_led = p.far_led;
-    gives = p.gives;
-    midst = p.midst;
-    are = p.are;
-    client_is = p.client_is;
-    later = p.later;
-    turns_are = p.turns_are;
-    later_midst = p.later_midst;
-    near_led = p.near_led;
-    takes = p.takes;
-    listened_is = p.listened_is;
-    ports = p.ports;
-    told = p.told;
-  }
+  from_here p = played_as (breaking p.turns) p p.gives p.takes ([], refl)
 
 -- a client did actions after it began an operation
 pub went_on : (op : Op (List ℕ)) (midst : List (Action client_side)) (old begun now : Stand client_side) → Went ClientSuffers midst begun now

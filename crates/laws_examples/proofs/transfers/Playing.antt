@@ -151,6 +151,30 @@ abbrev pub Played : (moments : ℕ → ℕ) (start : Stand server_side) (begun :
     (server : Stand server_side) (client : Stand client_side) → Type 0
 Played moments start begun op listened between server client = PlayedBy transferring moments start begun op listened between server client
 
+-- what was played so is of another kind, too, whose actions these are, and whose order they keep
+pub played_as : {kind : Kind} (next : Kind) {moments : ℕ → ℕ} {start : Stand server_side} {begun : Stand client_side} {op : Op (List ℕ)} {listened : ℕ}
+    {between : Between} {server : Stand server_side} {client : Stand client_side} (p : PlayedBy kind moments start begun op listened between server client)
+    → Along next.Gives (server_actions p.turns) start server p.far_led → Along next.Takes p.midst begun client p.near_led
+    → next.Keeps p.turns between p.happened → PlayedBy next moments start begun op listened between server client
+played_as next p gives takes keeps = record {
+  turns = p.turns;
+  happened = p.happened;
+  resets = keeps;
+  far_led = p.far_led;
+  gives = gives;
+  midst = p.midst;
+  are = p.are;
+  client_is = p.client_is;
+  later = p.later;
+  turns_are = p.turns_are;
+  later_midst = p.later_midst;
+  near_led = p.near_led;
+  takes = takes;
+  listened_is = p.listened_is;
+  ports = p.ports;
+  told = p.told;
+}
+
 module _ {kind : Kind} (moments : ℕ → ℕ) (start : Stand server_side) (begun : Stand client_side) (op : Op (List ℕ)) where
   -- an action of the server, of that kind
   pub far_does : (action : Action server_side) → IsQuiet action → (listened : ℕ) (old new : Between) (at next : Stand server_side) (client : Stand client_side)

@@ -21,7 +21,7 @@ use Rattle.laws_drivers.specs.control.Between.{Between, Client, Server, Turn, cl
 use Rattle.laws_drivers.proofs.control.Calm.{first_is_calm}
 use Rattle.laws_transfers.specs.Actions.{IsAsking, IsServing}
 use Rattle.laws_drivers.specs.events.Moments.{last_of, number_in}
-use Rattle.laws_examples.proofs.transfers.Playing.{IsUnbroken, Kind, PlayedBy, midst_numbers}
+use Rattle.laws_examples.proofs.transfers.Playing.{IsUnbroken, Kind, PlayedBy, midst_numbers, played_as}
 
 -- ---- the kind
 
@@ -79,24 +79,7 @@ module _ {first : List Turn} {v : Far} {moment : ℕ} {moments : ℕ → ℕ} {s
   -- from here on turns are after those so far
   pub from_here : (p : PlayedBy (cutting first v moment) moments start begun op listened between server client)
       → PlayedBy (cutting p.turns v moment) moments start begun op listened between server client
-  from_here p = record {
-    turns = p.turns;
-    happened = p.happened;
-    resets = (([], refl), p.resets.1);
-    far_led = p.far_led;
-    gives = p.gives;
-    midst = p.midst;
-    are = p.are;
-    client_is = p.client_is;
-    later = p.later;
-    turns_are = p.turns_are;
-    later_midst = p.later_midst;
-    near_led = p.near_led;
-    takes = p.takes;
-    listened_is = p.listened_is;
-    ports = p.ports;
-    told = p.told;
-  }
+  from_here p = played_as (cutting p.turns v moment) p p.gives p.takes (([], refl), p.resets.1)
 
   -- one operation was begun
   pub began_one : (p : PlayedBy (cutting first v moment) moments start begun op listened between server client) → number_in (client_actions p.turns) ≡ 1
