@@ -5,5 +5,7 @@ mod client;
 mod counted;
 mod held;
 mod near;
+mod task;
 
 pub use client::Client;
+pub use task::{ClientTask, NewClient, play_client};
