@@ -4,10 +4,11 @@ ghost use Rattle.std.specs.Prelude.{ℕ, List};
 ghost use Rattle.tool_session.specs.Talking.{Conversed, SessionExchange};
 ghost use Rattle.tool_connect.specs.Answering.{CanHear};
 
+use crate::conversation::Conversation;
 use crate::health::Health;
-use crate::server::{connected, leave, seconds_since};
-use crate::several::play_over_several;
-use crate::single::play_over_one;
+use crate::server::seconds_since;
+use ftp_client::play_client;
+use ftp_client_transfer::OperationTransfer;
 use ftp_operation::Login;
 use std::alloc::Global;
 use std::env::Env;
@@ -56,7 +57,6 @@ where
 {
     ghost hears = { λ rt. CanHear };
 
-    #[tactic(auto, using(crate::proofs::ConversingLemmas::heard_of_one, crate::proofs::ConversingLemmas::heard_of_several))]
     fn converse<T, P>(
         &self,
         server: ServerAddress<'_>,
@@ -69,13 +69,14 @@ where
         T: Drop,
         P: SessionTask<Result<T, SessionFault>>,
     {
-        if server.at_once > 1 {
-            return play_over_several(self, server, &login, last_reply, play);
-        }
-        let stream = at(Phase::Connection, connected(self, server))?;
-        let done = play_over_one(self, server, login, &stream, (last_reply, health), play);
-        let _gone = leave(&stream);
-        done
+        let conversation = Conversation {
+            rt: self,
+            server,
+            login,
+            last_reply,
+            health,
+        };
+        play_client::<Global, OperationTransfer<Global>, _, _, _>(conversation, play)
     }
 }
 

@@ -2,6 +2,7 @@
 #![tactic(auto)]
 
 mod again;
+mod conversation;
 mod conversing;
 mod health;
 mod listening_client;

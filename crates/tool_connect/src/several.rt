@@ -4,11 +4,9 @@ ghost use Rattle.tool_session.specs.Talking.{Conversed};
 ghost use Rattle.tool_connect.specs.Several.{connections_of, part_of};
 
 use crate::server::{connected, connected_to, hosts_of, left_until, seconds_left};
-use ftp_client::Client;
+use ftp_client::NewClient;
 use ftp_client_driver::Control;
 use ftp_client_model::Near;
-use ftp_client_steps::ClientTransfer;
-use ftp_client_transfer::OperationTransfer;
 use ftp_endpoint::Host;
 use ftp_facts::Text;
 use ftp_operation::Login;
@@ -76,7 +74,7 @@ impl<'a, R: Sockets> PooledLine<'a, R> {
 
 /// Opens control connections, plays over them by a client at each, says QUIT and closes them. Of those behind the first as many are used as the server
 /// gives. Faults as of `Converses::converse`.
-pub(crate) fn play_over_several<R, T, P>(
+pub(crate) fn play_over_several<N, R, T, P>(
     rt: &R,
     server: ServerAddress<'_>,
     login: &Login<Global>,
@@ -84,6 +82,7 @@ pub(crate) fn play_over_several<R, T, P>(
     play: &mut P,
 ) -> Result<T, SessionFault>
 where
+    N: NewClient<Global>,
     R: Net<Listener = TcpListener, Stream = TcpStream> + Eprint + AllocGlobal,
     T: Drop,
     P: SessionTask<Result<T, SessionFault>>,
@@ -101,9 +100,7 @@ where
     };
     let lines = lines_of(&settings, streams, request_states.as_slice());
     let lines = at(Phase::Talking, lines)?;
-    let done = play_by_several::<OperationTransfer<Global>, R, T, P>(
-        &settings, lines, last_reply, play,
-    );
+    let done = play_by_several::<N, R, T, P>(&settings, lines, last_reply, play);
     note_moved(request_states.as_slice(), last_reply);
     done
 }
@@ -198,16 +195,15 @@ fn line_of<'a, R: Sockets>(
     })
 }
 
-/// Plays by a client at each of these control connections. No other function here passes it on, and what it transfers by is a parameter, since a named one
-/// costs the proof more.
-fn play_by_several<'a, F, R, T, P>(
+/// Plays by a client at each of these control connections.
+fn play_by_several<'a, N, R, T, P>(
     settings: &PoolSettings<'a, R>,
     lines: Vec<PooledLine<'a, R>, Global>,
     last_reply: &mut LastReply,
     play: &mut P,
 ) -> Result<T, SessionFault>
 where
-    F: ClientTransfer<Global>,
+    N: NewClient<Global>,
     R: Sockets + Eprint,
     T: Drop,
     P: SessionTask<Result<T, SessionFault>>,
@@ -215,7 +211,7 @@ where
 {
     match at(
         Phase::Talking,
-        clients_of::<F, R>(settings, lines.as_slice()),
+        clients_of::<N, R>(settings, lines.as_slice()),
     ) {
         Ok(clients) => play_between(settings, lines, clients, last_reply, play),
         Err(fault) => Err(fault),
@@ -223,30 +219,31 @@ where
 }
 
 /// A client for each control connection.
-fn clients_of<F, R>(
+fn clients_of<N, R>(
     settings: &PoolSettings<'_, R>,
     lines: &[PooledLine<'_, R>],
-) -> io::Result<Vec<Client<Global, F>, Global>>
+) -> io::Result<Vec<N, Global>>
 where
-    F: ClientTransfer<Global>,
+    N: NewClient<Global>,
     R: Sockets,
 {
     let mut clients = Vec::new(settings.alloc);
     for line in lines {
-        clients.push(client_of::<F>(settings.alloc, settings.login, line.hosts)?)?;
+        clients.push(client_of(settings.alloc, settings.login, line.hosts)?)?;
     }
     Ok(clients)
 }
 
 /// A client between two hosts, with a copy of the login. Fails where memory is refused.
-fn client_of<F: ClientTransfer<Global>>(
+fn client_of<N: NewClient<Global>>(
     alloc: Global,
     login: &Login<Global>,
     (here, peer): (Host, Host),
-) -> io::Result<Client<Global, F>> {
-    match Client::new(alloc, login_copy(alloc, login)?, here, peer) {
-        Ok(client) => Ok(client),
-        Err(_) => Err(Error::from(ErrorKind::OutOfMemory)),
+) -> io::Result<N> {
+    let login = login_copy(alloc, login)?;
+    match N::create(alloc, &mut Some(login), here, peer) {
+        Some(client) => Ok(client),
+        None => Err(Error::from(ErrorKind::OutOfMemory)),
     }
 }
 

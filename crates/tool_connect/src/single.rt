@@ -1,4 +1,4 @@
-// One control connection from its opening to its last reply, and the one client at it.
+// One control connection from its opening to its last reply, and the client at it.
 ghost use Rattle.ftp_driver.specs.Standing.{HasNone};
 ghost use Rattle.tool_session.specs.Talking.{Conversed};
 ghost use Rattle.tool_connect.specs.Answering.{ComesOfClient};
@@ -8,11 +8,9 @@ use crate::listening_client::ListeningClient;
 use crate::live::{LiveSession, Opens};
 use crate::progress::MeteredPorts;
 use crate::server::hosts_of;
-use ftp_client::Client;
+use ftp_client::NewClient;
 use ftp_client_driver::{Control, Data};
 use ftp_client_model::Near;
-use ftp_client_steps::ClientTransfer;
-use ftp_client_transfer::OperationTransfer;
 use ftp_operation::Login;
 use std::alloc::Global;
 use std::io::{Eprint, Read, Write};
@@ -22,7 +20,7 @@ use tool_session::{LastReply, Phase, RequestState, ServerAddress, SessionFault, 
 use tool_sockets::{ClientTimeouts, ControlReader, ControlWriter};
 
 /// Plays over a control connection that is open, as long as its timeouts last, and waits a moment for the end of its last data connection.
-pub(crate) fn play_over_one<R, T, P>(
+pub(crate) fn play_over_one<N, R, T, P>(
     rt: &R,
     server: ServerAddress<'_>,
     login: Login<Global>,
@@ -31,6 +29,7 @@ pub(crate) fn play_over_one<R, T, P>(
     play: &mut P,
 ) -> Result<T, SessionFault>
 where
+    N: NewClient<Global>,
     R: Net<Listener = TcpListener, Stream = TcpStream> + Eprint + Clock + AllocGlobal,
     T: Drop,
     P: SessionTask<Result<T, SessionFault>>,
@@ -46,7 +45,7 @@ where
         Monitored::new(ControlWriter::new(stream, &timeouts), health),
     );
     let mut data = Data::new();
-    let done = play_by_one::<OperationTransfer<Global>, _, _, _, _, _>(
+    let done = play_by_one::<N, _, _, _, _, _>(
         (rt.alloc(), login, stream),
         (&mut control, last_reply),
         &mut ports,
@@ -83,9 +82,8 @@ fn note_end(timeouts: &ClientTimeouts, timeout: u32, noticed: (&mut LastReply, &
     }
 }
 
-/// Plays by a client, which takes the login. No other function here names it, and what it transfers by is a parameter, since a named one costs the proof
-/// more.
-fn play_by_one<F, C, W, O, T, P>(
+/// Plays by a client, which takes the login, and whose replies are kept.
+fn play_by_one<N, C, W, O, T, P>(
     ends: (Global, Login<Global>, &TcpStream),
     heard: (&mut Control<C, W>, &mut LastReply),
     ports: &mut O,
@@ -94,7 +92,7 @@ fn play_by_one<F, C, W, O, T, P>(
     play: &mut P,
 ) -> Result<T, SessionFault>
 where
-    F: ClientTransfer<Global>,
+    N: NewClient<Global>,
     C: Read + Drop,
     W: Write + Drop,
     O: Opens,
@@ -104,47 +102,27 @@ where
     ensures { Conversed P.tells ComesOfClient P.plays play.old play.new result }
 {
     let (alloc, login, stream) = ends;
-    match client_of::<F>(alloc, login, stream) {
-        Ok(client) => play_heard(client, heard, ports, data, request_state, play),
+    let (control, last_reply) = heard;
+    match client_of::<N>(alloc, login, stream) {
+        Ok(client) => {
+            let client = ListeningClient::new(client, last_reply);
+            play_by(client, control, ports, data, request_state, play)
+        }
         Err(fault) => Err(fault),
     }
 }
 
 /// A client between the hosts of a control connection. Fails where the system does not tell them, or memory is refused.
-fn client_of<F: ClientTransfer<Global>>(
+fn client_of<N: NewClient<Global>>(
     alloc: Global,
     login: Login<Global>,
     stream: &TcpStream,
-) -> Result<Client<Global, F>, SessionFault> {
+) -> Result<N, SessionFault> {
     let (here, peer) = at(Phase::Talking, hosts_of(stream))?;
-    match Client::new(alloc, login, here, peer) {
-        Ok(client) => Ok(client),
-        Err(_) => Err(SessionFault::of_memory()),
+    match N::create(alloc, &mut Some(login), here, peer) {
+        Some(client) => Ok(client),
+        None => Err(SessionFault::of_memory()),
     }
-}
-
-/// Plays by a client whose replies are kept. It is wrapped here, since a wrapped client that is named costs the proof more.
-fn play_heard<N, C, W, O, T, P>(
-    client: N,
-    heard: (&mut Control<C, W>, &mut LastReply),
-    ports: &mut O,
-    data: &mut Data<O::Stream>,
-    request_state: &RequestState,
-    play: &mut P,
-) -> Result<T, SessionFault>
-where
-    N: Near<Global>,
-    C: Read + Drop,
-    W: Write + Drop,
-    O: Opens,
-    T: Drop,
-    P: SessionTask<Result<T, SessionFault>>,
-    requires { HasNone O.Stream.remaining O.Stream.contents data.old }
-    ensures { Conversed P.tells ComesOfClient P.plays play.old play.new result }
-{
-    let (control, last_reply) = heard;
-    let client = ListeningClient::new(client, last_reply);
-    play_by(client, control, ports, data, request_state, play)
 }
 
 /// Plays by a client between its connections.
