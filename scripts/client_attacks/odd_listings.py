@@ -76,9 +76,13 @@ def ls_odd(rows):
 
 
 def ls_columns(rows):
-    """Where MLSD is not known, LIST, whose lines are shown as they came, and where that is not known either, NLST."""
-    text = b"total 8\r\n-rw-r--r-- 1 u g 3 Nov 28 12:34 caf\xe9\r\n-rw-r--r-- 1 u g 3 Nov 28 12:34 a\x1b[2Jb\r\nanything\r\n"
-    wanted = b"total 8\n-rw-r--r-- 1 u g 3 Nov 28 12:34 caf\\xe9\n-rw-r--r-- 1 u g 3 Nov 28 12:34 a\\x1b[2Jb\nanything\n"
+    """Where MLSD is not known, LIST, whose lines are shown as they came, but as entries by --long and --json; where LIST is not known either, NLST."""
+    odd = b"-rw-r--r-- 1 u g 3 Nov 28 12:34 caf\xe9\r\n-rw-r--r-- 1 u g 3 Nov 28 12:34 a\x1b[2Jb\r\nanything\r\n"
+    text = b"total 8\r\ndrwxr-xr-x 2 u g 4096 Nov 28  2025 ..\r\n-rw-r--r-- 1 u g 3 Nov 28 12:34 a b\r\ndrwxr-xr-x 2 u g 4096 Nov 28  2025 d\r\n" + odd
+    shown = b"-rw-r--r-- 1 u g 3 Nov 28 12:34 caf\\xe9\n-rw-r--r-- 1 u g 3 Nov 28 12:34 a\\x1b[2Jb\nanything\n"
+    wanted = text[: -len(odd)].replace(b"\r", b"") + shown
+    entries = [{"name": "a b", "type": "file", "size": 3}, {"name": "d", "type": "dir"}, *({"line": it} for it in shown.decode().splitlines())]
+    columns = f"-{3:15}  {'-':>19}  a b\nd{'-':>15}  {'-':>19}  d\n".encode() + shown
     for reply in UNKNOWN:
         server = FakeServer({"MLSD": reply, "LIST": sender(text), "NLST": sender(b"no\r\n")})
         status, out, told = rows.tool("ls", f"127.0.0.1:{server.port}/d/")
@@ -86,7 +90,9 @@ def ls_columns(rows):
         rows.row(f"ls, MLSD {reply[:3]}: by LIST", (status, out, told, asked) == (0, wanted, b"", ["MLSD d/", "LIST d/"]), (status, out, told, asked))
         status, out, told = rows.tool("ls", f"127.0.0.1:{server.port}/d/", "--json")
         read = [json.loads(line) for line in out.splitlines()]
-        rows.row(f"ls --json, MLSD {reply[:3]}", status == 0 and [it.get("line") for it in read] == wanted.decode().splitlines(), (status, out, told))
+        rows.row(f"ls --json, MLSD {reply[:3]}", (status, read) == (0, entries) and b"as they came: 3" in told, (status, out, told))
+        status, out, told = rows.tool("ls", f"127.0.0.1:{server.port}/d/", "--long")
+        rows.row(f"ls --long, MLSD {reply[:3]}", (status, out) == (0, columns) and b"as they came: 3" in told, (status, out, told))
         server.close()
         server = FakeServer({"MLSD": reply, "LIST": reply, "NLST": sender(b"a\r\nb\r\n")})
         status, out, told = rows.tool("ls", f"127.0.0.1:{server.port}/")

@@ -198,7 +198,8 @@ Output: the entries of the directory, as a machine listing has them (RFC 3659, s
 came, with a note of how many; where the server knows no MLSD, the lines of LIST as they came, or else the names that NLST gives. Where PATH
 is a file, by MLST, its own line alone. With --long kind (-, d or ?), size, moment in UTC and name of an entry stand in columns;
 with --json each is an object of JSON with name, type (file, dir, or the server's word), size, modified (as 2026-11-27T10:00:00Z) and perm,
-as far as they are told, and is escaped as JSON has it alone; any other line is an object with line. Each has LF at its end. Of characters
+as far as they are told, and is escaped as JSON has it alone; any other line is an object with line. With both, a line of LIST in the columns
+of ls -l is an entry, too: its kind, its size if it is a file, and its name. Each has LF at its end. Of characters
 that a terminal obeys (C0, C1, marks of direction) each octet is \\xHH, and a backslash is two. What is named by none but a single file's
 name, as .. or a/b, is left out, and a note says how many are.
 

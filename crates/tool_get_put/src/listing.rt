@@ -3,8 +3,8 @@ use ftp_facts::{Entry, Text};
 use ftp_operation::{Answer, ListVerb};
 use std::alloc::{AllocError, Global};
 use tool_listing::{
-    put_entries, put_json_entries, put_json_lines, put_json_names, put_lines, put_long, put_names,
-    read_entries, read_lines, strange_entries, strange_names,
+    TextListing, put_entries, put_json_entries, put_json_lines, put_json_names, put_lines,
+    put_long, put_names, read_columns, read_entries, read_lines, strange_entries, strange_names,
 };
 
 /// What the lines of entries are.
@@ -44,22 +44,19 @@ pub(crate) fn listing_of(
     }
 }
 
-/// The listing of a text: of MLSD its entries, and then the lines that are none; of LIST its lines as they came.
+/// The listing of a text: its entries, and then the lines that are none. Of LIST without columns, and of NLST, the lines as they came.
 fn text_listing(
     alloc: Global,
     shape: ListingFormat,
     verb: ListVerb,
     text: &[u8],
 ) -> Result<ListingLines, AllocError> {
-    match verb {
-        ListVerb::Mlsd => {
-            let read = read_entries(alloc, text)?;
-            let mut listing = entries_listing(alloc, shape, read.entries.as_slice())?;
-            put_as_came(alloc, shape, read.odd.as_slice(), &mut listing.lines)?;
-            listing.odd = read.odd.len();
-            Ok(listing)
+    match (verb, shape) {
+        (ListVerb::Mlsd, _) => text_entries(alloc, shape, &read_entries(alloc, text)?),
+        (ListVerb::List, ListingFormat::Long | ListingFormat::Json) => {
+            text_entries(alloc, shape, &read_columns(alloc, text)?)
         }
-        ListVerb::List | ListVerb::Nlst => {
+        (ListVerb::List | ListVerb::Nlst, _) => {
             let came = read_lines(alloc, text)?;
             let mut lines = Vec::new(alloc);
             put_as_came(alloc, shape, came.as_slice(), &mut lines)?;
@@ -70,6 +67,18 @@ fn text_listing(
             })
         }
     }
+}
+
+/// The listing of a text that was read.
+fn text_entries(
+    alloc: Global,
+    shape: ListingFormat,
+    read: &TextListing,
+) -> Result<ListingLines, AllocError> {
+    let mut listing = entries_listing(alloc, shape, read.entries.as_slice())?;
+    put_as_came(alloc, shape, read.odd.as_slice(), &mut listing.lines)?;
+    listing.odd = read.odd.len();
+    Ok(listing)
 }
 
 /// Appends lines as they came, as a terminal is to show them.

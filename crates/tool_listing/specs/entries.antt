@@ -6,4 +6,5 @@ pub mod Json
 pub mod ShownRows
 pub mod Text
 pub mod UnixLine
+pub mod Columns
 pub mod UnixRows

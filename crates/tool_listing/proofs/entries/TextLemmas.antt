@@ -12,6 +12,7 @@ use Rattle.ftp_facts.specs.Listed.{Listed, entry_value}
 use Rattle.ftp_facts.specs.Listing.{but_empty_last, is_entry_shown, line_feed, lines_of}
 use Rattle.ftp_facts.specs.declared.fault.FactFault.{FactFault}
 use Rattle.ftp_facts.specs.declared.fault.FactFault.TheVariants.{Memory}
+use Rattle.tool_listing.specs.entries.Columns.{column_value, entries_of_columns, is_below, lines_without_column, says_no_column}
 use Rattle.tool_listing.specs.entries.Text.{entries_of, says_no_entry, lines_without_entry}
 
 -- ---- lines
@@ -93,6 +94,15 @@ entries_cut line lines =
 
 pub odd_cut : (line : List ℕ) (lines : List (List ℕ)) → lines_without_entry (line ∷ lines) ≡ lines_without_entry (line ∷ []) ++ lines_without_entry lines
 odd_cut line lines = filter-append says_no_entry (line ∷ []) lines
+
+-- the same of lines in columns
+pub columns_cut : (line : List ℕ) (lines : List (List ℕ)) → entries_of_columns (line ∷ lines) ≡ entries_of_columns (line ∷ []) ++ entries_of_columns lines
+columns_cut line lines =
+    ap (filter is_below) (filter_map-append column_value (line ∷ []) lines)
+    ∙ filter-append is_below (filter_map column_value (line ∷ [])) (filter_map column_value lines)
+
+pub odd_columns_cut : (line : List ℕ) (lines : List (List ℕ)) → lines_without_column (line ∷ lines) ≡ lines_without_column (line ∷ []) ++ lines_without_column lines
+odd_columns_cut line lines = filter-append says_no_column (line ∷ []) lines
 
 -- one line more
 pub line_more : {X : Type 0} (f : List (List ℕ) → List X) → ((line : List ℕ) (lines : List (List ℕ)) → f (line ∷ lines) ≡ f (line ∷ []) ++ f lines)

@@ -8,9 +8,9 @@ use Rattle.ftp_endpoint.specs.Number.{colon}
 use Rattle.ftp_facts.specs.Fact.{space}
 use Rattle.ftp_facts.specs.Moment.{moment_value, two_digits}
 use Rattle.ftp_facts.specs.Value.{and_then, number_value}
-use Rattle.tool_listing.specs.declared.entries.unix_line.UnixKind.{UnixKind}
-use Rattle.tool_listing.specs.declared.entries.unix_line.UnixKind.TheVariants as Kinds
-use Rattle.tool_listing.specs.declared.entries.unix_line.UnixLine.{UnixLine}
+use Rattle.tool_listing.specs.declared.entries.unix_entry.UnixKind.{UnixKind}
+use Rattle.tool_listing.specs.declared.entries.unix_entry.UnixKind.TheVariants as Kinds
+use Rattle.tool_listing.specs.declared.entries.unix_entry.UnixLine.{UnixLine}
 
 -- what a line tells: what stands there, a file's octets counted, the second at which the day begins on which it was changed, where its year is told, and
 -- the name

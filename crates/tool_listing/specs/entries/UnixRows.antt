@@ -1,8 +1,10 @@
 -- Worked rows: lines of LIST as servers write them. Each is a theorem that computes.
 use Rattle.std.specs.Prelude.{◌≡◌, true, codes, [], ◌∷◌, ◌++◌, Some, None}
+use Rattle.ftp_facts.specs.Fact.{dir_word, file_word}
+use Rattle.tool_listing.specs.entries.Columns.{entries_of_columns, lines_without_column}
 use Rattle.tool_listing.specs.entries.Text.{is_total, odd_name}
 use Rattle.tool_listing.specs.entries.UnixLine.{unix_value}
-use Rattle.tool_listing.specs.declared.entries.unix_line.UnixKind.TheVariants.{File, Dir, Link, Other}
+use Rattle.tool_listing.specs.declared.entries.unix_entry.UnixKind.TheVariants.{File, Dir, Link, Other}
 
 -- of `vsftpd`, `proftpd` and `ls -l`, with a time of day in place of the year
 abbrev pub TimesRead : Type 0
@@ -33,3 +35,19 @@ OthersRead =
     × (unix_value (codes "11-28-26  12:34PM                    3 x") ≡ None)
     × (odd_name (codes "Type=file;Size=3; caf" ++ 233 ∷ []) ≡ codes "caf" ++ 233 ∷ [])
     × (odd_name (codes "Type=file") ≡ [])
+
+-- the entries that lines of LIST say: a count of blocks, the directory itself and its parent are none; a directory has no size, a link no type
+abbrev pub ColumnsRead : Type 0
+ColumnsRead =
+    (entries_of_columns
+    (codes "total 12"
+    ∷ codes "drwxr-xr-x   2 user     group        4096 Nov  8  7:05 ."
+    ∷ codes "drwxr-xr-x   2 user     group        4096 Nov  8  7:05 pub"
+    ∷ codes "-rw-r--r--    1 0        0            1234 Nov 28 12:34 a b"
+    ∷ codes "lrwxrwxrwx 1 u g 4 Nov 28 12:34 x -> y"
+    ∷ [])
+    ≡ record { name = codes "pub"; kind = Some dir_word; size = None; modify = None; perm = None }
+    ∷ record { name = codes "a b"; kind = Some file_word; size = Some 1234; modify = None; perm = None }
+    ∷ record { name = codes "x"; kind = None; size = None; modify = None; perm = None }
+    ∷ [])
+    × (lines_without_column (codes "total 12" ∷ codes "11-28-26  12:34PM                    3 x" ∷ []) ≡ codes "11-28-26  12:34PM                    3 x" ∷ [])

@@ -2,9 +2,11 @@
 ghost use Rattle.std.specs.Prelude.{◌≡◌};
 ghost use Rattle.tool_listing.specs.entries.Text.{odd_name};
 
+use crate::entries::columns::{is_dots, is_total};
 use crate::entries::item::{ItemFacts, ItemKind, ListedItem};
 use crate::entries::text::{cut_line, entry_in, is_shown};
-use crate::entries::unix_line::{UnixKind, UnixLine, cut_one, read_unix_line};
+use crate::entries::unix_entry::{UnixKind, UnixLine};
+use crate::entries::unix_line::{cut_one, read_unix_line};
 use ftp_facts::{Entry, EntryKind, Text};
 use ftp_path::is_path_text;
 use std::alloc::{AllocError, Global};
@@ -85,7 +87,7 @@ fn put_columns_line(
     match read_unix_line(line) {
         Some(told) => put_told(alloc, told, items),
         None => {
-            if line.starts_with(b"total ") {
+            if is_total(line) {
                 return Ok(());
             }
             put(alloc, &[], ItemKind::Odd, items)
@@ -99,7 +101,7 @@ fn put_told(
     items: &mut Vec<ListedItem<Global>, Global>,
 ) -> Result<(), AllocError> {
     let name = told.name;
-    if name == b".".as_slice() || name == b"..".as_slice() {
+    if is_dots(name) {
         return Ok(());
     }
     if !is_path_text(name) {

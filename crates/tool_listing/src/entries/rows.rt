@@ -1,6 +1,6 @@
 //! Worked rows: functions that do nothing, whose contracts are rows of `specs/ShownRows` and `specs/UnixRows`.
 ghost use Rattle.tool_listing.specs.entries.ShownRows.{ColumnsShown, JsonWritten, NamesListed};
-ghost use Rattle.tool_listing.specs.entries.UnixRows.{OthersRead, TimesRead, YearsRead};
+ghost use Rattle.tool_listing.specs.entries.UnixRows.{ColumnsRead, OthersRead, TimesRead, YearsRead};
 
 /// Which texts are names of single files.
 pub fn names()
@@ -30,4 +30,9 @@ pub fn years_of_list()
 /// Lines that are none, and the names of odd ones.
 pub fn other_lines()
     ensures { OthersRead }
+{}
+
+/// The entries that lines of LIST say.
+pub fn entries_of_list()
+    ensures { ColumnsRead }
 {}

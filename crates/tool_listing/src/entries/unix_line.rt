@@ -1,37 +1,18 @@
 // Lines of LIST in the columns of `ls -l` (RFC 959, section 4.1.3, leaves the form open).
-ghost use Rattle.std.specs.Prelude.{◌≡◌, ◌==◌, ◌≤◌, length, option_map, take};
+ghost use Rattle.std.specs.Prelude.{◌≡◌, ◌==◌, ◌≤◌, IfSome, length, option_map, take};
 ghost use Rattle.std.specs.Char.{is_ascii_digit};
 ghost use Rattle.std.specs.List.{list_all, list_any, position_or_len, prefix_len};
 ghost use Rattle.std.specs.Option.{ForSome};
+ghost use Rattle.ftp_endpoint.specs.Number.{IsShort};
 ghost use Rattle.ftp_facts.specs.Moment.{two_digits};
 ghost use Rattle.ftp_facts.specs.Value.{number_value};
 ghost use Rattle.tool_listing.specs.entries.UnixLine.{before_arrow, begins_at, behind_column, behind_day, behind_one, behind_rights, behind_size};
 ghost use Rattle.tool_listing.specs.entries.UnixLine.{date_value, day_value, first_column, is_blank, is_right, is_time, kind_value, month_value, name_in};
 ghost use Rattle.tool_listing.specs.entries.UnixLine.{rights_value, told, unix_value};
 
+use crate::entries::unix_entry::{UnixKind, UnixLine};
 use ftp_endpoint::number;
 use ftp_facts::{Moment, moment_of_text};
-
-/// What stands under a name, by the letter that a line begins with.
-#[derive(Clone, Copy)]
-pub enum UnixKind {
-    File,
-    Dir,
-    Link,
-    /// A pipe, a socket or a device.
-    Other,
-}
-
-/// What a line tells.
-#[derive(Clone, Copy)]
-pub struct UnixLine<'a> {
-    pub kind: UnixKind,
-    /// In octets.
-    pub size: u64,
-    /// The moment at which the day begins on which it was changed last, in UTC; none where the line has a time of day in place of the year.
-    pub day: Option<Moment>,
-    pub name: &'a [u8],
-}
 
 /// Reads a line, without its end: rights, links, owner, group, size, month, day, year or time of day, and behind one space the name. None where it is not of
 /// that form, as the line `total 12`.
@@ -63,6 +44,7 @@ fn behind_rights(kind: UnixKind, rest: &[u8]) -> Option<UnixLine<'_>>
 }
 
 fn behind_size(kind: UnixKind, size: u64, rest: &[u8]) -> Option<UnixLine<'_>>
+    requires { IsShort size }
     ensures { option_map told result ≡ behind_size kind size rest.now }
 {
     let (month, rest) = cut_column(rest);
@@ -77,7 +59,8 @@ fn behind_size(kind: UnixKind, size: u64, rest: &[u8]) -> Option<UnixLine<'_>>
 }
 
 fn behind_day(kind: UnixKind, size: u64, month: u64, day: u64, rest: &[u8]) -> Option<UnixLine<'_>>
-    requires { (month ≤ 12) × (day ≤ 99) }
+    requires few { (month ≤ 12) × (day ≤ 99) }
+    requires short { IsShort size }
     ensures { option_map told result ≡ behind_day kind size month day rest.now }
 {
     let (year, name) = cut_one(rest);
@@ -243,7 +226,8 @@ fn day_of(text: &[u8]) -> Option<u64>
 /// The number that a text is: 1 to 18 digits.
 #[tactic(auto, using(ftp_facts::proofs::NumberLemmas::no_number))]
 fn number_in(text: &[u8]) -> Option<u64>
-    ensures { result ≡ number_value text.now }
+    ensures value { result ≡ number_value text.now }
+    ensures short { IfSome result IsShort }
 {
     match number(text) {
         Some(value) => Some(value),
