@@ -1,5 +1,5 @@
 #!/usr/bin/env python3
-"""An upload that the server says is done is no success where the server then says that there is no such file."""
+"""An upload that the server says is done, and then that there is no such file, as where it takes each away at once: done, with a note."""
 from hostile import FakeServer, Rows
 
 
@@ -14,7 +14,10 @@ def main():
     rows = Rows()
     (rows.folder / "up").write_bytes(b"u" * 1000)
     status, told, commands = put(rows, "550 no such file")
-    rows.row("226 and then SIZE 550: status 1, one STOR", status == 1 and commands.count("STOR x") == 1, (status, told, commands))
+    holds = status == 0 and commands.count("STOR x") == 1 and told.startswith(b"note: ") and b"550 no such file" in told
+    rows.row("226 and then SIZE 550: status 0, one STOR, a note", holds, (status, told, commands))
+    status, told, _ = put(rows, "213 999")
+    rows.row("226 and then SIZE of an octet less, and the same each time: status 1", status == 1, (status, told))
     status, told, _ = put(rows, "502 no SIZE")
     rows.row("226, and SIZE is not known: status 0", status == 0, (status, told))
     status, told, _ = put(rows, "213 1000")

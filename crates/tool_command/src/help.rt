@@ -184,7 +184,8 @@ more octets than --limit is refused, with status 1. Behind an upload in type I a
 it has, where it tells that; where that is a part, or the data connection alone broke, it goes on there, by at most 16 tries in all, and is
 done only once the size is that of FILE. It goes on only where the last 65,536 octets that the server has are read back, by REST and RETR,
 and are those of FILE at that place, and else begins anew. More than one try are told on standard error; status 1 where the server has
-another size in the end, or says that there is no such file; 3 where FILE changed while it went.
+another size in the end; 3 where FILE changed while it went. A server that says that it is done, and then that there is no such file, may
+have taken it away at once: status 0, with a note.
 
 Example:
   FTP_PASSWORD=secret ftp_tool put a.txt 127.0.0.1:2121/a.txt --user guest

@@ -7,6 +7,7 @@ use Rattle.tool_resume.specs.declared.step.There.TheVariants as Theres
 use Rattle.tool_resume.specs.declared.uploading.FirstLook.{FirstLook}
 use Rattle.tool_resume.specs.declared.uploading.FirstLook.TheVariants as Looks
 use Rattle.tool_resume.specs.declared.uploading.Wrong.{Wrong}
+use Rattle.tool_resume.specs.declared.uploading.Wrong.TheVariants as Wrongs
 use Rattle.tool_resume.specs.Telling.{told_status}
 use Rattle.tool_terminal.specs.declared.status.Status.{Status}
 use Rattle.tool_terminal.specs.declared.status.Status.TheVariants as Statuses
@@ -21,10 +22,10 @@ abbrev pub look_after : There → FirstLook
 look_after Theres.Lost = Looks.LeftOut
 look_after there = Looks.Asked
 
--- the exit status of an upload that the server says is done: all is done where it has not told of another file since
+-- the exit status of an upload that the server says is done: all is done where it has not told another size since; it may have taken the file away
 abbrev pub done_status : Option Wrong → Status
-done_status None = Statuses.Done
-done_status (Some wrong) = Statuses.Refused
+done_status (Some (Wrongs.Octets count)) = Statuses.Refused
+done_status wrong = Statuses.Done
 
 -- the exit status of an upload that was answered so
 abbrev pub upload_status : {A : Type 0} → Answer A → Option Wrong → Status

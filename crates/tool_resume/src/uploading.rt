@@ -18,12 +18,12 @@ use std::io::Eprint;
 use tool_files::LocalFiles;
 use tool_session::{ClientSession, Openings, Phase, SessionFault, SessionTask, Ticket, at, say};
 
-/// What a server has that says that all is done, where that is not the file.
+/// What a server tells of an upload that it said is done, where that is not the file.
 #[derive(Clone, Copy)]
 pub enum Wrong {
     /// So many octets.
     Octets(u64),
-    /// No such file.
+    /// That there is no such file, as where it takes each away at once.
     Nothing,
 }
 

@@ -69,16 +69,16 @@ impl<'a, R: LocalFiles + Eprint> Uploading<'a, R> {
         Ok(Status::Refused)
     }
 
-    /// Tells that the server says that it is done, and then that there is no such file.
+    /// Tells that the server says that it is done, and then that there is no such file: some servers take a file away at once.
     fn tell_missing(&self, last_reply: &LastReply) -> io::Result<Status>
-        ensures { IfOk result (λ status. status ≡ Status.Refused) }
+        ensures { IfOk result (λ status. status ≡ Status.Done) }
     {
         say(
             self.rt,
-            "error: the server says that it is done, and tells no size of it: ",
+            "note: the server says that it is done, and then that it has no such file: ",
             &last_reply.refusal(UNAVAILABLE),
             "",
         )?;
-        Ok(Status::Refused)
+        Ok(Status::Done)
     }
 }
