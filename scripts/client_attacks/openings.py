@@ -1,6 +1,6 @@
 #!/usr/bin/env python3
-"""Data connections are asked for by EPSV or EPRT first, and by PASV or PORT where the server says that it does not know them: from then on, over
-each control connection of the program. What goes up goes up whole all the same, and a 227 of another host is refused.
+"""Data connections are asked for by EPSV or EPRT first, and by PASV or PORT where the server refuses EPSV, tells a dead port, or does not know EPRT: from then
+on, over each control connection of the program. What goes up goes up whole all the same, and a 227 of another host is refused.
 """
 import re
 import socket
@@ -11,6 +11,7 @@ from shelf import Shelf
 OCTETS = bytes(range(256)) * 300
 TREE = {"a": OCTETS, "d": None, "d/b": b"b", "d/c": b""}
 UNKNOWN = ("500 what", "501 what", "502 no", "522 no, use (1)")
+REFUSED = ("403 no", "425 no", "451 no", "503 no", "504 no", "530 no", "550 no", "599 no")
 FOREIGN = "227 here (10,9,8,7,200,1)"
 
 
@@ -44,6 +45,11 @@ def eprt_elsewhere(session, argument):
     session.reply("200 ok")
 
 
+def dead_port(session, argument):
+    """A port where nobody listens."""
+    session.reply("229 here (|||1|)")
+
+
 def verbs(shelf):
     """How often each opening was asked for."""
     said = [command.split()[0] for command in shelf.server.commands]
@@ -65,11 +71,11 @@ def clear(rows, name):
 
 
 def unknown(rows):
-    """Each code that says that EPSV is not known, and each program: EPSV is asked for once."""
+    """Each code that refuses EPSV, a dead port, and each program: EPSV is asked for once."""
     (rows.folder / "up").write_bytes(OCTETS)
     local = rows.folder / "local"
-    for reply in UNKNOWN:
-        says, code = {"EPSV": reply}, reply[:3]
+    for reply in (*UNKNOWN, *REFUSED, dead_port):
+        says, code = {"EPSV": reply}, reply[:3] if isinstance(reply, str) else "dead"
         clear(rows, "out")
         status, _, told, asked, _ = run(rows, ["get", "AT/a", "out"], says)
         holds = (status, told, asked) == (0, b"", {"EPSV": 1, "PASV": 1}) and (rows.folder / "out").read_bytes() == OCTETS
@@ -115,8 +121,12 @@ def known(rows):
     rows.row("--no-extended: no EPSV", (status, out, asked) == (0, OCTETS, {"PASV": 1}), (status, told, asked))
     status, _, told, asked, _ = run(rows, ["cat", "AT/a", "--extended"], {"EPSV": "500 what"})
     rows.row("--extended, EPSV 500: refused, no PASV", (status, asked) == (1, {"EPSV": 1}) and b"500 what" in told, (status, told, asked))
-    status, _, told, asked, _ = run(rows, ["cat", "AT/a"], {"EPSV": "550 no"})
-    rows.row("EPSV 550: refused, no PASV", (status, asked) == (1, {"EPSV": 1}) and b"550 no" in told, (status, told, asked))
+    status, _, told, asked, _ = run(rows, ["cat", "AT/a"], {"EPSV": "421 leaving"})
+    rows.row("EPSV 421: no PASV", status == 1 and set(asked) == {"EPSV"} and b"421 leaving" in told, (status, told, asked))
+    status, _, told, asked, _ = run(rows, ["cat", "AT/none"])
+    rows.row("EPSV is known, and RETR 550: refused, no PASV", (status, asked) == (1, {"EPSV": 1}), (status, told, asked))
+    status, _, told, asked, _ = run(rows, ["cat", "AT/none", "--active"])
+    rows.row("EPRT is known, and RETR 550: refused, no PORT", (status, asked) == (1, {"EPRT": 1}), (status, told, asked))
     status, _, told, asked, _ = run(rows, ["cat", "AT/a"], {"RETR": "502 no"})
     rows.row("EPSV is known, and RETR 502: refused, no PASV", (status, asked) == (1, {"EPSV": 1}) and b"502 no" in told, (status, told, asked))
     status, _, told, asked, _ = run(rows, ["cat", "AT/a"], {"EPSV": "500 what", "PASV": "502 no"})
@@ -137,10 +147,10 @@ def foreign(rows):
     cases = (
         (["cat", "AT/a", "--no-extended"], {}, "without --no-extended it names none"),
         (["mirror", "AT/", "./foreign", "--no-extended"], {}, "without --no-extended it names none"),
-        (["cat", "AT/a"], {"EPSV": "502 no"}, "knows no EPSV"),
-        (["put", "up", "AT/new"], {"EPSV": "500 what"}, "knows no EPSV"),
-        (["ls", "AT/"], {"EPSV": "522 no"}, "knows no EPSV"),
-        (["mirror", "AT/", "./foreign"], {"EPSV": "502 no"}, "knows no EPSV"),
+        (["cat", "AT/a"], {"EPSV": "502 no"}, "EPSV did not work"),
+        (["put", "up", "AT/new"], {"EPSV": "500 what"}, "EPSV did not work"),
+        (["ls", "AT/"], {"EPSV": "522 no"}, "EPSV did not work"),
+        (["mirror", "AT/", "./foreign"], {"EPSV": "502 no"}, "EPSV did not work"),
     )
     for words, says, help in cases:
         status, out, told, asked, _ = run(rows, words, {"PASV": FOREIGN, **says})

@@ -157,8 +157,9 @@ never said a line, and then both have the seconds of --timeout together; each is
 size and moment are those of before, and else begins anew. A server that says, takes and sends nothing for the seconds of --timeout counts
 as one that ended it; the addresses of a name share them, until one answers. Of lines that it says behind a command, while nothing else goes
 over, the first alone counts. With --max-time all that is asked ends after so many seconds, over all control connections and tries.
-Over IPv4 too a data connection is asked for by EPSV, with --active by EPRT, and from the first answer 500, 501, 502 or 522 on by PASV or
-PORT; with --extended by EPSV or EPRT alone, with --no-extended by PASV or PORT alone. Another host than the server's is never at its other
+Over IPv4 too a data connection is asked for by EPSV, with --active by EPRT. Once EPSV is refused, but by 421, or nothing listens at the port
+that it tells, it is by PASV; once EPRT is answered 500, 501, 502 or 522, by PORT; with --extended by EPSV or EPRT alone, with --no-extended
+by PASV or PORT alone. Another host than the server's is never at its other
 end: where PASV is answered with one, that is refused, and what is told says what may help.
 Who logs in is the user of --user, else that of a URL, else that of the first entry that .netrc has for HOST, else anonymous. The password
 of anonymous is none; that of another user is the first of: that of a URL that names the same user or where --user names none; the file that

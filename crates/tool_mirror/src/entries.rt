@@ -181,7 +181,10 @@ fn opened<S: ClientSession>(
 ) -> Result<Answer<Global>, AllocError> {
     let opened = slot.opened();
     let answer = slot.answer(listing_request(alloc, mirror, below)?);
-    if !mirror.openings.hear(&answer, slot.opened() > opened) {
+    if !mirror
+        .openings
+        .hear(&answer, mirror.how, slot.opened() > opened)
+    {
         return Ok(answer);
     }
     drop(answer);

@@ -194,7 +194,10 @@ where
 {
     let opened = slot.opened();
     let (answer, count) = upload(rt, alloc, slot, mirror, below, to)?;
-    if !mirror.openings.hear(&answer, slot.opened() > opened) {
+    if !mirror
+        .openings
+        .hear(&answer, mirror.how, slot.opened() > opened)
+    {
         return counted(&answer, count);
     }
     drop(answer);

@@ -6,6 +6,7 @@ pub mod Course
 pub mod Rate
 -- By which commands a data connection is asked for, and when by the others.
 pub mod Opening
+pub mod OpeningRows
 -- What was asked and answered over a control connection, one after another.
 pub mod Talking
 -- Why a program stops before it has an answer of the server.

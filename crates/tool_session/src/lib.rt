@@ -7,6 +7,7 @@ mod opening;
 mod rate;
 mod request;
 mod request_state;
+pub mod rows;
 mod saying;
 mod server;
 mod session;

@@ -1,22 +1,22 @@
 // By which commands data connections and listings are asked for: what a server does not know is asked otherwise, from then on.
 ghost use Rattle.std.specs.Prelude.{◌≡◌};
-ghost use Rattle.tool_session.specs.Opening.{asks_extended, list_verb_by, opening_by, says_unknown, stranger_by};
+ghost use Rattle.tool_session.specs.Opening.{asks_extended, fails_passive, list_verb_by, may_fall_back, opening_by, says_unknown, stranger_by};
 
 use ftp_operation::{Answer, How, ListVerb};
-use ftp_reply::code::{BAD_ARGUMENT, BAD_PROTOCOL, NOT_IMPLEMENTED, UNKNOWN};
+use ftp_reply::code::{BAD_ARGUMENT, BAD_PROTOCOL, NOT_AVAILABLE, NOT_IMPLEMENTED, UNKNOWN};
 use std::alloc::Global;
 use std::cell::Cell;
 
 /// By which commands a data connection is asked for over IPv4 (RFC 959, section 4.1.2; RFC 2428, sections 2 and 3); over IPv6 there are EPSV and EPRT alone.
 #[derive(Clone, Copy)]
 pub enum Opening {
-    /// By EPSV or EPRT, until the server says that it does not know them.
+    /// By EPSV or EPRT, until the server refuses EPSV, nothing takes a connection at the port that it tells, or it does not know EPRT.
     ExtendedFirst,
     /// By EPSV or EPRT alone.
     Extended,
     /// By PASV or PORT alone.
     Plain,
-    /// By PASV or PORT from now on, since the server says that it does not know the others.
+    /// By PASV or PORT from now on, since the others did not work.
     FellBack,
 }
 
@@ -27,7 +27,7 @@ pub enum Stranger {
     Came,
     /// A 227 names it, and EPSV, which names none, was not asked for.
     Named,
-    /// A 227 names it, and the server does not know EPSV.
+    /// A 227 names it, and EPSV did not work.
     NamedBehind,
 }
 
@@ -42,7 +42,7 @@ impl Stranger {
                 "the server names another host than its own, which is not trusted; without --no-extended it names none"
             }
             Stranger::NamedBehind => {
-                "the server knows no EPSV, and names another host than its own, which is not trusted; --active may help"
+                "EPSV did not work, and the server names another host than its own, which is not trusted; --active may help"
             }
         }
     }
@@ -102,24 +102,30 @@ impl Openings {
         stranger_of(self.now.get(), how.active)
     }
 
-    /// Takes in what was answered, with a data connection or without. Says whether the same is to be asked again, as `how` then says.
-    pub fn hear(&self, answer: &Answer<Global>, is_opened: bool) -> bool {
+    /// Takes in what was answered to a transfer, with a data connection or without. Says whether the same is to be asked again, as `how` then says.
+    pub fn hear(&self, answer: &Answer<Global>, how: How, is_opened: bool) -> bool {
         let before = self.now.get();
-        let after = opening_after(before, answer, is_opened);
+        let after = opening_after(before, answer, how.active, is_opened);
         self.now.set(after);
         before.asks_extended() && !after.asks_extended()
     }
 }
 
 /// By which commands it is asked after such an answer, with a data connection or without.
-fn opening_after(opening: Opening, answer: &Answer<Global>, is_opened: bool) -> Opening
-    ensures { result ≡ opening_by opening answer.now is_opened }
+fn opening_after(
+    opening: Opening,
+    answer: &Answer<Global>,
+    is_active: bool,
+    is_opened: bool,
+) -> Opening
+    // Witness: an equation; `edits/an_answer_over_a_data_connection_turns_to_pasv`.
+    ensures { result ≡ opening_by opening answer.now is_active is_opened }
 {
     match opening {
         Opening::ExtendedFirst => {
             if is_opened {
                 Opening::ExtendedFirst
-            } else if says_unknown(answer) {
+            } else if may_fall_back(answer, is_active) {
                 Opening::FellBack
             } else {
                 Opening::ExtendedFirst
@@ -128,6 +134,31 @@ fn opening_after(opening: Opening, answer: &Answer<Global>, is_opened: bool) -> 
         Opening::Extended => Opening::Extended,
         Opening::Plain => Opening::Plain,
         Opening::FellBack => Opening::FellBack,
+    }
+}
+
+/// Whether PASV or PORT may help after an answer without a data connection.
+fn may_fall_back(answer: &Answer<Global>, is_active: bool) -> bool
+    ensures { result ≡ may_fall_back answer.now is_active }
+{
+    if is_active {
+        says_unknown(answer)
+    } else {
+        fails_passive(answer)
+    }
+}
+
+/// Whether EPSV may have been refused, or nothing takes a connection at its port: without a data connection, any refusal came before the command of the
+/// transfer.
+fn fails_passive(answer: &Answer<Global>) -> bool
+    // Witness: an equation; `edits/a_dead_port_of_epsv_is_the_end`, `edits/a_server_that_leaves_is_asked_by_pasv`.
+    ensures { result ≡ fails_passive answer.now }
+{
+    match answer {
+        Answer::Refused(NOT_AVAILABLE) => false,
+        Answer::Refused(code) => *code >= 400,
+        Answer::Unopened => true,
+        _ => false,
     }
 }
 

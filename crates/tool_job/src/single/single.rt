@@ -183,7 +183,11 @@ impl<'a> Single<'a> {
     ) -> Result<Answer<Global>, AllocError> {
         let opened = slot.opened();
         let answer = slot.answer(self.request()?);
-        if self.wish.is_simple() || !self.openings.hear(&answer, slot.opened() > opened) {
+        if self.wish.is_simple()
+            || !self
+                .openings
+                .hear(&answer, self.how, slot.opened() > opened)
+        {
             return Ok(answer);
         }
         drop(answer);

@@ -19,7 +19,10 @@ impl<'a, R: LocalFiles + Eprint> Downloading<'a, R> {
     ) -> Result<Answer<Global>, AllocError> {
         let opened = slot.opened();
         let answer = self.asked_once(slot)?;
-        if !self.openings.hear(&answer, slot.opened() > opened) {
+        if !self
+            .openings
+            .hear(&answer, self.how, slot.opened() > opened)
+        {
             return Ok(answer);
         }
         drop(answer);

@@ -20,7 +20,10 @@ impl<'a, R: LocalFiles + Eprint> Uploading<'a, R> {
     ) -> io::Result<Answer<Global>> {
         let opened = slot.opened();
         let answer = self.asked_once(slot, from)?;
-        if !self.openings.hear(&answer, slot.opened() > opened) {
+        if !self
+            .openings
+            .hear(&answer, self.how, slot.opened() > opened)
+        {
             return Ok(answer);
         }
         drop(answer);
