@@ -6,8 +6,8 @@ _ftp_tool_options() {
     case $1 in
         get) echo '--user --password-file --active --extended --no-extended --quiet --timeout --max-time --limit --limit-rate --parallel --progress --type
             --stru --mode --keep --continue --moment --no-glob --help' ;;
-        put) echo '--user --password-file --active --extended --no-extended --quiet --timeout --max-time --limit --limit-rate --parallel --progress --type
-            --stru --mode --help' ;;
+        put) echo '--user --password-file --active --extended --no-extended --quiet --timeout --max-time --limit --limit-rate --temp --parallel --progress
+            --type --stru --mode --help' ;;
         ls) echo '--user --password-file --active --extended --no-extended --quiet --timeout --max-time --limit --progress --type --stru --mode --long --json
             --help' ;;
         cat) echo '--user --password-file --active --extended --no-extended --quiet --timeout --max-time --limit --progress --type --stru --mode --help' ;;

@@ -33,6 +33,7 @@ complete -c ftp_tool -n '__fish_seen_subcommand_from get put ls cat size rm mkdi
 complete -c ftp_tool -n '__fish_seen_subcommand_from get put ls cat size rm mkdir rmdir mv mirror' -l max-time -x -d 'seconds that all may take'
 complete -c ftp_tool -n '__fish_seen_subcommand_from get put ls cat size rm mkdir rmdir mv mirror' -l limit -x -d 'the most octets of a file'
 complete -c ftp_tool -n '__fish_seen_subcommand_from get put mirror' -l limit-rate -x -d 'the most octets a second'
+complete -c ftp_tool -n '__fish_seen_subcommand_from put' -l temp -d 'each file gets its name once it is there'
 complete -c ftp_tool -n '__fish_seen_subcommand_from get put rm mirror' -l parallel -x -d 'control connections at once, 1 to 8'
 complete -c ftp_tool -n '__fish_seen_subcommand_from get put ls cat size rm mkdir rmdir mv' -l progress -d 'tells how far it is'
 complete -c ftp_tool -n '__fish_seen_subcommand_from get put ls cat size rm mkdir rmdir mv frame' -l type -x -a 'A I' -d 'ASCII or image'

@@ -9,8 +9,8 @@ use clap::ArgMatches;
 use std::alloc::Global;
 use std::io;
 use std::io::Eprint;
-use tool_command::{ErrorStream, PLACE_OPTION, asked_of, openings_of, url_in};
-use tool_get_put::{Each, FilePair, PlaceTask};
+use tool_command::{ErrorStream, PLACE_OPTION, asked_of, openings_of, put_task_of, url_in};
+use tool_get_put::{Each, FilePair};
 use tool_job::Target;
 use tool_location::{Location, place_for};
 use tool_terminal::Status;
@@ -32,7 +32,7 @@ where
     let openings = openings_of(words);
     match url_in(alloc, PLACE_OPTION, place) {
         Ok(url) => match asked_of(words, place, url.as_ref(), &openings, errors) {
-            Ok(asked) => put_where(rt, alloc, files, &asked),
+            Ok(asked) => put_where(rt, alloc, words, files, &asked),
             Err(refusal) => refuse(rt, refusal),
         },
         Err(refusal) => refuse(rt, refusal),
@@ -40,7 +40,13 @@ where
 }
 
 /// Uploads files to a place, where all of them can go there.
-fn put_where<R>(rt: &R, alloc: Global, files: &[&str], asked: &Target<'_>) -> io::Result<u8>
+fn put_where<R>(
+    rt: &R,
+    alloc: Global,
+    words: &ArgMatches<'_>,
+    files: &[&str],
+    asked: &Target<'_>,
+) -> io::Result<u8>
 where
     R: Programs + Eprint,
 {
@@ -49,7 +55,7 @@ where
         Err(refusal) => return refuse(rt, refusal),
     };
     match check_uploads(alloc, files) {
-        Ok(()) => number_of(put_all(rt, alloc, asked, into, files)),
+        Ok(()) => number_of(put_all(rt, alloc, words, asked, into, files)),
         Err(refusal) => refuse(rt, refusal),
     }
 }
@@ -58,16 +64,17 @@ where
 fn put_all<R: Programs + Eprint>(
     rt: &R,
     alloc: Global,
+    words: &ArgMatches<'_>,
     asked: &Target<'_>,
     into: bool,
     files: &[&str],
 ) -> io::Result<Status> {
-    if asked.at_once > 1 && files.len() > 1 {
+    if asked.at_once > 1 && files.len() > 1 && !words.get_flag("temp") {
         return put_at_once(rt, alloc, asked, into, files);
     }
     let mut worst = Status::Done;
     for file in files {
-        let status = put_one(rt, alloc, asked, into, *file)?;
+        let status = put_one(rt, alloc, words, asked, into, *file)?;
         tell_undone(rt, status, files.len(), "copied", *file)?;
         worst = worst.worse(status);
     }
@@ -98,6 +105,7 @@ fn put_at_once<R: Programs>(
 fn put_one<R: Programs>(
     rt: &R,
     alloc: Global,
+    words: &ArgMatches<'_>,
     asked: &Target<'_>,
     into: bool,
     file: &str,
@@ -110,5 +118,5 @@ fn put_one<R: Programs>(
         },
         ..*asked
     };
-    rt.fetch(&asked, PlaceTask::Put(file))
+    rt.fetch(&asked, put_task_of(words, file))
 }

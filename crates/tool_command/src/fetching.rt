@@ -66,6 +66,11 @@ pub const PUT: Subcommand<'static> = Subcommand {
         },
         LIMIT_RATE,
         PARALLEL,
+        Word {
+            name: "temp",
+            kind: WordKind::Flag,
+            help: "each file goes up as PATH.ftp-part, and gets its name once all is there",
+        },
     ],
 };
 
@@ -320,6 +325,16 @@ pub fn get_task_of<'a>(
     } else {
         PlaceTask::Get(download)
     }
+}
+
+/// What `put` does at a place with a file.
+pub fn put_task_of<'a>(words: &ArgMatches<'_>, file: &'a str) -> PlaceTask<'a> {
+    chosen(
+        words,
+        "temp",
+        PlaceTask::PutRenamed(file),
+        PlaceTask::Put(file),
+    )
 }
 
 /// What `get` does with each of several files.

@@ -187,6 +187,9 @@ done only once the size is that of FILE. It goes on only where the last 65,536 o
 and are those of FILE at that place, and else begins anew. More than one try are told on standard error; status 1 where the server has
 another size in the end; 3 where FILE changed while it went. A server that says that it is done, and then that there is no such file, may
 have taken it away at once: status 0, with a note.
+With --temp a file goes up as PATH.ftp-part, and gets the name PATH by RNFR and RNTO once the server has all of it: whoever reads PATH finds
+the older file or the new one, if the server renames so, also where this end is killed. Files go one after another then. Where one is not
+done, what came stays as PATH.ftp-part.
 
 Example:
   FTP_PASSWORD=secret ftp_tool put a.txt 127.0.0.1:2121/a.txt --user guest

@@ -26,6 +26,7 @@ mod words;
 pub use command_line::{Program, command, program_of};
 pub use fetching::{
     ErrorStream, PLACE_OPTION, asked_of, each_got, fetch_task_of, get_task_of, is_matched,
+    put_task_of,
 };
 pub use laws::{one_count, one_most, one_port, one_range};
 pub use mirroring::mirror_of;

@@ -13,7 +13,7 @@ use std::time::Clock;
 use tool_connect::{Converses, Logins};
 use tool_files::LocalFiles;
 use tool_job::{
-    DownloadJob, Getting, Simple, Target, Wish, ask_for, do_simple, get, make_all, put,
+    DownloadJob, Getting, Simple, Target, Wish, ask_for, do_simple, get, make_all, put, put_renamed,
 };
 use tool_resume::tell;
 use tool_session::{LastReply, Phase, SessionFault, at, say};
@@ -28,6 +28,8 @@ pub enum PlaceTask<'a> {
     GetMatching(DownloadJob<'a>),
     /// This file of this end is uploaded; `-` is standard input.
     Put(&'a str),
+    /// The same under another name, until the server has all of it.
+    PutRenamed(&'a str),
     /// The entries of the directory go to standard output, or its names where the server has no machine listing.
     List(ListingFormat),
     /// What needs no data connection.
@@ -74,6 +76,7 @@ where
             &mut last_reply,
         ),
         PlaceTask::Put(file) => put(rt, alloc, on, file, &mut last_reply),
+        PlaceTask::PutRenamed(file) => put_renamed(rt, alloc, on, file, &mut last_reply),
         PlaceTask::List(lines) => list(rt, alloc, on, lines, &mut last_reply),
         PlaceTask::Simple(simple) => do_simple(rt, alloc, on, simple, &mut last_reply),
         PlaceTask::MakeDirectories => make_all(rt, alloc, on, &mut last_reply),
@@ -106,7 +109,7 @@ fn single_channel<'a>(asked: &Target<'a>) -> Target<'a> {
 fn file_of(task: PlaceTask<'_>) -> &str {
     match task {
         PlaceTask::Get(download) | PlaceTask::GetMatching(download) => download.file,
-        PlaceTask::Put(file) => file,
+        PlaceTask::Put(file) | PlaceTask::PutRenamed(file) => file,
         PlaceTask::List(_) | PlaceTask::Simple(_) | PlaceTask::MakeDirectories => "-",
     }
 }

@@ -7,5 +7,7 @@ pub mod Leaving
 -- What needs no data connection.
 pub mod Parents
 pub mod Simple
+-- An upload under another name.
+pub mod Upload
 -- A listing that may be of a file.
 pub mod Looking

@@ -13,5 +13,5 @@ pub use queue::{
 pub use single::{
     DownloadJob, FileSeen, Job, Loaded, OUTPUT, PartHandling, Simple, Single, Target, Targets,
     UploadTooLarge, Wish, ask_for, discard, do_simple, get, keep_part, leave, limit_of, load,
-    make_all, place_text, prepare, put, report, source_of, stamp_of, tell_unwritten,
+    make_all, place_text, prepare, put, put_renamed, report, source_of, stamp_of, tell_unwritten,
 };

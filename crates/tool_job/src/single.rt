@@ -22,4 +22,4 @@ pub use single::{Single, Wish, ask_for};
 pub use target::Target;
 pub use targets::{Targets, source_of};
 pub use telling::tell_unwritten;
-pub use upload::{FileSeen, Loaded, UploadTooLarge, load, put};
+pub use upload::{FileSeen, Loaded, UploadTooLarge, load, put, put_renamed};

@@ -1,11 +1,13 @@
 // An upload over a control connection of its own: what goes, and what is told of it.
-ghost use Rattle.std.specs.Prelude.{◌≡◌, ◌<◌, ◌≤◌, IfErr, IfOk, IfSome};
+ghost use Rattle.std.specs.Prelude.{◌≡◌, ◌<◌, ◌≤◌, IfErr, IfOk, IfSome, string_bytes};
+ghost use Rattle.tool_job.specs.single.Upload.{other_name};
 
+use crate::single::simple::{Simple, do_simple};
 use crate::single::single::ask_at;
 use crate::single::target::Target;
 use std::alloc::Global;
 use std::io;
-use std::io::Eprint;
+use std::io::{Eprint, Print};
 use std::time::SystemTime;
 use tool_connect::{Converses, Logins};
 use tool_files::{LimitedContent, LocalFiles, OpenSource, read_most};
@@ -41,6 +43,38 @@ where
     let path = asked.place.path;
     let mut uploading = Uploading::new(rt, alloc, source, path, asked.how, asked.openings);
     put_by(rt, asked, &mut uploading, last_reply)
+}
+
+/// Uploads a file under another name, which is its path and `.ftp-part`, and gives it its path once the server has all of it: nobody finds a part of it
+/// there. Where it is not done, or the path can't be given, what came stays under the other name. Else as `put`.
+pub fn put_renamed<R>(
+    rt: &R,
+    alloc: Global,
+    asked: &Target<'_>,
+    file: &str,
+    last_reply: &mut LastReply,
+) -> Result<Status, SessionFault>
+where
+    R: Converses + Logins + LocalFiles + Input + Print + Eprint,
+{
+    let path = asked.place.path;
+    let other = at(Phase::Asking, other_name(alloc, path))?;
+    let aside = asked.at(other.as_str());
+    let status = put(rt, alloc, &aside, file, last_reply)?;
+    if status != Status::Done {
+        return Ok(status);
+    }
+    do_simple(rt, alloc, &aside, Simple::Move(path), last_reply)
+}
+
+/// The name under which a file goes up that gets its path afterwards. Fails where memory is refused.
+fn other_name(alloc: Global, path: &str) -> io::Result<String<Global>>
+    // Witness: an equation; `edits/a_file_goes_up_under_its_own_name`.
+    ensures { IfOk result (λ name. string_bytes name ≡ other_name path.now) }
+{
+    let mut name = String::from_str(alloc, path)?;
+    name.push_str(".ftp-part")?;
+    Ok(name)
 }
 
 /// What is not uploaded: it has more octets than may be.
