@@ -1,2 +1,4 @@
 -- What `run` asks and reports, and its exit status.
 pub mod Running
+-- What files are called that wait.
+pub mod Waiting

@@ -1,4 +1,7 @@
 // Several files of one server, over several control connections at once.
+ghost use Rattle.std.specs.Prelude.{map};
+ghost use Rattle.tool_get_put.specs.Waiting.{file_in, path_in};
+
 use std::alloc::Global;
 use std::env::Env;
 use std::fs::{File, Files};
@@ -129,6 +132,8 @@ impl<'a, R> Drop for Gets<'a, R> {
 }
 
 impl<'a, R: LocalFiles + Print + Eprint> WaitingJobs<Fetched<'a, R>> for Gets<'a, R> {
+    ghost waits = { λ gets. map path_in gets.pairs.now };
+
     fn next(&mut self) -> io::Result<Option<Fetched<'a, R>>> {
         let Some((first, rest)) = self.pairs.split_first() else {
             return Ok(None);
@@ -175,6 +180,8 @@ impl<'a, R> Drop for Puts<'a, R> {
 }
 
 impl<'a, R: LocalFiles + Input + Eprint> WaitingJobs<QueuedUpload<'a, R>> for Puts<'a, R> {
+    ghost waits = { λ puts. map file_in puts.pairs.now };
+
     fn next(&mut self) -> io::Result<Option<QueuedUpload<'a, R>>> {
         let Some((first, rest)) = self.pairs.split_first() else {
             return Ok(None);
@@ -225,6 +232,8 @@ impl<'a, R> Drop for Removals<'a, R> {
 }
 
 impl<'a, R: Print + Eprint> WaitingJobs<Removed<'a, R>> for Removals<'a, R> {
+    ghost waits = { λ removals. map path_in removals.pairs.now };
+
     fn next(&mut self) -> io::Result<Option<Removed<'a, R>>> {
         let Some((first, rest)) = self.pairs.split_first() else {
             return Ok(None);

@@ -1,5 +1,7 @@
 // The files of a directory whose names are of a pattern, one after another over one control connection.
-ghost use Rattle.std.specs.Prelude.{◌≡◌, ◌++◌};
+ghost use Rattle.std.specs.Prelude.{◌≡◌, ◌++◌, IfOk, string_bytes};
+ghost use Rattle.std.specs.Vec.Iter.{into_iter_items};
+ghost use Rattle.tool_get_put.specs.Waiting.{paths_below};
 
 use crate::fetching::says_unknown;
 use ftp_facts::Text;
@@ -108,6 +110,8 @@ impl<'a, R> Drop for Names<'a, R> {
 }
 
 impl<'a, R: LocalFiles + Print + Eprint> WaitingJobs<Fetched<'a, R>> for Names<'a, R> {
+    ghost waits = { λ names. paths_below names.dir.now (into_iter_items names.names) };
+
     fn next(&mut self) -> io::Result<Option<Fetched<'a, R>>> {
         match self.names.next() {
             Some(name) => Ok(Some(self.fetched(name.as_slice())?)),
@@ -118,7 +122,9 @@ impl<'a, R: LocalFiles + Print + Eprint> WaitingJobs<Fetched<'a, R>> for Names<'
 
 impl<'a, R: LocalFiles + Print + Eprint> Names<'a, R> {
     /// The file of a name.
-    fn fetched(&self, name: &[u8]) -> io::Result<Fetched<'a, R>> {
+    fn fetched(&self, name: &[u8]) -> io::Result<Fetched<'a, R>>
+        ensures { IfOk result (λ fetched. string_bytes fetched.path ≡ self.now.dir.now ++ name.now) }
+    {
         let Ok(text) = str::from_utf8(name) else {
             return Err(Error::new(ErrorKind::InvalidData, "a name is no text (UTF-8)"));
         };

@@ -1,2 +1,3 @@
 pub mod AheadLemmas
+pub mod OrderLemmas
 pub mod StatusLemmas

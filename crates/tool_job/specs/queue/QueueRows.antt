@@ -1,5 +1,5 @@
 -- Worked rows: which job of a queue is next, what follows an answer, and the exit status (own choice). Each is a theorem that computes.
-use Rattle.std.specs.Prelude.{◌≡◌, ℕ, true, false, [], ◌∷◌, Some, None, Ok}
+use Rattle.std.specs.Prelude.{◌≡◌, ℕ, List, true, false, [], ◌∷◌, Some, None, Ok}
 use Rattle.ftp_operation.specs.declared.answer.Answer.TheVariants as Answers
 use Rattle.tool_job.specs.declared.queue.decisions.AfterRound.TheVariants as Rounds
 use Rattle.tool_job.specs.declared.queue.decisions.AnswerEffect.TheVariants as Effects
@@ -7,17 +7,24 @@ use Rattle.tool_job.specs.declared.queue.decisions.JobSupply.TheVariants as Supp
 use Rattle.tool_job.specs.declared.queue.decisions.RoundState.TheVariants as States
 use Rattle.tool_job.specs.declared.queue.queued_job.Often.TheVariants as Oftens
 use Rattle.tool_job.specs.queue.Decisions.{after_round, effect_by, gets_further, takes_up, waits}
-use Rattle.tool_job.specs.queue.Order.{GivesNext}
+use Rattle.tool_job.specs.queue.Order.{GivesNext, KeepsOrder}
 use Rattle.tool_job.specs.queue.QueueStatus.{worst_after}
 use Rattle.tool_terminal.specs.declared.status.Status.TheVariants as Statuses
 
--- which is next of jobs that are numbers: 7, which was cut off; 1, which was taken up before 2; 3, which waits
+-- a job that is a number is called by it
+abbrev called : ℕ → List ℕ
+called job = job ∷ []
+
+-- which is next of jobs that are numbers: 7, which was cut off; 1, which was taken up before 2; 3, which waits before 4; none
 abbrev pub JobsNext : Type 0
 JobsNext =
-    GivesNext {E = ℕ} (Some 7) (1 ∷ 2 ∷ []) (1 ∷ 2 ∷ []) Supplies.Open (Ok (Some 7))
-    × GivesNext {E = ℕ} None (1 ∷ 2 ∷ []) (2 ∷ []) Supplies.Open (Ok (Some 1))
-    × GivesNext {E = ℕ} None (2 ∷ []) [] Supplies.Open (Ok (Some 2))
-    × GivesNext {E = ℕ} None [] [] Supplies.Open (Ok (Some 3))
+    let waiting : List (List ℕ) = called 3 ∷ called 4 ∷ [] in
+    GivesNext called (Some 7) (1 ∷ 2 ∷ []) (1 ∷ 2 ∷ []) waiting waiting Supplies.Open (Ok (Some 7))
+    × GivesNext called None (1 ∷ 2 ∷ []) (2 ∷ []) waiting waiting Supplies.Open (Ok (Some 1))
+    × GivesNext called None (2 ∷ []) [] waiting waiting Supplies.Open (Ok (Some 2))
+    × GivesNext called None [] [] waiting (called 4 ∷ []) Supplies.Open (Ok (Some 3))
+    × GivesNext called None [] [] [] [] Supplies.Open (Ok None)
+    × KeepsOrder called (2 ∷ []) (2 ∷ 3 ∷ []) waiting (called 4 ∷ []) Supplies.Open
     × (takes_up 1 2 Supplies.Open ≡ true)
     × (takes_up 2 2 Supplies.Open ≡ false)
 

@@ -1,5 +1,5 @@
 // A file that is one of several which are fetched.
-ghost use Rattle.std.specs.Prelude.{◌≡◌};
+ghost use Rattle.std.specs.Prelude.{◌≡◌, IfOk, string_bytes};
 ghost use Rattle.tool_job.specs.queue.Fetching.{can_go_on, is_told_in_full};
 
 use crate::queue::queued_job::QueuedJob;
@@ -103,7 +103,10 @@ impl<'a, R: LocalFiles + Print + Eprint> Fetched<'a, R> {
         path: String<Global>,
         file: String<Global>,
         name: Option<&str>,
-    ) -> io::Result<Fetched<'a, R>> {
+    ) -> io::Result<Fetched<'a, R>>
+        // Witness: an equation; callers in `tool_get_put` need it.
+        ensures { IfOk result (λ fetched. string_bytes fetched.path ≡ string_bytes path) }
+    {
         let how = getting.asked.how;
         let mut downloading = Downloading::new(
             rt,
@@ -133,7 +136,10 @@ impl<'a, R: LocalFiles + Print + Eprint> Fetched<'a, R> {
     }
 
     /// It can't be written here, since another file of the command line goes there.
-    pub fn refuse(&mut self, error: Error) {
+    pub fn refuse(&mut self, error: Error)
+        // Witness: an equation; callers in `tool_get_put` need it.
+        ensures { self.new.path ≡ self.old.path }
+    {
         self.state = FetchState::Unwritable(error);
     }
 
@@ -164,6 +170,8 @@ impl<'a, R: LocalFiles + Print + Eprint> Fetched<'a, R> {
 }
 
 impl<'a, R: LocalFiles + Print + Eprint> QueuedJob for Fetched<'a, R> {
+    ghost named = { λ fetched. string_bytes fetched.path };
+
     /// A part that is kept may be gone on with: what is told of it is told in its turn.
     fn foresee<S: ClientSession>(&mut self, slot: &mut S) {
         if matches!(self.getting.parts, PartHandling::Continued) {

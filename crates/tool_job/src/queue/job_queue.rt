@@ -1,6 +1,6 @@
 // Several things of one kind that are asked of a server, one after another: over several control connections what comes next is asked ahead.
-ghost use Rattle.std.specs.Prelude.{◌≡◌, is_some};
-ghost use Rattle.tool_job.specs.queue.Order.{GivesFirst, GivesNext};
+ghost use Rattle.std.specs.Prelude.{◌≡◌, OnOk, is_some};
+ghost use Rattle.tool_job.specs.queue.Order.{GivesFirst, GivesNext, KeepsOrder};
 ghost use Rattle.tool_job.specs.queue.QueueStatus.{counted};
 
 use crate::queue::ahead_jobs::AheadJobs;
@@ -120,16 +120,27 @@ impl<'a, R: Eprint, E: QueuedJob + Drop, W: WaitingJobs<E> + Drop> JobQueue<'a, 
     }
 
     /// Takes up jobs until so many are ahead, or none can be taken up any more.
-    fn take_up(&mut self, most: usize) -> io::Result<()> {
+    fn take_up(&mut self, most: usize) -> io::Result<()>
+        // Witness: `edits/a_job_is_not_taken_up_as_it_waits`.
+        ensures { OnOk result (KeepsOrder E.named self.old.ahead.jobs.items self.new.ahead.jobs.items (W.waits self.old.waiting) (W.waits self.new.waiting) self.new.supply) }
+    {
         for _ in 0..MOST_AHEAD {
             if !takes_up(self.ahead.len(), most, self.supply) {
                 break;
             }
-            match self.waiting.next() {
-                Ok(Some(queued_job)) => self.ahead.push(queued_job)?,
-                Ok(None) => break,
-                Err(error) => self.supply = JobSupply::Failed(error),
-            }
+            self.take_up_next()?;
+        }
+        Ok(())
+    }
+
+    /// Takes up the next job that waits, where there is one and it can be made.
+    fn take_up_next(&mut self) -> io::Result<()>
+        ensures { OnOk result (KeepsOrder E.named self.old.ahead.jobs.items self.new.ahead.jobs.items (W.waits self.old.waiting) (W.waits self.new.waiting) self.new.supply) }
+    {
+        match self.waiting.next() {
+            Ok(Some(queued_job)) => self.ahead.push(queued_job)?,
+            Ok(None) => {}
+            Err(error) => self.supply = JobSupply::Failed(error),
         }
         Ok(())
     }
@@ -137,7 +148,8 @@ impl<'a, R: Eprint, E: QueuedJob + Drop, W: WaitingJobs<E> + Drop> JobQueue<'a, 
     /// The next one that has its turn: the one that had it when a control connection ended, and else the first behind it.
     fn next(&mut self) -> io::Result<Option<E>>
         // Witness: `edits/a_job_that_was_cut_off_comes_last`.
-        ensures { GivesNext self.old.cut self.old.ahead.jobs.items self.new.ahead.jobs.items self.old.supply result }
+        ensures { GivesNext E.named self.old.cut self.old.ahead.jobs.items self.new.ahead.jobs.items (W.waits self.old.waiting) (W.waits self.new.waiting)
+            self.old.supply result }
     {
         if let Some(queued_job) = self.cut.take() {
             return Ok(Some(queued_job));
@@ -152,7 +164,8 @@ impl<'a, R: Eprint, E: QueuedJob + Drop, W: WaitingJobs<E> + Drop> JobQueue<'a, 
     /// The first one that was taken up ahead, and else the next that waits. Fails where none can be taken up, for the reason of that.
     fn next_behind(&mut self) -> io::Result<Option<E>>
         // Witness: `edits/what_waits_overtakes_what_was_taken_up`.
-        ensures { GivesFirst self.old.ahead.jobs.items self.new.ahead.jobs.items self.old.supply result }
+        ensures { GivesFirst E.named self.old.ahead.jobs.items self.new.ahead.jobs.items (W.waits self.old.waiting) (W.waits self.new.waiting)
+            self.old.supply result }
     {
         if let Some(queued_job) = self.ahead.take_first() {
             return Ok(Some(queued_job));

@@ -1,4 +1,6 @@
 // A file that is one of several which are sent.
+ghost use Rattle.std.specs.Prelude.{◌≡◌};
+
 use crate::queue::queued_job::QueuedJob;
 use crate::single::{FileSeen, Loaded, Target, UploadTooLarge, load};
 use ftp_operation::Answer;
@@ -99,7 +101,10 @@ impl<'a, R: LocalFiles + Input + Eprint> QueuedUpload<'a, R> {
         putting: UploadSettings<'a>,
         file: &'a str,
         path: &'a str,
-    ) -> QueuedUpload<'a, R> {
+    ) -> QueuedUpload<'a, R>
+        // Witness: an equation; callers in `tool_get_put` need it.
+        ensures { result.file.now ≡ file.now }
+    {
         QueuedUpload {
             rt,
             putting,
@@ -157,6 +162,8 @@ impl<'a, R: LocalFiles + Input + Eprint> QueuedUpload<'a, R> {
 }
 
 impl<'a, R: LocalFiles + Input + Eprint> QueuedJob for QueuedUpload<'a, R> {
+    ghost named = { λ upload. upload.file.now };
+
     fn foresee<S: ClientSession>(&mut self, slot: &mut S) {
         if self.is_ahead() {
             return;

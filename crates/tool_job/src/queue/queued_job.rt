@@ -1,4 +1,7 @@
 // What a queue asks: jobs that wait, and what each does in its turn and ahead of it.
+ghost use Rattle.std.specs.Prelude.{◌≡◌, ℕ, List};
+ghost use Rattle.tool_job.specs.queue.Order.{GivesWaiting};
+
 use ftp_operation::Answer;
 use std::alloc::Global;
 use std::io;
@@ -7,6 +10,9 @@ use tool_terminal::Status;
 
 /// One of several things that are asked of a server.
 pub trait QueuedJob {
+    /// What it is called.
+    ghost named: { Self → List ℕ };
+
     /// Asks ahead of its turn what will be asked, if it was not and may be.
     fn foresee<S: ClientSession>(&mut self, slot: &mut S);
 
@@ -36,13 +42,20 @@ pub trait QueuedJob {
     fn abandon(&mut self);
 
     /// What it is called, where it is not done; lent until it changes.
-    fn name(&self) -> &str;
+    fn name(&self) -> &str
+        // Witness: an equation; `edits/a_job_has_the_name_of_its_file`.
+        ensures { result.now ≡ named self.now };
 }
 
 /// What waits until it is taken up.
-pub trait WaitingJobs<E> {
+pub trait WaitingJobs<E: QueuedJob> {
+    /// What those are called that wait, in their order.
+    ghost waits: { Self → List (List ℕ) };
+
     /// The next one, of which nothing was asked yet; none where all were taken up. Fails where it can't be made, as where memory is refused.
-    fn next(&mut self) -> io::Result<Option<E>>;
+    fn next(&mut self) -> io::Result<Option<E>>
+        // Witness: edits of `tool_get_put`, as `a_file_that_waits_is_left_out`.
+        ensures { GivesWaiting E.named (waits self.old) (waits self.new) result };
 }
 
 /// How often a thing is asked.

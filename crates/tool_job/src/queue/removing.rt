@@ -36,7 +36,10 @@ impl<'a, R> Drop for Removed<'a, R> {
 
 impl<'a, R: Print + Eprint> Removed<'a, R> {
     /// The file at a path, of which nothing was asked yet.
-    pub fn new(rt: &'a R, alloc: Global, asked: Target<'a>) -> Removed<'a, R> {
+    pub fn new(rt: &'a R, alloc: Global, asked: Target<'a>) -> Removed<'a, R>
+        // Witness: an equation; callers in `tool_get_put` need it.
+        ensures { result.asked.place.path.now ≡ asked.entry.place.path.now }
+    {
         Removed {
             rt,
             alloc,
@@ -61,6 +64,8 @@ fn removal(alloc: Global, path: &str) -> Result<Request, AllocError>
 }
 
 impl<'a, R: Print + Eprint> QueuedJob for Removed<'a, R> {
+    ghost named = { λ removed. removed.asked.place.path.now };
+
     fn foresee<S: ClientSession>(&mut self, slot: &mut S) {
         if self.is_ahead {
             return;
