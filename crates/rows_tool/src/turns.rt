@@ -93,7 +93,14 @@ where
     let mut most = 1usize;
     for order in orders {
         match order.into_parts() {
-            Ok(op) => report((rt, alloc), op, &mut client, &mut server, &mut control, most)?,
+            Ok(op) => report(
+                (rt, alloc),
+                op,
+                &mut client,
+                &mut server,
+                &mut control,
+                most,
+            )?,
             Err(_) => println!(rt; "an upload over breaks")?,
         }
         most = if most >= FEW { MANY } else { most + 1 };
