@@ -20,7 +20,6 @@ use crate::session::Session;
 use crate::walk::lost;
 use ftp_command::Argument;
 use ftp_direct::{directory_fault, len_at, may_put_at, place_at, unlisted_fault};
-use ftp_facts::{FactName, Facts};
 use ftp_path::Path;
 use ftp_server_model::{FixedReply, Keep, Pending, ReplyKind, ServerLink, Way};
 use ftp_server_replies::{Fault, ServerTransfer, room_text};
@@ -112,13 +111,13 @@ impl<A: Allocator + Copy, T: Tree<A>, J: ServerTransfer<A, T>> Session<A, T, J> 
         Ok(self.begin(listing))
     }
 
-    /// NLST: names need no look at the files that are known.
+    /// NLST.
     pub(crate) fn nlst(&mut self, text: &Option<Argument<A>>) -> Result<ReplyKind<Path<A>>, Fault>
         requires { IfGiven IsPathText text.now }
         ensures turn { Turns T.table T.failures J.view (nlst text.now) self.old self.new result }
         ensures little { LeavesLittle 0 self.old self.new result }
     {
-        let Some(mut path) = self.see_here(text, Sight::Path)? else {
+        let Some(mut path) = self.see_here(text, Sight::Files)? else {
             return Ok(self.not_begun(FixedReply::Refused));
         };
         if unlisted_fault(&self.tree, &self.root, &path, is_here(text)).is_some() {
@@ -143,7 +142,7 @@ impl<A: Allocator + Copy, T: Tree<A>, J: ServerTransfer<A, T>> Session<A, T, J> 
         ensures turn { Turns T.table T.failures J.view (mlsd text.now) self.old self.new result }
         ensures little { LeavesLittle 0 self.old self.new result }
     {
-        let Some(mut path) = self.see_here(text, sight_for(self.facts))? else {
+        let Some(mut path) = self.see_here(text, Sight::Files)? else {
             return Ok(self.not_begun(FixedReply::Refused));
         };
         if let Some(fault) = directory_fault(&self.tree, &self.root, &path) {
@@ -275,14 +274,5 @@ fn listing_text(fault: TreeFault) -> FixedReply
     match fault {
         TreeFault::WrongKind => FixedReply::BadArgument,
         _ => FixedReply::Refused,
-    }
-}
-
-/// How closely MLSD looks at the files of a directory: only sizes and moments need a look at each.
-fn sight_for(facts: Facts) -> Sight {
-    if facts.has(FactName::Size) || facts.has(FactName::Modify) {
-        Sight::Files
-    } else {
-        Sight::Path
     }
 }
