@@ -351,6 +351,7 @@ pub fn openings_of(matches: &ArgMatches<'_>) -> Openings {
 
 /// The most octets that a file may have, as `--limit` says, and any number where it is not there; refused where they are no number.
 pub fn limit_in<'a>(matches: &'a ArgMatches<'_>) -> Result<u64, UsageError<'a>>
+    // Witness: equations; `edits/a_limit_of_octets_is_one_less`.
     ensures some { IfOk result (λ most.
         SaysOctetLimit (first_value (found_of matches.now) (codes "limit")) most) }
     ensures none { OnErr result ((most : ℕ)
@@ -361,6 +362,7 @@ pub fn limit_in<'a>(matches: &'a ArgMatches<'_>) -> Result<u64, UsageError<'a>>
 
 /// The most octets a second, as `--limit-rate` says, and 0 where it is not there; refused where they are no number.
 pub fn rate_in<'a>(matches: &'a ArgMatches<'_>) -> Result<u64, UsageError<'a>>
+    // Witness: equations; `edits/a_rate_that_is_said_is_not_heeded`.
     ensures some { IfOk result (λ rate.
         SaysRate (first_value (found_of matches.now) (codes "limit-rate")) rate) }
     ensures none { OnErr result ((rate : ℕ)
