@@ -1,4 +1,4 @@
--- When a data connection did not end, and how much it may bring (own choice).
+-- When a data connection did not end, and whether it brought more than it may (own choice).
 use Rattle.std.specs.Prelude.{ℕ, ◌==◌, ◌&&◌, ◌||◌, Bool, false, List, [], ◌∷◌, Option, Some, None, nat_lt}
 use Rattle.ftp_operation.specs.declared.answer.Answer.{Answer}
 use Rattle.ftp_operation.specs.declared.answer.Answer.TheVariants as Answers
@@ -9,8 +9,8 @@ abbrev pub says_done : List ℕ → Bool
 says_done [] = false
 says_done (octet ∷ line) = octet == 50
 
--- a data connection did not end although the server said that all is done: what it brought is reported as broken off, and nothing more came of it for
--- as long as a server may be silent
+-- a data connection did not end although the server said that all is done: what it brought is reported as broken off, and the last wait for more of it
+-- found nothing
 abbrev pub is_unended : {A : Type 0} → (is_silent : Bool) → Option (Answer A) → (line : List ℕ) → Bool
 is_unended is_silent (Some (Answers.Broken got mark)) line = is_silent && says_done line
 is_unended is_silent report line = false

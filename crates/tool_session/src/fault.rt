@@ -1,6 +1,6 @@
 // Why a program stops before it has an answer of the server.
-ghost use Rattle.std.specs.Prelude.{◌≡◌};
-ghost use Rattle.tool_session.specs.Fault.{with_fault};
+ghost use Rattle.std.specs.Prelude.{◌≡◌, IfOk};
+ghost use Rattle.tool_session.specs.Fault.{stop_status, with_fault};
 
 use crate::saying::told;
 use crate::subject::{Stop, Subject};
@@ -38,6 +38,17 @@ impl Phase {
             Phase::Report => "no report",
         }
     }
+
+    /// The exit status of a program that stops here.
+    fn status(self) -> Status
+        ensures { result ≡ stop_status self }
+    {
+        match self {
+            Phase::Login => Status::BadWords,
+            Phase::Listing => Status::Refused,
+            _ => Status::Failed,
+        }
+    }
 }
 
 /// What was under way, and what failed.
@@ -49,6 +60,7 @@ pub struct SessionFault {
 
 /// What was done at a stage, or that it stops the program.
 pub fn at<T: Drop>(stage: Phase, done: io::Result<T>) -> Result<T, SessionFault>
+    // Witness: an equation; `edits/each_fault_is_one_of_the_login`.
     ensures { result ≡ with_fault (λ error. record { stage = stage; error = error }) done }
 {
     match done {
@@ -59,7 +71,10 @@ pub fn at<T: Drop>(stage: Phase, done: io::Result<T>) -> Result<T, SessionFault>
 
 impl SessionFault {
     /// Memory was refused before anything was asked.
-    pub fn of_memory() -> SessionFault {
+    pub fn of_memory() -> SessionFault
+        // Witness: `edits/refused_memory_is_a_bad_login`.
+        ensures { result.stage ≡ Phase.Asking }
+    {
         SessionFault {
             stage: Phase::Asking,
             error: Error::from(ErrorKind::OutOfMemory),
@@ -75,12 +90,11 @@ impl SessionFault {
 
     /// Tells why on standard error, with what was refused of what was asked, and gives the exit status: that of bad words for a bad login, that of a refusal
     /// for a listing, and else that of a failure.
-    pub fn tell<R: Eprint>(&self, rt: &R, subject: Subject<'_>) -> io::Result<Status> {
-        let status = match self.stage {
-            Phase::Login => Status::BadWords,
-            Phase::Listing => Status::Refused,
-            _ => Status::Failed,
-        };
+    pub fn tell<R: Eprint>(&self, rt: &R, subject: Subject<'_>) -> io::Result<Status>
+        // Witness: `edits/a_login_that_is_not_had_is_done`.
+        ensures { IfOk result (λ status. status ≡ stop_status self.now.stage) }
+    {
+        let status = self.stage.status();
         let stop = Stop {
             stage: self.stage,
             error: self.error,

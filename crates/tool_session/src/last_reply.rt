@@ -1,4 +1,7 @@
 // What is told of a server beside its answer: the line that it said last, how many data connections were opened, and that it fell silent.
+ghost use Rattle.std.specs.Prelude.{◌≡◌, ◌+◌, ◌&&◌, min, not, is_some, true, false, Some, None, []};
+ghost use Rattle.tool_session.specs.Noticed.{is_silence};
+
 use ftp_reply::code::{GIVEN_UP, NOT_AVAILABLE, NOT_LOGGED_IN};
 use std::fmt;
 use std::fmt::{Display, Formatter};
@@ -49,7 +52,10 @@ impl LastReply {
     }
 
     /// The same, with so many data connections opened.
-    pub fn with_opened(&self, opened: u32) -> LastReply {
+    pub fn with_opened(&self, opened: u32) -> LastReply
+        // Witness: an equation; `edits/what_is_taken_has_no_line`.
+        ensures { result ≡ record self.now { opened = opened } }
+    {
         LastReply {
             line: self.line,
             len: self.len,
@@ -62,62 +68,92 @@ impl LastReply {
     }
 
     /// The control connection ended since the server was silent for so many seconds.
-    pub fn fell_silent(&mut self, seconds: u32) {
+    pub fn fell_silent(&mut self, seconds: u32)
+        // Witness: an equation; `edits/a_silent_server_counts_as_the_time_for_all`.
+        ensures { self.new ≡ record self.old { over = Some (Over.Silence seconds) } }
+    {
         self.over = Some(Over::Silence(seconds));
     }
 
     /// The control connection ended since the time was over that there was for all.
-    pub fn ran_out(&mut self) {
+    pub fn ran_out(&mut self)
+        ensures { self.new ≡ record self.old { over = Some Over.Time } }
+    {
         self.over = Some(Over::Time);
     }
 
     /// Octets moved over a data connection, beside the control connection that is there or was there last.
-    pub fn octets_moved(&mut self) {
+    pub fn octets_moved(&mut self)
+        // Witness: an equation; `edits/octets_that_moved_are_forgotten`.
+        ensures { self.new ≡ record self.old { has_moved = true } }
+    {
         self.has_moved = true;
     }
 
     /// So many data connections more were opened.
-    pub fn add_opened(&mut self, count: u32) {
+    pub fn add_opened(&mut self, count: u32)
+        // Witness: an equation; `edits/the_last_control_connection_counts_alone`.
+        ensures { self.new ≡ record self.old { opened = min (self.old.opened + count) 4294967295 } }
+    {
         self.opened = self.opened.saturating_add(count);
     }
 
     /// So many seconds more went by.
-    pub fn add_spent(&mut self, seconds: u32) {
+    pub fn add_spent(&mut self, seconds: u32)
+        // Witness: an equation; `edits/seconds_of_before_are_forgotten`.
+        ensures { self.new ≡ record self.old { spent = min (self.old.spent + seconds) 4294967295 } }
+    {
         self.spent = self.spent.saturating_add(seconds);
     }
 
     /// How many whole seconds went by.
-    pub fn spent(&self) -> u32 {
+    pub fn spent(&self) -> u32
+        ensures { result ≡ self.now.spent }
+    {
         self.spent
     }
 
     /// Whether the server said a line, over any control connection.
-    pub fn is_heard(&self) -> bool {
+    pub fn is_heard(&self) -> bool
+        ensures { result ≡ self.now.is_heard }
+    {
         self.is_heard
     }
 
-    /// Whether the server never said a line, and that this end waited no longer ended the last control connection.
-    pub fn is_mute(&self) -> bool {
+    /// Whether the server never said a line, and the last control connection ended since this end waited no longer.
+    pub fn is_mute(&self) -> bool
+        // Witness: an equation; `edits/a_server_that_spoke_is_mute`.
+        ensures { result ≡ (not self.now.is_heard && is_some self.now.over) }
+    {
         !self.is_heard && self.over.is_some()
     }
 
     /// Whether the last control connection ended since the server was silent.
-    pub fn is_silent(&self) -> bool {
+    pub fn is_silent(&self) -> bool
+        // Witness: an equation; `edits/the_time_for_all_counts_as_silence`.
+        ensures { result ≡ is_silence self.now.over }
+    {
         matches!(self.over, Some(Over::Silence(_)))
     }
 
     /// Whether octets moved over a data connection, beside the last control connection.
-    pub fn has_moved(&self) -> bool {
+    pub fn has_moved(&self) -> bool
+        ensures { result ≡ self.now.has_moved }
+    {
         self.has_moved
     }
 
     /// How many data connections were opened.
-    pub fn opened(&self) -> u32 {
+    pub fn opened(&self) -> u32
+        ensures { result ≡ self.now.opened }
+    {
         self.opened
     }
 
     /// A refusal by a code, as it is told: the line of the reply, and where that is not known the code alone.
-    pub fn refusal(&self, code: u16) -> ServerRefusal<'_> {
+    pub fn refusal(&self, code: u16) -> ServerRefusal<'_>
+        ensures { result.code ≡ code }
+    {
         ServerRefusal {
             code,
             line: self.last(code),
@@ -176,25 +212,29 @@ impl LastReply {
     }
 
     /// A control connection begins, on which no line was said.
-    pub fn begin(&mut self) {
+    pub fn begin(&mut self)
+        // Witness: an equation; `edits/a_new_control_connection_counts_as_silent`.
+        ensures { self.new ≡ record self.old { len = 0; over = None; has_moved = false } }
+    {
         self.len = 0;
         self.over = None;
         self.has_moved = false;
     }
 
     /// This line was said last, without its end; an empty one is none.
-    pub fn keep(&mut self, line: &[u8]) {
+    pub fn keep(&mut self, line: &[u8])
+        // Witness of empty: `edits/an_empty_line_takes_the_place_of_the_last`.
+        ensures empty { line.now ≡ [] → self.new ≡ self.old }
+        // Witness of rest: `edits/a_line_ends_the_silence`.
+        ensures rest { self.new ≡ record self.old { line = self.new.line; len = self.new.len; is_heard = self.new.is_heard } }
+    {
         if line.is_empty() || self.stays() {
             return;
         }
+        let count = line.len().min(LINE_LIMIT);
+        self.line[..count].copy_from_slice(&line[..count]);
+        self.len = count;
         self.is_heard = true;
-        self.len = 0;
-        for octet in line {
-            if let Some(place) = self.line.get_mut(self.len) {
-                *place = *octet;
-                self.len += 1;
-            }
-        }
     }
 }
 

@@ -20,7 +20,7 @@ pub enum Opening {
     FellBack,
 }
 
-/// How another host than the server's came to be at the other end of a data connection (RFC 2577, section 3): what may help depends on that.
+/// How another host than the server's came to be at the other end of a data connection (RFC 2577, section 3). What may help depends on that.
 #[derive(Clone, Copy)]
 pub enum Stranger {
     /// It opened the data connection, which the server was to open.
@@ -90,7 +90,10 @@ impl Openings {
     }
 
     /// How a transfer goes now.
-    pub fn how(&self, how: How) -> How {
+    pub fn how(&self, how: How) -> How
+        // Witness: `edits/a_listing_goes_in_another_type`.
+        ensures { result ≡ record how { extended = result.extended } }
+    {
         How {
             extended: self.now.get().asks_extended(),
             ..how
@@ -174,6 +177,7 @@ fn says_unknown(answer: &Answer<Global>) -> bool
 
 /// How another host came to be at the other end of a data connection that was asked for so, and that the server was to open or not.
 fn stranger_of(opening: Opening, is_active: bool) -> Stranger
+    // Witness: an equation; `edits/epsv_that_failed_is_advised_again`.
     ensures { result ≡ stranger_by opening is_active }
 {
     if is_active {
@@ -187,6 +191,7 @@ fn stranger_of(opening: Opening, is_active: bool) -> Stranger
 
 /// By which command a listing is asked for after such an answer: LIST where the server does not know MLSD (RFC 959, section 4.2.2).
 fn list_verb_after(verb: ListVerb, answer: &Answer<Global>) -> ListVerb
+    // Witness: an equation; `edits/a_server_without_mlsd_is_asked_for_it_again`.
     ensures { result ≡ list_verb_by verb answer.now }
 {
     match answer {

@@ -1,5 +1,7 @@
 // What is asked of a client.
+ghost use Rattle.std.specs.Prelude.{◌≡◌};
 ghost use Rattle.tool_session.specs.Beginning.{Begins};
+ghost use Rattle.tool_session.specs.Moving.{most_of, most_of_operation, span_of, span_of_operation, start_of};
 
 use crate::request_state::DataLimits;
 use ftp_client_model::Near;
@@ -44,50 +46,85 @@ impl Drop for Request {
     }
 }
 
-/// The most that the data connection of a request may bring.
-pub(crate) fn most_of(request: &Request) -> DataLimits {
+/// The most that the data connection of a request may bring: a download has terms of its own.
+pub(crate) fn most_of(request: &Request) -> DataLimits
+    // Witness: an equation; `edits/a_download_is_taken_without_its_limit`.
+    ensures { result ≡ most_of request.now }
+{
     match request {
-        Request::One(Some(Op::List(_, _) | Op::Names(_, _) | Op::Text(_, _, _))) => DataLimits {
-            octets: MOST_LISTED,
-            lines: Some(MOST_ENTRIES as u64),
+        Request::One(Some(op)) => most_of_operation(op),
+        Request::Download(_, terms) => DataLimits {
+            octets: terms.most,
+            lines: None,
         },
-        Request::One(_) | Request::Upload(_, _) | Request::Drawn(_, _) => DataLimits {
+        Request::One(None) | Request::Upload(_, _) | Request::Drawn(_, _) => DataLimits {
             octets: u64::MAX,
             lines: None,
         },
-        Request::Download(_, terms) => DataLimits {
-            octets: terms.most,
+    }
+}
+
+/// The same of an operation: a listing is limited.
+fn most_of_operation(op: &Op<Text<Global>>) -> DataLimits
+    // Witness: an equation; `edits/the_names_of_a_directory_are_taken_without_a_limit`.
+    ensures { result ≡ most_of_operation op.now }
+{
+    match op {
+        Op::List(_, _) | Op::Names(_, _) | Op::Text(_, _, _) => DataLimits {
+            octets: MOST_LISTED,
+            lines: Some(MOST_ENTRIES as u64),
+        },
+        _ => DataLimits {
+            octets: u64::MAX,
             lines: None,
         },
     }
 }
 
 /// What a request moves of a file.
-pub(crate) fn span_of(request: &Request) -> Span {
-    let nothing = Span {
-        start: 0,
-        total: None,
-    };
+pub(crate) fn span_of(request: &Request) -> Span
+    // Witness: an equation; `edits/a_resumed_download_counts_from_its_first_octet`.
+    ensures { result ≡ span_of request.now }
+{
     match request {
         Request::Download(op, terms) => Span {
             start: start_of(op),
             total: terms.total,
         },
         Request::Drawn(_, span) => *span,
-        Request::One(Some(Op::Put(_, octets, _))) => Span {
+        Request::One(Some(op)) => span_of_operation(op),
+        Request::One(None) | Request::Upload(_, _) => Span {
+            start: 0,
+            total: None,
+        },
+    }
+}
+
+/// The same of an operation: an upload moves all of its octets, behind those of the file that stay.
+fn span_of_operation(op: &Op<Text<Global>>) -> Span
+    // Witness: an equation; `edits/a_resumed_upload_has_the_size_of_its_rest`.
+    ensures { result ≡ span_of_operation op.now }
+{
+    match op {
+        Op::Put(_, octets, _) => Span {
             start: 0,
             total: Some(octets.as_slice().len() as u64),
         },
-        Request::One(Some(Op::PutFrom(_, from, octets, _))) => Span {
+        Op::PutFrom(_, from, octets, _) => Span {
             start: *from,
             total: Some(from.saturating_add(octets.as_slice().len() as u64)),
         },
-        _ => nothing,
+        _ => Span {
+            start: 0,
+            total: None,
+        },
     }
 }
 
 /// From which octet of the file on a download is.
-fn start_of(op: &Option<Op<Text<Global>>>) -> u64 {
+fn start_of(op: &Option<Op<Text<Global>>>) -> u64
+    ensures { result ≡ start_of op.now }
+{
     match op {
         Some(Op::GetFrom(_, from, _)) => *from,
         _ => 0,
@@ -96,7 +133,7 @@ fn start_of(op: &Option<Op<Text<Global>>>) -> u64 {
 
 /// Begins what is requested, which is taken out of there.
 pub fn begin<N: Near<Global>>(client: &mut N, request: &mut Request)
-    // Witness: `answer` of `LiveSession` of `tool_connect` needs it.
+    // Witness: `edits/an_upload_is_not_begun`.
     ensures { Begins request.old (N.client client.old) (N.client client.new) }
 {
     match request {

@@ -16,6 +16,7 @@ const COMPLETION: u8 = b'2';
 /// The most that a data connection may bring.
 #[derive(Clone, Copy)]
 pub struct DataLimits {
+    /// Of the data connection.
     pub octets: u64,
     /// Of a listing; of a file none are counted.
     pub lines: Option<u64>,
@@ -26,7 +27,7 @@ pub struct DataLimits {
 pub enum DataEnding {
     /// As the answer says.
     Answered,
-    /// It did not end although the server said that all is done: nothing came over it for as long as a server may be silent.
+    /// It did not end although the server said that all is done: the last wait for its octets found none, mostly since a server may be silent no longer.
     Unended,
     /// This end cut it off, since more came than may.
     PastLimit,
@@ -37,7 +38,7 @@ pub enum DataEnding {
 pub struct RequestState {
     most: Cell<DataLimits>,
     span: Cell<Span>,
-    /// Whether a wait for its data connection found no end.
+    /// Whether the last wait for its data connection found nothing: no octet, no room and no end.
     is_silent: Cell<bool>,
     ending: Cell<DataEnding>,
     /// Whether octets moved over any of its data connections, of this request or one before.
@@ -79,17 +80,19 @@ impl RequestState {
         self.ending.set(DataEnding::Answered);
     }
 
-    /// A wait for the data connection ended so.
+    /// A wait for the data connection ended so. It is lost where the server was silent for as long as it may be, and also where its control connection
+    /// ended or the system's call failed.
     pub fn waited(&self, ready: Ready) {
         if ready == Ready::Lost {
             self.is_silent.set(true);
         }
     }
 
-    /// So many octets moved over a data connection.
+    /// So many octets moved over a data connection: it is silent no longer.
     pub fn moved(&self, count: usize) {
         if count > 0 {
             self.has_moved.set(true);
+            self.is_silent.set(false);
         }
     }
 
@@ -130,8 +133,8 @@ impl RequestState {
     }
 }
 
-/// Whether a data connection did not end although the server says that all is done: what it brought is reported as broken off, since a wait for more
-/// found no end.
+/// Whether a data connection did not end although the server says that all is done: what it brought is reported as broken off, and the last wait for more
+/// found nothing.
 fn is_unended(is_silent: bool, report: &Option<Answer<Global>>, line: &[u8]) -> bool
     // Witness: an equation; `edits/a_data_connection_that_broke_counts_as_unended`.
     ensures { result ≡ is_unended is_silent report.now line.now }
@@ -144,6 +147,7 @@ fn is_unended(is_silent: bool, report: &Option<Answer<Global>>, line: &[u8]) -> 
 
 /// Whether a line says that all is done.
 fn says_done(line: &[u8]) -> bool
+    // Witness: an equation; `edits/any_line_says_that_all_is_done`.
     ensures { result ≡ says_done line.now }
 {
     match line.first() {
@@ -154,6 +158,7 @@ fn says_done(line: &[u8]) -> bool
 
 /// Whether so many octets and lines are more than the most.
 fn is_past(most: DataLimits, octets: u64, lines: u64) -> bool
+    // Witness: an equation; `edits/lines_past_the_limit_are_taken`.
     ensures { result ≡ is_past most octets lines }
 {
     let has_more_lines = match most.lines {

@@ -1,4 +1,6 @@
 // What is told on standard error.
+ghost use Rattle.std.specs.Prelude.{◌≡◌, IfOk};
+
 use std::fmt::Display;
 use std::io;
 use std::io::Eprint;
@@ -24,6 +26,8 @@ pub fn told<R, D>(
 where
     R: Eprint,
     D: Display,
+    // Witness: an equation; `SessionFault::tell` needs it.
+    ensures { IfOk result (λ said. said ≡ status) }
 {
     say(rt, before, what, behind)?;
     Ok(status)

@@ -1,9 +1,11 @@
-// Which server is asked, and on which terms.
-/// Which server is asked.
+// The address of a server, beside the limits of time, rate and connections within which it is asked.
+
+/// Which server is asked, and on which terms.
 #[derive(Clone, Copy)]
 pub struct ServerAddress<'a> {
     /// An address or a name.
     pub host: &'a str,
+    /// The port of its control connections.
     pub port: u16,
     /// For how many seconds the server may say, take and send nothing, before its control connection counts as ended; 0: without a limit.
     pub timeout: u32,

@@ -18,6 +18,7 @@ use std::cell::Cell;
 /// for the control connections alone over which it was asked.
 #[derive(Clone, Copy)]
 pub struct Ticket {
+    /// From 1, in the order in which they were given out.
     pub number: u64,
 }
 
@@ -38,13 +39,14 @@ pub trait ClientSession {
         // `rows_tool`, says nothing.
         ensures { answers request result self.old self.new };
 
-    /// The same, where something else goes over the data connection than the client gives and hears: what is at home in the cell, and is back there then.
+    /// The same, where something else goes over the data connection than the client gives and hears. It is taken out of the cell, and is back there behind
+    /// the answer.
     fn answer_carried<T: FromStreamBody>(
         &mut self,
         request: Request,
         home: &Cell<Option<T>>,
     ) -> Answer<Global>
-        // Witness: as `answer`, whose witnesses stand for it; a session that is made up says nothing.
+        // Witness: an edit of `tool_connect`: `another_answer_than_the_report_of_a_stream_is_given`; a session that is made up says nothing.
         ensures { carried request result self.old self.new };
 
     /// The answer to this, where it was asked ahead by this ticket with something else over its data connection, which is in the cell then; none where it is

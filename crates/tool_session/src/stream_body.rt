@@ -16,36 +16,38 @@ pub type FileUploadStream = SourceTransfer<ReaderSource<File>, Global>;
 pub enum StreamBody {
     /// What a client gives and hears.
     Own,
-    Poured(Box<FileDownloadStream, Global>),
-    Drawn(Box<FileUploadStream, Global>),
+    /// A download whose octets go to a file.
+    ToFile(Box<FileDownloadStream, Global>),
+    /// An upload whose octets are read of a file.
+    FromFile(Box<FileUploadStream, Global>),
 }
 
-/// By hand, as above.
+/// By hand: a derived drop is proved again wherever one is let go.
 impl Drop for StreamBody {
     fn drop(self) {
         match self {
             StreamBody::Own => {}
-            StreamBody::Poured(_) | StreamBody::Drawn(_) => {}
+            StreamBody::ToFile(_) | StreamBody::FromFile(_) => {}
         }
     }
 }
 
 impl StreamBody {
-    fn into_poured(self) -> Option<FileDownloadStream> {
+    fn into_download(self) -> Option<FileDownloadStream> {
         match self {
-            StreamBody::Poured(poured) => Some(Box::into_inner(poured)),
+            StreamBody::ToFile(download) => Some(Box::into_inner(download)),
             _ => None,
         }
     }
 
-    fn into_drawn(self) -> Option<FileUploadStream> {
+    fn into_upload(self) -> Option<FileUploadStream> {
         match self {
-            StreamBody::Drawn(drawn) => Some(Box::into_inner(drawn)),
+            StreamBody::FromFile(upload) => Some(Box::into_inner(upload)),
             _ => None,
         }
     }
 
-    /// Whether nothing is carried.
+    /// Whether what goes over the data connection is what the client gives and hears.
     pub fn is_own(&self) -> bool {
         matches!(self, StreamBody::Own)
     }
@@ -55,51 +57,51 @@ impl Carries for StreamBody {
     fn hear<L: Read>(&mut self, link: &mut L, room: &mut [u8]) -> io::Result<usize> {
         match self {
             StreamBody::Own => link.read(room),
-            StreamBody::Poured(poured) => Carries::hear(&mut **poured, link, room),
-            StreamBody::Drawn(drawn) => Carries::hear(&mut **drawn, link, room),
+            StreamBody::ToFile(download) => Carries::hear(&mut **download, link, room),
+            StreamBody::FromFile(upload) => Carries::hear(&mut **upload, link, room),
         }
     }
 
     fn give<L: Write>(&mut self, link: &mut L, octets: &[u8]) -> io::Result<usize> {
         match self {
             StreamBody::Own => link.write(octets),
-            StreamBody::Poured(poured) => poured.give(link, octets),
-            StreamBody::Drawn(drawn) => drawn.give(link, octets),
+            StreamBody::ToFile(download) => download.give(link, octets),
+            StreamBody::FromFile(upload) => upload.give(link, octets),
         }
     }
 }
 
 /// What can be carried over any control connection.
 pub trait FromStreamBody: Carries + Drop {
-    /// As cargo; itself where memory is refused.
+    /// As what goes over a data connection; itself where memory is refused.
     fn load(self, alloc: Global) -> Result<StreamBody, Self>;
 
-    /// What was loaded; none where the cargo is another.
+    /// What was loaded; none where it is of another kind.
     fn unload(stream_body: StreamBody) -> Option<Self>;
 }
 
 impl FromStreamBody for FileDownloadStream {
     fn load(self, alloc: Global) -> Result<StreamBody, FileDownloadStream> {
         match Box::new(alloc, self) {
-            Ok(poured) => Ok(StreamBody::Poured(poured)),
+            Ok(download) => Ok(StreamBody::ToFile(download)),
             Err(failed) => Err(failed.value),
         }
     }
 
     fn unload(stream_body: StreamBody) -> Option<FileDownloadStream> {
-        stream_body.into_poured()
+        stream_body.into_download()
     }
 }
 
 impl FromStreamBody for FileUploadStream {
     fn load(self, alloc: Global) -> Result<StreamBody, FileUploadStream> {
         match Box::new(alloc, self) {
-            Ok(drawn) => Ok(StreamBody::Drawn(drawn)),
+            Ok(upload) => Ok(StreamBody::FromFile(upload)),
             Err(failed) => Err(failed.value),
         }
     }
 
     fn unload(stream_body: StreamBody) -> Option<FileUploadStream> {
-        stream_body.into_drawn()
+        stream_body.into_upload()
     }
 }
