@@ -3,9 +3,11 @@
 mod ahead;
 mod batch;
 mod connection_pool;
+mod ends;
 mod poll;
 mod slot;
 mod slots;
 
-pub use connection_pool::{ConnectionPool, MOST_CONNECTIONS};
+pub use connection_pool::ConnectionPool;
 pub use slot::{PoolSlot, Reliability};
+pub use slots::MOST_CONNECTIONS;

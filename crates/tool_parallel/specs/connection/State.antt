@@ -5,5 +5,5 @@ use Rattle.tool_parallel.specs.declared.connection.pooled_client.ClientState.The
 
 -- its control connection ended
 abbrev pub is_connection_ended : ClientState → Bool
-is_connection_ended States.Gone = true
+is_connection_ended States.Ended = true
 is_connection_ended state = false

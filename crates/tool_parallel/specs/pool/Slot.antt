@@ -24,12 +24,25 @@ has_no_login Reliabilities.Refused = true
 has_no_login reliability = false
 
 -- nothing is asked over it any more: its control connection ended, or its login was refused
-abbrev pub is_unusable : (gone : Bool) → Reliability → Bool
-is_unusable gone reliability = gone || has_no_login reliability
+abbrev pub is_unusable : (ended : Bool) → Reliability → Bool
+is_unusable ended reliability = ended || has_no_login reliability
 
 -- something may be asked over it in its turn now
-abbrev pub may_ask : Activity → (gone : Bool) → Reliability → Bool
-may_ask activity gone reliability = not (is_slot_busy activity) && not gone && is_relied_on reliability
+abbrev pub may_ask : Activity → (ended : Bool) → Reliability → Bool
+may_ask activity ended reliability = not (is_slot_busy activity) && not ended && is_relied_on reliability
+
+-- something may be asked over it in its turn, once it is idle
+abbrev pub is_reliable : (ended : Bool) → Reliability → Bool
+is_reliable ended reliability = not ended && is_relied_on reliability
+
+-- it does nothing, and all that was prefetched over it is given, or is given no more
+abbrev pub is_idle : Activity → (ended : Bool) → Reliability → (is_all_given : Bool) → Bool
+is_idle activity ended reliability is_all_given = not (is_slot_busy activity) && not (is_unusable ended reliability) && is_all_given
+
+-- something may be prefetched over it now: it is idle, and where that wants a login, its login was accepted
+abbrev pub may_prefetch : Activity → (ended : Bool) → Reliability → (is_all_given wants_login : Bool) → Bool
+may_prefetch activity ended reliability is_all_given wants_login =
+    is_idle activity ended reliability is_all_given && (not wants_login || is_relied_on reliability)
 
 -- a server refuses a login: 530 (RFC 959, section 4.2.2)
 abbrev pub is_login_refused : {A : Type 0} → Answer A → Bool

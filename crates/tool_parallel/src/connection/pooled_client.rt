@@ -26,17 +26,17 @@ pub(crate) enum ClientState {
     /// Something is, and its next turn is due.
     Due,
     /// Its control connection ended.
-    Gone,
+    Ended,
 }
 
 /// A client at a control connection that answers one request after another, in turns between those of others. No call waits.
 pub trait TakesTurns {
     /// Whether its control connection ended.
-    ghost gone: { Self → Bool };
+    ghost ended: { Self → Bool };
 
     /// Whether its control connection ended: nothing more is asked over it.
-    fn is_gone(&self) -> bool
-        ensures { result ≡ gone self.now };
+    fn has_ended(&self) -> bool
+        ensures { result ≡ ended self.now };
 
     /// Whether the next turn would not wait.
     fn is_due(&self) -> bool;
@@ -66,8 +66,8 @@ pub trait TakesTurns {
     /// The line that the server said last, without its end.
     fn last_reply(&self) -> &[u8];
 
-    /// Whether the server was silent for as long as it may be.
-    fn is_late(&self) -> bool;
+    /// Whether this end waits no longer: the server was silent for as long as it may be, or the time for all is over.
+    fn waits_no_longer(&self) -> bool;
 
     /// Says QUIT (RFC 959, section 4.1.1), and gives what stays of its connections until the server ends them.
     fn leave(&mut self) -> Leaving;
@@ -145,7 +145,7 @@ impl<'a, R: Sockets, N: Near<Global>> PooledClient<'a, R, N> {
             None => Answer::Lost,
         };
         self.state = if matches!(&answer, Answer::Lost) {
-            ClientState::Gone
+            ClientState::Ended
         } else {
             ClientState::Idle
         };
@@ -154,24 +154,24 @@ impl<'a, R: Sockets, N: Near<Global>> PooledClient<'a, R, N> {
 }
 
 impl<'a, R: Sockets, N: Near<Global>> TakesTurns for PooledClient<'a, R, N> {
-    ghost gone = { λ pooled. is_connection_ended pooled.state };
+    ghost ended = { λ pooled. is_connection_ended pooled.state };
 
-    fn is_gone(&self) -> bool {
-        matches!(self.state, ClientState::Gone)
+    fn has_ended(&self) -> bool {
+        matches!(self.state, ClientState::Ended)
     }
 
     fn is_due(&self) -> bool {
         match self.state {
             ClientState::Due => true,
             ClientState::Waits => self.line.timeouts.left() == Some(0),
-            ClientState::Idle | ClientState::Gone => false,
+            ClientState::Idle | ClientState::Ended => false,
         }
     }
 
     fn awaits(&self) -> Awaits {
         match self.state {
             ClientState::Waits => self.ports.awaits(),
-            ClientState::Due | ClientState::Idle | ClientState::Gone => Awaits::nothing(),
+            ClientState::Due | ClientState::Idle | ClientState::Ended => Awaits::nothing(),
         }
     }
 
@@ -222,7 +222,7 @@ impl<'a, R: Sockets, N: Near<Global>> TakesTurns for PooledClient<'a, R, N> {
         self.client.last_reply()
     }
 
-    fn is_late(&self) -> bool {
+    fn waits_no_longer(&self) -> bool {
         self.line.timeouts.over().is_some() || self.line.timeouts.left() == Some(0)
     }
 

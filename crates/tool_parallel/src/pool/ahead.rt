@@ -1,5 +1,5 @@
 // What is prefetched, how it is known again, and which of its answers is given.
-ghost use Rattle.std.specs.Prelude.{◌≡◌, IfSome, IsTrue, Some};
+ghost use Rattle.std.specs.Prelude.{◌≡◌, ◌≢◌, IfOk, IsFalse, IsTrue, Some};
 ghost use Rattle.std.specs.Option.{option_map};
 ghost use Rattle.tool_parallel.specs.pool.Ahead.{asked_ahead, changes_none, is_fact, leaves_all, moves_file, wants_login, wants_login_of};
 ghost use Rattle.tool_parallel.specs.pool.Ahead.{is_done, is_for, is_given, is_removed, is_told, says_none};
@@ -7,7 +7,7 @@ ghost use Rattle.tool_parallel.specs.pool.Ahead.{is_done, is_for, is_given, is_r
 use ftp_facts::Text;
 use ftp_operation::{Answer, Op};
 use ftp_reply::code::{NOT_IMPLEMENTED, UNAVAILABLE, UNKNOWN};
-use std::alloc::Global;
+use std::alloc::{AllocError, Global};
 use tool_session::{DataEnding, Request, StreamBody, Ticket};
 
 /// What can be prefetched of a path.
@@ -45,7 +45,7 @@ pub(crate) struct PrefetchedAnswer {
     pub(crate) stream_body: StreamBody,
 }
 
-/// By hand, as above.
+/// By hand: a derived drop is proved again, part by part, wherever one is let go.
 impl Drop for PrefetchedAnswer {
     fn drop(self) {
         let Self {
@@ -58,17 +58,16 @@ impl Drop for PrefetchedAnswer {
 }
 
 impl RequestKey {
-    /// That of a request; none where it is never prefetched, or memory is refused.
-    pub(crate) fn of(alloc: Global, request: &Request) -> Option<RequestKey>
-        ensures { IfSome result (λ key. asked_ahead request.now ≡ Some (key.kind, key.path)) }
+    /// That of a request; none where it is never prefetched. Fails where memory is refused.
+    pub(crate) fn of(alloc: Global, request: &Request) -> Result<Option<RequestKey>, AllocError>
+        // Witness: `edits/nothing_is_ever_prefetched`.
+        ensures { IfOk result (λ found. option_map (λ key. (key.kind, key.path)) found ≡ asked_ahead request.now) }
     {
         let Some((kind, path)) = parts_of(request) else {
-            return None;
+            return Ok(None);
         };
-        match Text::copy_of(alloc, path) {
-            Ok(path) => Some(RequestKey { kind, path }),
-            Err(_) => None,
-        }
+        let path = Text::copy_of(alloc, path)?;
+        Ok(Some(RequestKey { kind, path }))
     }
 
     /// What is asked.
@@ -80,7 +79,10 @@ impl RequestKey {
 
     /// Whether this asks something of the same path.
     pub(crate) fn is_at(&self, request: &Request) -> bool
-        ensures { IsTrue result → option_map (λ asked. asked.1) (asked_ahead request.now) ≡ Some self.now.path }
+        // Witness of yes: `edits/a_path_below_is_the_same_path`.
+        ensures yes { IsTrue result → option_map (λ asked. asked.1) (asked_ahead request.now) ≡ Some self.now.path }
+        // Witness of no: `edits/a_path_is_prefetched_twice`.
+        ensures no { IsFalse result → option_map (λ asked. asked.1) (asked_ahead request.now) ≢ Some self.now.path }
     {
         match parts_of(request) {
             Some((_, path)) => path == self.path.as_slice(),
@@ -90,18 +92,24 @@ impl RequestKey {
 
     /// Whether this asks for the same.
     pub(crate) fn is_of(&self, request: &Request) -> bool
-        ensures { IsTrue result → asked_ahead request.now ≡ Some (self.now.kind, self.now.path) }
+        // Witness of yes: `edits/a_size_is_the_answer_to_a_removal`.
+        ensures yes { IsTrue result → asked_ahead request.now ≡ Some (self.now.kind, self.now.path) }
+        // Witness of no: `edits/nothing_that_was_prefetched_is_given`.
+        ensures no { IsFalse result → asked_ahead request.now ≢ Some (self.now.kind, self.now.path) }
     {
         match parts_of(request) {
-            Some((kind, path)) if is_same(kind, self.kind) => path == self.path.as_slice(),
-            _ => false,
+            Some((kind, path)) => is_same(kind, self.kind) && path == self.path.as_slice(),
+            None => false,
         }
     }
 }
 
 /// Whether both are the same.
 fn is_same(one: PrefetchKind, other: PrefetchKind) -> bool
-    ensures { IsTrue result → one ≡ other }
+    // Witness of yes: `edits/a_download_is_an_upload`.
+    ensures yes { IsTrue result → one ≡ other }
+    // Witness of no: `edits/no_moment_is_that_of_the_same_file`.
+    ensures no { IsFalse result → one ≢ other }
 {
     match (one, other) {
         (PrefetchKind::Download, PrefetchKind::Download)
@@ -140,6 +148,7 @@ fn parts_of(request: &Request) -> Option<(PrefetchKind, &[u8])>
 /// Whether what was prefetched by this ticket, or by none, is the answer to what is asked by one or none: what went over its data connection is of whoever has
 /// its ticket, and of nobody else.
 pub(crate) fn is_for(held: Option<Ticket>, asked: Option<Ticket>) -> bool
+    // Witness: an equation; `edits/any_ticket_has_the_answer`.
     ensures { result ≡ is_for held asked }
 {
     match (held, asked) {
@@ -151,6 +160,7 @@ pub(crate) fn is_for(held: Option<Ticket>, asked: Option<Ticket>) -> bool
 
 /// Whether this is a fact of a file, which a reply alone tells.
 pub(crate) fn is_fact(kind: PrefetchKind) -> bool
+    // Witness: an equation; `edits/a_moment_is_no_fact`.
     ensures { result ≡ is_fact kind }
 {
     matches!(kind, PrefetchKind::Size | PrefetchKind::Moment)
@@ -158,6 +168,7 @@ pub(crate) fn is_fact(kind: PrefetchKind) -> bool
 
 /// Whether octets of a file go over its data connection.
 pub(crate) fn moves_file(kind: PrefetchKind) -> bool
+    // Witness: an equation; `edits/no_octet_of_an_upload_is_carried`.
     ensures { result ≡ moves_file kind }
 {
     matches!(kind, PrefetchKind::Download | PrefetchKind::Upload)
@@ -165,6 +176,7 @@ pub(crate) fn moves_file(kind: PrefetchKind) -> bool
 
 /// Whether a request that is asked in its turn leaves the files of the server as they are. Of what is never prefetched that is known of a download alone.
 pub(crate) fn changes_none(request: &Request) -> bool
+    // Witness: an equation; `edits/an_operation_of_any_kind_changes_no_file`.
     ensures { result ≡ changes_none (asked_ahead request.now) request.now }
 {
     match parts_of(request) {
@@ -175,6 +187,7 @@ pub(crate) fn changes_none(request: &Request) -> bool
 
 /// Whether this leaves the files of the server as they are.
 fn leaves_all(kind: PrefetchKind) -> bool
+    // Witness: an equation; `edits/a_removal_leaves_all_files`.
     ensures { result ≡ leaves_all kind }
 {
     !matches!(kind, PrefetchKind::Upload | PrefetchKind::Removal)
@@ -192,6 +205,7 @@ pub(crate) fn wants_login_of(request: &Request) -> bool
 
 /// The same of what is asked.
 fn wants_login(kind: PrefetchKind) -> bool
+    // Witness: an equation; `edits/a_removal_is_prefetched_without_a_login`.
     ensures { result ≡ wants_login kind }
 {
     matches!(kind, PrefetchKind::Removal)
@@ -199,6 +213,7 @@ fn wants_login(kind: PrefetchKind) -> bool
 
 /// Whether an answer that came ahead is given: another one is asked for once more in its turn, so that what is told of it is of that.
 pub(crate) fn is_given(kind: PrefetchKind, answer: &Answer<Global>) -> bool
+    // Witness: an equation; `edits/a_removal_that_was_lost_is_asked_again`.
     ensures { result ≡ is_given kind answer.now }
 {
     match kind {
@@ -228,6 +243,7 @@ fn is_told(answer: &Answer<Global>) -> bool
 
 /// Whether a server says by this code that it tells no such fact, or has no such file.
 fn says_none(code: u16) -> bool
+    // Witness: an equation; `edits/a_file_that_is_not_there_is_asked_for_again`.
     ensures { result ≡ says_none code }
 {
     code == UNKNOWN || code == NOT_IMPLEMENTED || code == UNAVAILABLE
@@ -235,6 +251,7 @@ fn says_none(code: u16) -> bool
 
 /// Whether the answer to anything else is given: it is done, or its data connection broke.
 fn is_done(answer: &Answer<Global>) -> bool
+    // Witness: an equation; `edits/a_transfer_that_broke_is_asked_again`.
     ensures { result ≡ is_done answer.now }
 {
     match answer {

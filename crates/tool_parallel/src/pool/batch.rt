@@ -99,7 +99,9 @@ impl RequestBatch {
         let mut stream_body = stream_body;
         let mut batched = Vec::new(alloc);
         for request in requests {
-            let key = RequestKey::of(alloc, &request)?;
+            let Ok(Some(key)) = RequestKey::of(alloc, &request) else {
+                return None;
+            };
             let carried = if moves_file(key.kind()) {
                 mem::replace(&mut stream_body, StreamBody::Own)
             } else {
@@ -150,11 +152,10 @@ impl RequestBatch {
         }
     }
 
-    /// Whether a fact of a file is given next.
-    pub(crate) fn is_of_fact(&self) -> bool {
-        match self.requests.first() {
-            Some(one) => is_fact(one.key.kind()),
-            None => false,
+    /// Facts of files in it are given no more, nor what comes behind the first of them.
+    pub(crate) fn forget_facts(&mut self) {
+        if let Some(place) = self.requests.iter().position(|one| is_fact(one.key.kind())) {
+            self.requests.truncate(place);
         }
     }
 

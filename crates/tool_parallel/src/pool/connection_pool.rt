@@ -1,29 +1,21 @@
 // A pool of control connections to one server: requests are answered in order, and what comes next is prefetched.
-ghost use Rattle.std.specs.Prelude.{◌≡◌, ◌<◌, ◌+◌};
+ghost use Rattle.std.specs.Prelude.{◌≡◌, ◌<◌, ◌+◌, take};
 
 use crate::connection::TakesTurns;
-use crate::pool::ahead::changes_none;
+use crate::pool::ahead::{changes_none, wants_login_of};
 use crate::pool::batch::RequestBatch;
-use crate::pool::poll::await_leaving;
+use crate::pool::ends::{WaitLimits, leave_all, note_reply, tell_fewer};
 use crate::pool::slot::{Activity, PoolSlot, ReceivedAnswer};
 use crate::pool::slots::PoolSlots;
 use ftp_operation::Answer;
 use ftp_ports::TURNS;
 use std::alloc::Global;
 use std::cell::Cell;
-use std::fmt::{Display, Formatter};
 use std::io::Eprint;
-use std::{fmt, mem};
+use std::mem;
 use tool_session::{
-    ClientSession, DataEnding, FromStreamBody, LastReply, Request, Said, StreamBody, Ticket, say,
+    ClientSession, DataEnding, FromStreamBody, LastReply, Request, StreamBody, Ticket,
 };
-use tool_sockets::monotonic_millis;
-
-/// The most control connections at once.
-pub const MOST_CONNECTIONS: usize = 8;
-
-/// How long the ends of all control connections are waited for, in milliseconds.
-const LAST_MILLIS: u64 = 1_000;
 
 /// The control connections, and what was asked over them last.
 pub struct ConnectionPool<'n, 'r, R, L> {
@@ -37,16 +29,13 @@ pub struct ConnectionPool<'n, 'r, R, L> {
     told: u32,
     /// How the data connection ended of what was answered last.
     ending: DataEnding,
-    /// Where that was asked, if it was in its turn.
-    last: Option<usize>,
-    /// Where it was prefetched, if more of its batch is still to be given.
-    batch: Option<usize>,
+    /// At which place that was asked, if it was in its turn.
+    asked_at: Option<usize>,
+    /// At which place it was prefetched, if more of its batch is still to be given.
+    given_from: Option<usize>,
     /// How many tickets were given out.
     tickets: u64,
-    /// For how many seconds the server may be silent; 0: without a limit.
-    timeout: u32,
-    /// Until when all is to be done, in milliseconds of the monotonic clock; none: without a limit.
-    until: Option<u64>,
+    limits: WaitLimits,
 }
 
 /// By hand: a derived drop is proved again, part by part, wherever they are let go.
@@ -60,18 +49,18 @@ impl<'n, 'r, R, L: Drop> Drop for ConnectionPool<'n, 'r, R, L> {
             opened: _,
             told: _,
             ending: _,
-            last: _,
-            batch: _,
+            asked_at: _,
+            given_from: _,
             tickets: _,
-            timeout: _,
-            until: _,
+            limits: _,
         } = self;
     }
 }
 
 impl<'n, 'r, R: Eprint, L: TakesTurns + Drop> ConnectionPool<'n, 'r, R, L> {
-    /// A pool of which nothing was asked yet. `limits` are for how many seconds the server may be silent, 0: without a limit, and until which moment of the
-    /// monotonic clock all is to be done, in milliseconds, where one is said. `last_reply` begins anew, and is lent until the pool ends.
+    /// A pool of which nothing was asked yet, over the first eight of these connections. `limits` are for how many seconds the server may be silent, 0:
+    /// without a limit, and until which moment of the monotonic clock all is to be done, in milliseconds, where one is said. `last_reply` begins anew,
+    /// and is lent until the pool ends.
     pub fn new(
         rt: &'r R,
         alloc: Global,
@@ -79,8 +68,10 @@ impl<'n, 'r, R: Eprint, L: TakesTurns + Drop> ConnectionPool<'n, 'r, R, L> {
         last_reply: &'n mut LastReply,
         limits: (u32, Option<u64>),
     ) -> ConnectionPool<'n, 'r, R, L>
-        // Witness: `edits/a_pool_begins_with_a_data_connection`.
+        // Witness of unopened: `edits/a_pool_begins_with_a_data_connection`.
         ensures unopened { result.opened ≡ 0 }
+        // Witness of most: `edits/a_pool_has_any_number_of_connections`.
+        ensures most { result.slots.list.items ≡ take 8 slots.items }
     {
         let (timeout, until) = limits;
         last_reply.begin();
@@ -92,17 +83,16 @@ impl<'n, 'r, R: Eprint, L: TakesTurns + Drop> ConnectionPool<'n, 'r, R, L> {
             opened: 0,
             told: 0,
             ending: DataEnding::Answered,
-            last: None,
-            batch: None,
+            asked_at: None,
+            given_from: None,
             tickets: 0,
-            timeout,
-            until,
+            limits: WaitLimits { timeout, until },
         }
     }
 
     /// Where this is prefetched, by this ticket or by none: in the batch of what was given last, of which else nothing more is given, or in another one.
     fn place_of(&mut self, request: &Request, ticket: Option<Ticket>) -> Option<usize> {
-        if let Some(place) = self.batch.take() {
+        if let Some(place) = self.given_from.take() {
             if let Some(slot) = self.slots.list.get_mut(place) {
                 if slot.has_ahead(request, ticket) {
                     return Some(place);
@@ -133,11 +123,15 @@ impl<'n, 'r, R: Eprint, L: TakesTurns + Drop> ConnectionPool<'n, 'r, R, L> {
         }
     }
 
-    /// A connection over which something may be asked, which is waited for while others are busy; none where all control connections ended.
+    /// A connection over which something may be asked in its turn, which is waited for while others are busy. Where none is left whose login is known to be
+    /// accepted, the logins of the others are tried. None where each ended or was refused its login.
     fn await_free(&mut self) -> Option<usize> {
         for _ in 0..TURNS {
             if let Some(place) = self.slots.free_place() {
                 return Some(place);
+            }
+            if !self.slots.has_reliable() {
+                self.slots.try_logins();
             }
             if !self.slots.is_any_busy() {
                 return None;
@@ -148,28 +142,33 @@ impl<'n, 'r, R: Eprint, L: TakesTurns + Drop> ConnectionPool<'n, 'r, R, L> {
     }
 
     /// What this was answered ahead of its turn, once it is; none where it was not prefetched, by this ticket or by none, or its answer is not given.
-    fn given(&mut self, request: &Request, ticket: Option<Ticket>) -> Option<ReceivedAnswer> {
+    fn prefetched_answer(
+        &mut self,
+        request: &Request,
+        ticket: Option<Ticket>,
+    ) -> Option<ReceivedAnswer> {
         let place = self.place_of(request, ticket)?;
         self.await_ahead(place);
         let slot = self.slots.list.get_mut(place)?;
-        let mut given = slot.take_answered()?;
+        let mut prefetched = slot.take_answered()?;
         if slot.has_more() {
-            self.batch = Some(place);
+            self.given_from = Some(place);
         }
-        self.opened = self.opened.saturating_add(given.opened);
-        self.ending = given.ending;
-        self.last = None;
-        if matches!(&given.answer, Answer::Lost) {
+        self.opened = self.opened.saturating_add(prefetched.opened);
+        self.ending = prefetched.ending;
+        self.asked_at = None;
+        if matches!(&prefetched.answer, Answer::Lost) {
             self.note_reply(place);
         }
         Some(ReceivedAnswer {
-            answer: mem::replace(&mut given.answer, Answer::Done),
-            stream_body: mem::replace(&mut given.stream_body, StreamBody::Own),
+            answer: mem::replace(&mut prefetched.answer, Answer::Done),
+            stream_body: mem::replace(&mut prefetched.stream_body, StreamBody::Own),
         })
     }
 
-    /// Asks in its turn, over a connection that is free. Lost where all control connections ended, and what was to go over the data connection is handed back.
-    fn asked(&mut self, request: Request, stream_body: StreamBody) -> ReceivedAnswer {
+    /// Asks in its turn, over a connection that is free. Lost where no control connection is left or that one ends; what was to go over the data connection
+    /// is handed back. Facts of files that were prefetched are forgotten first, unless the request leaves all files as they are.
+    fn ask(&mut self, request: Request, stream_body: StreamBody) -> ReceivedAnswer {
         if !changes_none(&request) {
             self.slots.forget_facts();
         }
@@ -184,7 +183,7 @@ impl<'n, 'r, R: Eprint, L: TakesTurns + Drop> ConnectionPool<'n, 'r, R, L> {
         }
         self.await_idle(place);
         match self.answered(place) {
-            Some(came) => came,
+            Some(received) => received,
             None => ReceivedAnswer {
                 answer: Answer::Lost,
                 stream_body: StreamBody::Own,
@@ -197,7 +196,7 @@ impl<'n, 'r, R: Eprint, L: TakesTurns + Drop> ConnectionPool<'n, 'r, R, L> {
         let slot = self.slots.list.get_mut(place)?;
         self.opened = self.opened.saturating_add(slot.opened_since());
         self.ending = slot.client.ending();
-        self.last = Some(place);
+        self.asked_at = Some(place);
         let answer = slot.answer.take();
         self.note_reply(place);
         answer
@@ -205,16 +204,8 @@ impl<'n, 'r, R: Eprint, L: TakesTurns + Drop> ConnectionPool<'n, 'r, R, L> {
 
     /// Notes what was said last over the connection at a place, and what this end waited for no longer, where that ended it.
     fn note_reply(&mut self, place: usize) {
-        let Some(slot) = self.slots.list.get(place) else {
-            return;
-        };
-        self.last_reply.keep(slot.client.last_reply());
-        if slot.client.is_gone() && slot.client.is_late() {
-            if is_past(self.until) {
-                self.last_reply.ran_out();
-            } else {
-                self.last_reply.fell_silent(self.timeout);
-            }
+        if let Some(slot) = self.slots.list.get(place) {
+            note_reply(&slot.client, self.limits, self.last_reply);
         }
     }
 
@@ -232,7 +223,9 @@ impl<'n, 'r, R: Eprint, L: TakesTurns + Drop> ConnectionPool<'n, 'r, R, L> {
         let Some(first) = requests.first() else {
             return false;
         };
-        self.slots.try_logins(first);
+        if wants_login_of(first) {
+            self.slots.try_logins();
+        }
         let Some(place) = self.slots.idle_place(first) else {
             return false;
         };
@@ -262,78 +255,22 @@ impl<'n, 'r, R: Eprint, L: TakesTurns + Drop> ConnectionPool<'n, 'r, R, L> {
     /// A round of turns. Where one is over since, that is told.
     fn round(&mut self) {
         if let Some(place) = self.slots.round() {
-            self.tell_fewer(place);
+            tell_fewer(self.rt, &self.slots, place);
         }
-    }
-
-    /// Tells that it goes on without the connection at a place, where others are left.
-    fn tell_fewer(&self, place: usize) {
-        let count = self.slots.left();
-        if count == 0 {
-            return;
-        }
-        let mut last = LastReply::new();
-        if let Some(slot) = self.slots.list.get(place) {
-            last.keep(slot.client.last_reply());
-        }
-        let fewer = Fewer {
-            said: last.parting(),
-            count,
-        };
-        let _told = say(
-            self.rt,
-            "note: a further control connection is over",
-            &fewer,
-            "",
-        );
     }
 
     /// Says QUIT over each connection, and waits a second at most for the ends of all.
     pub fn leave(&mut self) {
         self.last_reply.add_opened(self.opened);
-        let mut leaving = Vec::new(self.alloc);
-        for slot in self.slots.list.iter_mut() {
-            let left = slot.client.leave();
-            let _kept = leaving.push(left);
-        }
-        let until = monotonic_millis().saturating_add(LAST_MILLIS);
-        for _ in 0..TURNS {
-            leaving.retain_mut(|left| left.stays());
-            let now = monotonic_millis();
-            if leaving.is_empty() || until <= now {
-                return;
-            }
-            await_leaving(leaving.as_slice(), until.saturating_sub(now));
-        }
-    }
-}
-
-/// What the server said last over a control connection, and how many others are left.
-#[derive(Clone, Copy)]
-struct Fewer<'a> {
-    said: Said<'a>,
-    count: usize,
-}
-
-impl<'a> Display for Fewer<'a> {
-    fn fmt<W: fmt::Write>(&self, formatter: &mut Formatter<W>) -> fmt::Result {
-        write!(formatter, "{}; going on over {}", self.said, self.count)
-    }
-}
-
-/// Whether a moment of the monotonic clock has come, in milliseconds.
-fn is_past(until: Option<u64>) -> bool {
-    match until {
-        Some(until) => until <= monotonic_millis(),
-        None => false,
+        leave_all(self.alloc, &mut self.slots);
     }
 }
 
 impl<'n, 'r, R: Eprint, L: TakesTurns + Drop> ClientSession for ConnectionPool<'n, 'r, R, L> {
     fn answer(&mut self, request: Request) -> Answer<Global> {
-        match self.given(&request, None) {
-            Some(came) => came.into_answer(),
-            None => self.asked(request, StreamBody::Own).into_answer(),
+        match self.prefetched_answer(&request, None) {
+            Some(received) => received.into_answer(),
+            None => self.ask(request, StreamBody::Own).into_answer(),
         }
     }
 
@@ -352,8 +289,8 @@ impl<'n, 'r, R: Eprint, L: TakesTurns + Drop> ClientSession for ConnectionPool<'
             },
             None => StreamBody::Own,
         };
-        let came = self.asked(request, stream_body);
-        landed(came, home).unwrap_or(Answer::Lost)
+        let received = self.ask(request, stream_body);
+        handed_back(received, home).unwrap_or(Answer::Lost)
     }
 
     fn answer_ahead<T: FromStreamBody>(
@@ -362,11 +299,11 @@ impl<'n, 'r, R: Eprint, L: TakesTurns + Drop> ClientSession for ConnectionPool<'
         request: &Request,
         home: &Cell<Option<T>>,
     ) -> Option<Answer<Global>> {
-        landed(self.given(request, Some(ticket))?, home)
+        handed_back(self.prefetched_answer(request, Some(ticket))?, home)
     }
 
     fn came(&self) -> &[u8] {
-        match self.last {
+        match self.asked_at {
             Some(place) => match self.slots.list.get(place) {
                 Some(slot) => slot.client.came(),
                 None => &[],
@@ -428,17 +365,17 @@ impl<'n, 'r, R: Eprint, L: TakesTurns + Drop> ClientSession for ConnectionPool<'
 }
 
 /// An answer, once what went over its data connection is in the cell; none where that is another thing than is wanted there.
-fn landed<T: FromStreamBody>(
-    came: ReceivedAnswer,
+fn handed_back<T: FromStreamBody>(
+    received: ReceivedAnswer,
     home: &Cell<Option<T>>,
 ) -> Option<Answer<Global>> {
-    let mut came = came;
-    if !came.stream_body.is_own() {
-        let carried = T::unload(mem::replace(&mut came.stream_body, StreamBody::Own));
+    let mut received = received;
+    if !received.stream_body.is_own() {
+        let carried = T::unload(mem::replace(&mut received.stream_body, StreamBody::Own));
         if carried.is_none() {
             return None;
         }
         home.set(carried);
     }
-    Some(came.into_answer())
+    Some(received.into_answer())
 }

@@ -6,7 +6,7 @@ use libc::types::pollfd;
 use tool_polling::{Awaits, Leaving};
 use tool_sockets::monotonic_millis;
 
-/// The rows of a poll: two for each control connection.
+/// The rows of a poll: two for each control connection that a pool has at most.
 const ROWS: usize = 16;
 
 /// The longest wait in one piece, in milliseconds.

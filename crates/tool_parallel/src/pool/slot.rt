@@ -1,6 +1,7 @@
 // One of several control connections, and what is asked over it: in its turn, or ahead of it.
-ghost use Rattle.std.specs.Prelude.{◌≡◌, None};
-ghost use Rattle.tool_parallel.specs.pool.Slot.{has_no_login, is_login_refused, is_relied_on, is_slot_busy, is_unusable, may_ask, relied_after, tried_after};
+ghost use Rattle.std.specs.Prelude.{◌≡◌, None, is_none};
+ghost use Rattle.tool_parallel.specs.pool.Slot.{has_no_login, is_idle, is_login_refused, is_reliable, is_relied_on, is_slot_busy, is_unusable};
+ghost use Rattle.tool_parallel.specs.pool.Slot.{may_ask, may_prefetch, relied_after, tried_after};
 
 use crate::connection::TakesTurns;
 use crate::pool::ahead::PrefetchedAnswer;
@@ -77,7 +78,7 @@ pub struct PoolSlot<L> {
     opened: u32,
 }
 
-/// By hand, as above.
+/// By hand: a derived drop is proved again, part by part, wherever one is let go.
 impl<L: Drop> Drop for PoolSlot<L> {
     fn drop(self) {
         let Self {
@@ -94,6 +95,7 @@ impl<L: Drop> Drop for PoolSlot<L> {
 impl<L: TakesTurns + Drop> PoolSlot<L> {
     /// A control connection that is open, and over which nothing is asked.
     pub fn new(client: L, reliability: Reliability) -> PoolSlot<L>
+        // Witness: an equation; `edits/each_connection_is_tried`.
         ensures { result ≡ record { client = client; reliability = reliability; activity = Activity.Nothing; ahead = None; answer = None; opened = 0 } }
     {
         PoolSlot {
@@ -108,37 +110,54 @@ impl<L: TakesTurns + Drop> PoolSlot<L> {
 
     /// Whether something is under way.
     pub(crate) fn is_busy(&self) -> bool
+        // Witness: an equation; `edits/only_what_is_asked_in_its_turn_is_under_way`.
         ensures { result ≡ is_slot_busy self.now.activity }
     {
         !matches!(self.activity, Activity::Nothing)
     }
 
-    /// Whether nothing is asked over it any more.
-    pub(crate) fn is_over(&self) -> bool
-        ensures { result ≡ is_unusable (L.gone self.now.client) self.now.reliability }
+    /// Whether nothing is asked over it any more: it ended, or its login was refused.
+    pub(crate) fn is_unusable(&self) -> bool
+        // Witness: an equation; `edits/a_connection_without_a_login_is_used`.
+        ensures { result ≡ is_unusable (L.ended self.now.client) self.now.reliability }
     {
-        self.client.is_gone() || has_no_login(self.reliability)
+        self.client.has_ended() || has_no_login(self.reliability)
     }
 
     /// Whether something may be asked over it in its turn now.
-    pub(crate) fn is_free(&self) -> bool
-        ensures { result ≡ may_ask self.now.activity (L.gone self.now.client) self.now.reliability }
+    pub(crate) fn may_ask(&self) -> bool
+        // Witness: an equation; `edits/an_untried_connection_takes_a_turn`.
+        ensures { result ≡ may_ask self.now.activity (L.ended self.now.client) self.now.reliability }
     {
-        !self.is_busy() && !self.client.is_gone() && is_relied_on(self.reliability)
+        !self.is_busy() && !self.client.has_ended() && is_relied_on(self.reliability)
     }
 
-    /// Whether something may be prefetched over it now.
-    fn is_idle(&self) -> bool {
-        !self.is_busy() && !self.is_over() && self.ahead.is_none()
+    /// Whether something may be asked over it in its turn, once it is idle.
+    pub(crate) fn is_reliable(&self) -> bool
+        // Witness: an equation; `edits/a_connection_that_ended_is_waited_for`.
+        ensures { result ≡ is_reliable (L.ended self.now.client) self.now.reliability }
+    {
+        !self.client.has_ended() && is_relied_on(self.reliability)
     }
 
-    /// The same, of what is prefetched only where the login was accepted, or of anything else.
-    pub(crate) fn is_idle_for(&self, wants_login: bool) -> bool {
+    /// Whether nothing is under way over it, and nothing that was prefetched is still to be given.
+    fn is_idle(&self) -> bool
+        // Witness: an equation; `edits/a_second_batch_is_prefetched_before_the_first_is_given`.
+        ensures { result ≡ is_idle self.now.activity (L.ended self.now.client) self.now.reliability (is_none self.now.ahead) }
+    {
+        !self.is_busy() && !self.is_unusable() && self.ahead.is_none()
+    }
+
+    /// Whether something may be prefetched over it now, which is to be asked only where the login was accepted, or anywhere.
+    pub(crate) fn may_prefetch(&self, wants_login: bool) -> bool
+        // Witness: an equation; `edits/a_removal_goes_over_an_untried_connection`.
+        ensures { result ≡ may_prefetch self.now.activity (L.ended self.now.client) self.now.reliability (is_none self.now.ahead) wants_login }
+    {
         self.is_idle() && (!wants_login || is_relied_on(self.reliability))
     }
 
     /// Whether nothing is known of its login yet, and nothing is asked.
-    pub(crate) fn is_new(&self) -> bool {
+    pub(crate) fn is_untried(&self) -> bool {
         self.is_idle() && matches!(self.reliability, Reliability::Untried)
     }
 
@@ -171,10 +190,11 @@ impl<L: TakesTurns + Drop> PoolSlot<L> {
         self.ahead = None;
     }
 
-    /// The same, where it would be given as a fact of a file.
-    pub(crate) fn forget_fact(&mut self) {
-        if let Some(batch) = &self.ahead {
-            if batch.is_of_fact() {
+    /// The same of facts of files, and of what comes behind the first of them.
+    pub(crate) fn forget_facts(&mut self) {
+        if let Some(batch) = &mut self.ahead {
+            batch.forget_facts();
+            if batch.is_empty() {
                 self.ahead = None;
             }
         }
@@ -188,7 +208,7 @@ impl<L: TakesTurns + Drop> PoolSlot<L> {
 
     /// Asks what is next of what is prefetched, where something is.
     fn begin_next(&mut self) {
-        if self.is_over() {
+        if self.is_unusable() {
             return;
         }
         let Some(batch) = &mut self.ahead else {
@@ -232,11 +252,11 @@ impl<L: TakesTurns + Drop> PoolSlot<L> {
         match mem::replace(&mut self.activity, Activity::Nothing) {
             Activity::Ahead => {
                 self.keep(answer);
-                self.is_over()
+                self.is_unusable()
             }
             Activity::Trial => {
                 self.reliability = tried_after(&answer);
-                self.is_over()
+                self.is_unusable()
             }
             Activity::Asked | Activity::Nothing => {
                 let stream_body = self.client.unload();
@@ -301,6 +321,7 @@ fn is_relied_on(reliability: Reliability) -> bool
 
 /// Whether a server refuses a login by this answer (RFC 959, section 4.2.2: 530).
 fn is_login_refused(answer: &Answer<Global>) -> bool
+    // Witness: an equation; `edits/any_refusal_is_one_of_the_login`.
     ensures { result ≡ is_login_refused answer.now }
 {
     match answer {
@@ -311,6 +332,7 @@ fn is_login_refused(answer: &Answer<Global>) -> bool
 
 /// How far a connection is relied on whose trial was answered so.
 fn tried_after(answer: &Answer<Global>) -> Reliability
+    // Witness: an equation; `edits/a_trial_that_passed_counts_for_nothing`.
     ensures { result ≡ tried_after answer.now }
 {
     if !is_login_refused(answer) {
@@ -322,6 +344,7 @@ fn tried_after(answer: &Answer<Global>) -> Reliability
 /// How far a connection is relied on over which something prefetched is answered so, before it is known whether that is given: where nothing was given over
 /// it before, a refused login is its own.
 fn relied_after(before: Reliability, answer: &Answer<Global>) -> Reliability
+    // Witness: an equation; `edits/a_tried_connection_is_untried_again`.
     ensures { result ≡ relied_after before answer.now }
 {
     match before {

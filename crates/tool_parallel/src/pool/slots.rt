@@ -1,4 +1,6 @@
 // All control connections of a pool: which of them may take a request, which has an answer that was prefetched, and a round of their turns.
+ghost use Rattle.std.specs.Prelude.{◌≡◌, take};
+
 use crate::connection::TakesTurns;
 use crate::pool::ahead::wants_login_of;
 use crate::pool::poll::{found_at, is_ready, poll_all};
@@ -7,7 +9,10 @@ use std::alloc::Global;
 use tool_session::{Request, Ticket};
 use tool_sockets::monotonic_millis;
 
-/// The control connections, each at its place from 0.
+/// The most control connections at once.
+pub const MOST_CONNECTIONS: usize = 8;
+
+/// The control connections, each at its place from 0; as many as one poll has rows for.
 pub(crate) struct PoolSlots<L> {
     pub(crate) list: Vec<PoolSlot<L>, Global>,
 }
@@ -20,8 +25,12 @@ impl<L: Drop> Drop for PoolSlots<L> {
 }
 
 impl<L: TakesTurns + Drop> PoolSlots<L> {
-    /// These, of which nothing is asked.
-    pub(crate) fn new(list: Vec<PoolSlot<L>, Global>) -> PoolSlots<L> {
+    /// The first of these, of which nothing is asked; others are closed.
+    pub(crate) fn new(list: Vec<PoolSlot<L>, Global>) -> PoolSlots<L>
+        ensures { result.list.items ≡ take 8 list.items }
+    {
+        let mut list = list;
+        list.truncate(MOST_CONNECTIONS);
         PoolSlots { list }
     }
 
@@ -37,39 +46,41 @@ impl<L: TakesTurns + Drop> PoolSlots<L> {
         self.list.iter().any(|slot| slot.is_at(request))
     }
 
-    /// What is asked in its turn now may change or bring a file: its facts that were prefetched are given no more.
+    /// What is asked in its turn now may change or bring a file: facts of files that were prefetched are given no more, nor what comes behind one in its batch.
     pub(crate) fn forget_facts(&mut self) {
         for slot in self.list.iter_mut() {
-            slot.forget_fact();
+            slot.forget_facts();
         }
     }
 
     /// One over which something may be asked in its turn now.
     pub(crate) fn free_place(&self) -> Option<usize> {
-        self.list.iter().position(|slot| slot.is_free())
+        self.list.iter().position(|slot| slot.may_ask())
+    }
+
+    /// Whether any is left over which something may be asked in its turn, once it is idle.
+    pub(crate) fn has_reliable(&self) -> bool {
+        self.list.iter().any(|slot| slot.is_reliable())
     }
 
     /// One over which this may be prefetched: first one of whose login nothing is known, so that what is asked in its turn has others, then another one.
     pub(crate) fn idle_place(&self, request: &Request) -> Option<usize> {
         let wants_login = wants_login_of(request);
         if !wants_login {
-            let new = self.list.iter().position(|slot| slot.is_new());
-            if new.is_some() {
-                return new;
+            let untried = self.list.iter().position(|slot| slot.is_untried());
+            if untried.is_some() {
+                return untried;
             }
         }
         self.list
             .iter()
-            .position(|slot| slot.is_idle_for(wants_login))
+            .position(|slot| slot.may_prefetch(wants_login))
     }
 
-    /// Tries the login of each of which nothing is known, where this is prefetched only once that is accepted.
-    pub(crate) fn try_logins(&mut self, request: &Request) {
-        if !wants_login_of(request) {
-            return;
-        }
+    /// Tries the login of each idle one of whose login nothing is known.
+    pub(crate) fn try_logins(&mut self) {
         for slot in self.list.iter_mut() {
-            if slot.is_new() {
+            if slot.is_untried() {
                 slot.try_login();
             }
         }
@@ -98,7 +109,7 @@ impl<L: TakesTurns + Drop> PoolSlots<L> {
 
     /// Over how many something may still be asked.
     pub(crate) fn left(&self) -> usize {
-        self.list.iter().filter(|slot| !slot.is_over()).count()
+        self.list.iter().filter(|slot| !slot.is_unusable()).count()
     }
 
     /// A round: a wait where no turn is due, and a turn of each that is ready. Gives the place of one that is over since, behind what was prefetched over it.
