@@ -1,1 +1,2 @@
+mod AskingLemmas
 mod ConversingLemmas

@@ -1,5 +1,6 @@
 // What is asked anew where its control connection ends.
 ghost use Rattle.std.specs.Prelude.{◌≡◌};
+ghost use Rattle.tool_connect.specs.Asking.{AskedUntil};
 ghost use Rattle.tool_connect.specs.Again.{fits, gives_up, is_stalled, loss_by, silence_left};
 
 use crate::conversing::{Converses, Logins, converse_as};
@@ -38,18 +39,18 @@ pub fn ask<R, P>(
 where
     R: Converses + Logins + Eprint,
     P: SessionTask<Result<Answer<Global>, SessionFault>>,
+    // Witness: `edits/a_refusal_is_done`, `a_task_is_asked_over_two_connections_at_once`.
+    ensures { AskedUntil P.tells (R.hears rt.now server.entry.at_once) P.plays play.old play.new result }
 {
     let answered = converse_as(rt, server, user, last_reply, play);
-    match loss_of(&answered) {
-        Some(Loss::Ended) => {
-            drop(answered);
-            if has_stalled(last_reply) {
-                return Ok(Answer::Lost);
-            }
-            ask_again(rt, server, user, last_reply, play)
-        }
-        _ => answered,
+    if !matches!(loss_of(&answered), Some(Loss::Ended)) {
+        return answered;
     }
+    drop(answered);
+    if has_stalled(last_reply) {
+        return Ok(Answer::Lost);
+    }
+    ask_again(rt, server, user, last_reply, play)
 }
 
 /// Plays anew, each time after a longer wait, while that may help.
@@ -63,15 +64,16 @@ fn ask_again<R, P>(
 where
     R: Converses + Logins + Eprint,
     P: SessionTask<Result<Answer<Global>, SessionFault>>,
+    ensures { AskedUntil P.tells (R.hears rt.now server.entry.at_once) P.plays play.old play.new result }
 {
     let mut loss = Loss::Ended;
     for seconds in WAITS {
         let Some(timeout) = silence_left(server.timeout, last_reply.spent(), last_reply.is_heard())
         else {
-            break;
+            return Ok(Answer::Lost);
         };
         if !fits(left_until(server.until), seconds) {
-            break;
+            return Ok(Answer::Lost);
         }
         let server = ServerAddress { timeout, ..server };
         tell_wait(rt, loss, seconds, last_reply);
@@ -81,7 +83,7 @@ where
             Some(found) => {
                 drop(answered);
                 if gives_up(found, last_reply.is_heard(), has_stalled(last_reply)) {
-                    break;
+                    return Ok(Answer::Lost);
                 }
                 loss = found;
             }

@@ -1,5 +1,6 @@
 // Several control connections from their opening to their last replies, with a client at each.
-ghost use Rattle.std.specs.Prelude.{◌≡◌, ⊤};
+ghost use Rattle.std.specs.Prelude.{◌≡◌, ◌⊎◌, IfErr, ⊤};
+ghost use Rattle.tool_session.specs.declared.fault.Phase.TheVariants.{Asking};
 ghost use Rattle.tool_session.specs.Talking.{Conversed};
 ghost use Rattle.tool_connect.specs.Several.{connections_of, part_of};
 
@@ -88,8 +89,8 @@ where
     P: SessionTask<Result<T, SessionFault>>,
     ensures { Conversed P.tells (λ heard. ⊤) P.plays play.old play.new result }
 {
-    let streams = at(Phase::Connection, streams_of(rt, rt.alloc(), server))?;
-    let request_states = at(Phase::Talking, request_states_of(rt.alloc()))?;
+    let streams = made(Phase::Connection, streams_of(rt, rt.alloc(), server))?;
+    let request_states = made(Phase::Talking, request_states_of(rt.alloc()))?;
     let passive = PassivePorts::new(rt.alloc(), 0, 0);
     let settings = PoolSettings {
         rt,
@@ -99,10 +100,20 @@ where
         server,
     };
     let lines = lines_of(&settings, streams, request_states.as_slice());
-    let lines = at(Phase::Talking, lines)?;
+    let lines = made(Phase::Talking, lines)?;
     let done = play_by_several::<N, R, T, P>(&settings, lines, last_reply, play);
     note_moved(request_states.as_slice(), last_reply);
     done
+}
+
+/// What was made in this phase; refused memory is a fault of asking, which no further control connection mends.
+fn made<T: Drop>(phase: Phase, done: io::Result<T>) -> Result<T, SessionFault>
+    ensures { IfErr result (λ fault. (fault.stage ≡ phase) ⊎ (fault.stage ≡ Asking)) }
+{
+    match done {
+        Err(error) if error.kind() == ErrorKind::OutOfMemory => at(Phase::Asking, Err(error)),
+        _ => at(phase, done),
+    }
 }
 
 /// Notes whether octets moved over a data connection beside any control connection.
@@ -209,7 +220,7 @@ where
     P: SessionTask<Result<T, SessionFault>>,
     ensures { Conversed P.tells (λ heard. ⊤) P.plays play.old play.new result }
 {
-    match at(
+    match made(
         Phase::Talking,
         clients_of::<N, R>(settings, lines.as_slice()),
     ) {
