@@ -1,3 +1,4 @@
 pub mod AheadLemmas
+pub mod AskingLemmas
 pub mod OrderLemmas
 pub mod StatusLemmas

@@ -1,5 +1,6 @@
 // Several things of one kind that are asked of a server, one after another: over several control connections what comes next is asked ahead.
-ghost use Rattle.std.specs.Prelude.{◌≡◌, OnOk, is_some};
+ghost use Rattle.std.specs.Prelude.{◌≡◌, ◌≢◌, OnErr, OnOk, is_some};
+ghost use Rattle.tool_terminal.specs.declared.status.Status.TheVariants.{Done};
 ghost use Rattle.tool_job.specs.queue.Order.{GivesFirst, GivesNext, KeepsOrder};
 ghost use Rattle.tool_job.specs.queue.QueueStatus.{counted};
 
@@ -234,23 +235,43 @@ impl<'a, R: Eprint, E: QueuedJob + Drop, W: WaitingJobs<E> + Drop> JobQueue<'a, 
         queued_job: E,
         answer: &Answer<Global>,
         last_reply: &LastReply,
-    ) -> io::Result<()> {
+    ) -> io::Result<()>
+        // Witness: `edits/what_cant_be_told_is_done`.
+        ensures { OnErr result (self.new.status.worst ≢ Done) }
+    {
         let mut queued_job = queued_job;
-        let status = queued_job.leave(answer, last_reply)?;
-        self.count(&queued_job, status)
+        let left = queued_job.leave(answer, last_reply);
+        self.settle(&queued_job, left)
     }
 
     /// One was stopped.
-    fn stopped(&mut self, queued_job: E, stop: SessionFault) -> io::Result<()> {
+    fn stopped(&mut self, queued_job: E, stop: SessionFault) -> io::Result<()>
+        ensures { OnErr result (self.new.status.worst ≢ Done) }
+    {
         let mut queued_job = queued_job;
-        let status = queued_job.stop(stop)?;
-        self.count(&queued_job, status)
+        let left = queued_job.stop(stop);
+        self.settle(&queued_job, left)
+    }
+
+    /// Counts how one was left: a status that can't be told is that of a failure.
+    fn settle(&mut self, queued_job: &E, left: io::Result<Status>) -> io::Result<()>
+        // Witness: `edits/what_cant_be_told_is_done`.
+        ensures { OnErr result (self.new.status.worst ≢ Done) }
+    {
+        match left {
+            Ok(status) => self.count(queued_job, status),
+            Err(error) => {
+                self.status.count(Status::Failed);
+                Err(error)
+            }
+        }
     }
 
     /// Counts the status of one, and tells which one was not done, as its sentence does not say.
     fn count(&mut self, queued_job: &E, status: Status) -> io::Result<()>
-        // Witness: an equation; `edits/what_is_not_told_does_not_count`.
-        ensures { self.new.status ≡ counted self.old.status status }
+        // Witness of counts: an equation; `edits/what_is_not_told_does_not_count`.
+        ensures counts { self.new.status ≡ counted self.old.status status }
+        ensures fails { OnErr result (self.new.status.worst ≢ Done) }
     {
         self.status.count(status);
         if status != Status::Done {

@@ -1,5 +1,5 @@
 // A file that is one of several which are removed.
-ghost use Rattle.std.specs.Prelude.{◌≡◌, IfOk};
+ghost use Rattle.std.specs.Prelude.{◌≡◌, IfOk, string_bytes};
 ghost use Rattle.tool_job.specs.queue.Removing.{removal};
 
 use crate::queue::queued_job::QueuedJob;
@@ -16,8 +16,9 @@ use tool_terminal::Status;
 pub struct Removed<'a, R> {
     rt: &'a R,
     alloc: Global,
-    /// What is asked, with the path of the file.
+    /// What is asked, but for the path of the file.
     asked: Target<'a>,
+    path: String<Global>,
     /// Whether it was asked ahead, over control connections that are still there.
     is_ahead: bool,
 }
@@ -29,28 +30,35 @@ impl<'a, R> Drop for Removed<'a, R> {
             rt: _,
             alloc: _,
             asked: _,
+            path: _,
             is_ahead: _,
         } = self;
     }
 }
 
 impl<'a, R: Print + Eprint> Removed<'a, R> {
-    /// The file at a path, of which nothing was asked yet.
-    pub fn new(rt: &'a R, alloc: Global, asked: Target<'a>) -> Removed<'a, R>
+    /// The file at a path, of which nothing was asked yet; `asked` says all but the path.
+    pub fn new(rt: &'a R, alloc: Global, asked: Target<'a>, path: String<Global>) -> Removed<'a, R>
         // Witness: an equation; callers in `tool_get_put` need it.
-        ensures { result.asked.place.path.now ≡ asked.entry.place.path.now }
+        ensures { string_bytes result.path ≡ string_bytes path }
     {
         Removed {
             rt,
             alloc,
             asked,
+            path,
             is_ahead: false,
         }
     }
 
     /// What is asked. Fails where memory is refused.
     fn request(&self) -> Result<Request, AllocError> {
-        removal(self.alloc, self.asked.place.path)
+        removal(self.alloc, self.path.as_str())
+    }
+
+    /// What is asked of the file.
+    fn asked(&self) -> Target<'_> {
+        self.asked.at(self.path.as_str())
     }
 }
 
@@ -64,7 +72,7 @@ fn removal(alloc: Global, path: &str) -> Result<Request, AllocError>
 }
 
 impl<'a, R: Print + Eprint> QueuedJob for Removed<'a, R> {
-    ghost named = { λ removed. removed.asked.place.path.now };
+    ghost named = { λ removed. string_bytes removed.path };
 
     fn foresee<S: ClientSession>(&mut self, slot: &mut S) {
         if self.is_ahead {
@@ -100,16 +108,18 @@ impl<'a, R: Print + Eprint> QueuedJob for Removed<'a, R> {
     }
 
     fn leave(&mut self, answer: &Answer<Global>, last_reply: &LastReply) -> io::Result<Status> {
-        report(self.rt, &self.asked, answer, last_reply)
+        report(self.rt, &self.asked(), answer, last_reply)
     }
 
     fn stop(&mut self, stop: SessionFault) -> io::Result<Status> {
-        stop.tell(self.rt, self.asked.subject("-"))
+        let asked = self.asked();
+        let subject = asked.subject("-");
+        stop.tell(self.rt, subject)
     }
 
     fn abandon(&mut self) {}
 
     fn name(&self) -> &str {
-        self.asked.place.path
+        self.path.as_str()
     }
 }

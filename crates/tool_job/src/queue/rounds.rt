@@ -1,5 +1,6 @@
 // All jobs of a queue, over one round of control connections after another.
-ghost use Rattle.std.specs.Prelude.{◌≡◌, IfOk};
+ghost use Rattle.std.specs.Prelude.{◌≡◌, ◌⊎◌, IfOk};
+ghost use Rattle.tool_terminal.specs.declared.status.Status.TheVariants.{Failed};
 
 use crate::queue::decisions::{AfterRound, gets_further};
 use crate::queue::job_queue::JobQueue;
@@ -28,8 +29,8 @@ where
     R: Converses + Logins + Eprint,
     E: QueuedJob + Drop,
     W: WaitingJobs<E> + Drop,
-    // Witness: an equation; `edits/all_is_done_whatever_the_jobs_say`.
-    ensures { IfOk result (λ status. status ≡ job_queue.new.status.worst) }
+    // Witness: `edits/all_is_done_whatever_the_jobs_say`, `edits/jobs_that_are_left_over_are_done`.
+    ensures { IfOk result (λ status. (status ≡ job_queue.new.status.worst) ⊎ (status ≡ Failed)) }
 {
     for _ in 0..ROUNDS {
         let goes_on = match ask_rounds(rt, asked, job_queue, last_reply) {
@@ -41,11 +42,11 @@ where
             Err(stop) => job_queue.stop_next(stop),
         };
         if !at(Phase::Report, goes_on)? {
-            break;
+            return Ok(job_queue.worst());
         }
         *last_reply = LastReply::new();
     }
-    Ok(job_queue.worst())
+    Ok(Status::Failed)
 }
 
 /// What follows where the server answered so last; says whether anything does.

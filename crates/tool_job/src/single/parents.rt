@@ -1,6 +1,9 @@
 // A directory of a server, and those above it that are missing.
-ghost use Rattle.std.specs.Prelude.{◌≡◌};
-ghost use Rattle.tool_job.specs.single.Parents.{is_made, is_passed, is_refused};
+ghost use Rattle.std.specs.Prelude.{◌≡◌, ◌≢◌, IfOk, IfSome, List, true};
+ghost use Rattle.tool_job.specs.single.Parents.{EndsAt, MakesAll, entering, is_made, is_passed, is_refused, making};
+ghost use Rattle.tool_job.specs.single.Simple.{IsAskedOnce, reported_status};
+ghost use Rattle.tool_session.specs.Talking.{HasExchanged, SessionExchange};
+ghost use Rattle.tool_terminal.specs.declared.status.Status.TheVariants.{Done};
 
 use crate::single::simple::report;
 use crate::single::target::Target;
@@ -9,7 +12,9 @@ use ftp_operation::{Answer, Op};
 use std::alloc::Global;
 use std::io::{Eprint, Print};
 use tool_connect::{Converses, Logins, converse_as};
-use tool_session::{ClientSession, LastReply, Phase, Request, SessionFault, SessionTask, at};
+use tool_session::{
+    ClientSession, LastReply, Phase, Request, ServerAddress, SessionFault, SessionTask, at,
+};
 use tool_terminal::Status;
 
 /// Makes the directory at a path and those above it, over one control connection, and gives the exit status. One that stands is as well; whether the
@@ -22,12 +27,18 @@ pub fn make_all<R>(
 ) -> Result<Status, SessionFault>
 where
     R: Converses + Logins + Print + Eprint,
+    // Witness: `edits/a_directory_above_is_enough`, `a_directory_is_not_looked_for`.
+    ensures { MakesAll (R.hears rt.now 1) asked.now.place.path.now result }
 {
     let mut making = Making {
         alloc,
         path: asked.place.path,
     };
-    let answer = converse_as(rt, asked.server(), asked.user, last_reply, &mut making)?;
+    let server = ServerAddress {
+        at_once: 1,
+        ..asked.server()
+    };
+    let answer = converse_as(rt, server, asked.user, last_reply, &mut making)?;
     at(Phase::Report, report(rt, asked, &answer, last_reply))
 }
 
@@ -39,6 +50,10 @@ struct Making<'a> {
 }
 
 impl<'a> SessionTask<Result<Answer<Global>, SessionFault>> for Making<'a> {
+    ghost tells = { true };
+
+    ghost plays = { λ heard result old new. IfOk result (λ answer. reported_status answer ≡ Done → EndsAt old.path.now heard answer) };
+
     fn play<S: ClientSession>(&mut self, slot: &mut S) -> Result<Answer<Global>, SessionFault> {
         let entered = enter(slot, self.alloc, self.path.as_bytes());
         if !is_refused(&entered) {
@@ -46,19 +61,17 @@ impl<'a> SessionTask<Result<Answer<Global>, SessionFault>> for Making<'a> {
         }
         drop(entered);
         let whole = self.path.trim_end_matches('/').as_bytes();
-        match make_above(slot, self.alloc, whole) {
-            Some(answer) => Ok(answer),
-            None => Ok(make(slot, self.alloc, whole)),
+        if let Some(answer) = make_above(slot, self.alloc, whole) {
+            return Ok(answer);
         }
+        Ok(make(slot, self.alloc, whole))
     }
 }
 
 /// Makes the directories above a path. Those that are refused may stand; any other answer than that ends it, and is given.
-fn make_above<S: ClientSession>(
-    slot: &mut S,
-    alloc: Global,
-    path: &[u8],
-) -> Option<Answer<Global>> {
+fn make_above<S: ClientSession>(slot: &mut S, alloc: Global, path: &[u8]) -> Option<Answer<Global>>
+    ensures { (heard : List SessionExchange) × HasExchanged S.answers slot.old heard slot.new × IfSome result (λ answer. reported_status answer ≢ Done) }
+{
     for end in 1..path.len() {
         let (front, rest) = path.split_at(end);
         if is_passed(front, rest) {
@@ -86,15 +99,17 @@ fn is_refused(answer: &Answer<Global>) -> bool
     matches!(answer, Answer::Refused(_))
 }
 
-/// Whether the server made it: MKD is answered by the path (RFC 959, section 5.4).
+/// Whether the server made it, or says that all is done: MKD is answered by the path (RFC 959, section 5.4).
 fn is_made(answer: &Answer<Global>) -> bool
     ensures { result ≡ is_made answer.now }
 {
-    matches!(answer, Answer::Done | Answer::Path(_))
+    matches!(answer, Answer::Done | Answer::Path(_) | Answer::Number(_))
 }
 
 /// Goes into a directory, to see that it stands.
-fn enter<S: ClientSession>(slot: &mut S, alloc: Global, path: &[u8]) -> Answer<Global> {
+fn enter<S: ClientSession>(slot: &mut S, alloc: Global, path: &[u8]) -> Answer<Global>
+    ensures { (heard : List SessionExchange) × HasExchanged S.answers slot.old heard slot.new × IsAskedOnce (entering path.now) heard result }
+{
     match Text::copy_of(alloc, path) {
         Ok(path) => slot.answer(Request::One(Some(Op::ChangeDir(path)))),
         Err(_) => Answer::Memory,
@@ -102,7 +117,9 @@ fn enter<S: ClientSession>(slot: &mut S, alloc: Global, path: &[u8]) -> Answer<G
 }
 
 /// Makes a directory.
-fn make<S: ClientSession>(slot: &mut S, alloc: Global, path: &[u8]) -> Answer<Global> {
+fn make<S: ClientSession>(slot: &mut S, alloc: Global, path: &[u8]) -> Answer<Global>
+    ensures { (heard : List SessionExchange) × HasExchanged S.answers slot.old heard slot.new × IsAskedOnce (making path.now) heard result }
+{
     match Text::copy_of(alloc, path) {
         Ok(path) => slot.answer(Request::One(Some(Op::MakeDir(path)))),
         Err(_) => Answer::Memory,

@@ -1,13 +1,12 @@
-// One operation over a control connection of its own.
+// A listing over a control connection of its own.
 use crate::single::looking::{listing_of_file, may_be_file, settles};
-use crate::single::simple::{Simple, op_of};
 use crate::single::target::Target;
 use ftp_facts::Text;
 use ftp_operation::{Answer, How, ListVerb, Op};
 use ftp_reply::code::UNAVAILABLE;
 use std::alloc::{AllocError, Global};
 use std::io::{Eprint, Error, ErrorKind};
-use tool_connect::{Converses, Logins, ask, converse_as};
+use tool_connect::{Converses, Logins, ask};
 use tool_listing::lists_nothing;
 use tool_location::{last_part, says_directory};
 use tool_session::{
@@ -16,50 +15,20 @@ use tool_session::{
 
 /// What is wished for at a place.
 #[derive(Clone, Copy)]
-pub enum Wish<'a> {
+pub enum Wish {
     /// The entries, as text: by MLSD with their facts, or by LIST where the server does not know that.
     Entries,
     /// The names of the files alone, by NLST.
     Names,
-    /// What needs no data connection.
-    Simple(Simple<'a>),
 }
 
-impl<'a> Wish<'a> {
-    /// Whether it needs no data connection.
-    fn is_simple(self) -> bool {
-        matches!(self, Wish::Simple(_))
-    }
-}
-
-/// Asks for one thing over one control connection alone: what changes something is not asked twice.
-pub(crate) fn ask_once<R>(
-    rt: &R,
-    alloc: Global,
-    asked: &Target<'_>,
-    simple: Simple<'_>,
-    last_reply: &mut LastReply,
-) -> Result<Answer<Global>, SessionFault>
-where
-    R: Converses + Logins,
-{
-    let mut single = Single {
-        alloc,
-        path: asked.place.path,
-        how: asked.how,
-        openings: asked.openings,
-        wish: Wish::Simple(simple),
-    };
-    converse_as(rt, asked.server(), asked.user, last_reply, &mut single)
-}
-
-/// Asks for one thing, and gives what the server answered; `last_reply` is what it said last. Where its control connection ends, it is asked anew over another
+/// Asks for a listing, and gives what the server answered; `last_reply` is what it said last. Where its control connection ends, it is asked anew over another
 /// one. Fails where nothing could be asked, or a listing has more than 1,000,000 entries.
 pub fn ask_for<R>(
     rt: &R,
     alloc: Global,
     asked: &Target<'_>,
-    wish: Wish<'_>,
+    wish: Wish,
     last_reply: &mut LastReply,
 ) -> Result<Answer<Global>, SessionFault>
 where
@@ -96,7 +65,7 @@ pub struct Single<'a> {
     pub path: &'a str,
     pub how: How,
     pub openings: &'a Openings,
-    pub wish: Wish<'a>,
+    pub wish: Wish,
 }
 
 impl<'a> Single<'a> {
@@ -183,10 +152,9 @@ impl<'a> Single<'a> {
     ) -> Result<Answer<Global>, AllocError> {
         let opened = slot.opened();
         let answer = slot.answer(self.request()?);
-        if self.wish.is_simple()
-            || !self
-                .openings
-                .hear(&answer, self.how, slot.opened() > opened)
+        if !self
+            .openings
+            .hear(&answer, self.how, slot.opened() > opened)
         {
             return Ok(answer);
         }
@@ -205,7 +173,6 @@ impl<'a> Single<'a> {
         let op = match self.wish {
             Wish::Entries => Op::Text(self.openings.list_verb(), path, how),
             Wish::Names => Op::Names(path, how),
-            Wish::Simple(simple) => op_of(self.alloc, simple, path, how)?,
         };
         Ok(Request::One(Some(op)))
     }

@@ -13,7 +13,7 @@ use tool_files::{PARTS, beside};
 /// The place of the file that goes under each name.
 type Sources = BTreeMap<Vec<u8, Global>, Vec<u8, Global>, Global>;
 
-/// The names under which the files of one command line go, each with the place of its file: no two files go under one name.
+/// The names under which the files of one command line go, each with the place of its file. No two files go under one name.
 pub struct Targets {
     alloc: Global,
     sources: Cell<Option<Sources>>,
@@ -63,7 +63,8 @@ impl Targets {
     }
 }
 
-/// The file of a server that a user gets, as a text: for no other user and no other file it is the same. Fails where memory is refused.
+/// The file of a server that a user gets, as a text of two lines. A path or a user with a line end may give the same as others do. Fails where memory is
+/// refused.
 pub fn source_of(alloc: Global, asked: &Target<'_>) -> io::Result<String<Global>> {
     let place = place_text(alloc, asked)?;
     let user = asked.user.name.unwrap_or("");

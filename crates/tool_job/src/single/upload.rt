@@ -1,6 +1,7 @@
 // An upload over a control connection of its own: what goes, and what is told of it.
 ghost use Rattle.std.specs.Prelude.{◌≡◌, ◌<◌, ◌≤◌, IfErr, IfOk, IfSome, string_bytes};
-ghost use Rattle.tool_job.specs.single.Upload.{other_name};
+ghost use Rattle.tool_job.specs.single.Simple.{IsAnswered};
+ghost use Rattle.tool_job.specs.single.Upload.{other_name, renaming};
 
 use crate::single::simple::{Simple, do_simple};
 use crate::single::single::ask_at;
@@ -56,6 +57,8 @@ pub fn put_renamed<R>(
 ) -> Result<Status, SessionFault>
 where
     R: Converses + Logins + LocalFiles + Input + Print + Eprint,
+    // Witness: `edits/a_file_keeps_its_other_name`.
+    ensures { IfOk result (λ status. status ≡ Status.Done → IsAnswered (R.hears rt.now 1) (renaming asked.now.place.path.now)) }
 {
     let path = asked.place.path;
     let other = at(Phase::Asking, other_name(alloc, path))?;
@@ -134,9 +137,9 @@ pub fn load<'a, R: LocalFiles + Input>(
 /// A file that is read as it goes.
 fn streamed<'a>(file: &'a str, opened: OpenSource, limit: u64) -> Result<Loaded<'a>, UploadTooLarge>
     // Witness of fits: `edits/a_file_past_the_limit_is_sent`.
-    ensures fits { IfOk result (λ loaded. IfSome loaded.seen (λ seen. seen.total ≤ limit)) }
+    ensures fits { IfOk result (λ loaded. IfSome loaded.seen (λ seen. (seen.total ≡ opened.total) × (seen.total ≤ limit))) }
     // Witness of large: `edits/a_file_as_large_as_the_limit_is_not_sent`.
-    ensures large { IfErr result (λ large. limit < large.size) }
+    ensures large { IfErr result (λ large. (large.size ≡ opened.total) × (limit < large.size)) }
     ensures limit { IfErr result (λ large. large.limit ≡ limit) }
 {
     let size = opened.total;
