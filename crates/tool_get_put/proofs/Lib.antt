@@ -1,1 +1,3 @@
+mod ChoosingLemmas
+pub mod FetchingLemmas
 mod HeardLemmas

@@ -55,12 +55,12 @@ Reported IsStatus orders old new heard result =
     × IfOk result (λ status. (requests_in heard ≡ map request_of orders) × Appends old new (flat_map report (replies_in heard))
     × IsStatus (replies_in heard) status)
 
--- so over a control connection; or there was none, and then there is no status and nothing is written
+-- so over a control connection; or there is no status, and nothing is written
 abbrev pub DoesOrders : {E : Type 0} → (List SessionExchange → Type 0) → List (Order (List ℕ)) → (old new : Option (List ℕ)) → Result Status E → Type 0
 DoesOrders hears orders old new result =
     ((heard : List SessionExchange) × hears heard × Reported IsWorstOrFailed orders old new heard result) ⊎ ((new ≡ old) × IsErr result)
 
--- the orders of what was read are done so; where that is no script, nothing is asked or written, and the status can only be that of bad words
+-- the orders of what was read are done so; where that is no script, nothing is written, and the status can only be that of bad words
 abbrev pub DoesRead : {E : Type 0} → (List SessionExchange → Type 0) → Result (Script Global) NoScript → (old new : Option (List ℕ)) → Result Status E → Type 0
 DoesRead hears (Ok script) old new result = DoesOrders hears script.orders.items old new result
 DoesRead hears (Err fault) old new result = (new ≡ old) × IfOk result (λ status. status ≡ BadWords)

@@ -239,8 +239,8 @@ impl<'a, R: Print + Eprint> WaitingJobs<Removed<'a, R>> for Removals<'a, R> {
             return Ok(None);
         };
         self.pairs = rest;
-        let asked = self.asked.at(first.path.as_str());
-        Ok(Some(Removed::new(self.rt, self.alloc, asked)))
+        let path = String::from_str(self.alloc, first.path.as_str())?;
+        Ok(Some(Removed::new(self.rt, self.alloc, self.asked, path)))
     }
 }
 

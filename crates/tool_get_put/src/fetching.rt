@@ -1,22 +1,22 @@
 // What the subcommands that ask at one place do.
-use crate::listing::{ListingFormat, ListingLines, listing_of};
-use crate::matching::get_matching;
-use ftp_operation::Answer;
-use ftp_reply::code::{NOT_IMPLEMENTED, UNKNOWN};
+ghost use Rattle.std.specs.Prelude.{◌≡◌, IfOk};
+ghost use Rattle.tool_session.specs.Fault.{stop_status};
+ghost use Rattle.tool_get_put.specs.Fetching.{DoesTask};
+
+use crate::listing::ListingFormat;
+use crate::matching::{get_matching, remove_matching};
+use crate::showing::{list, list_matching};
 use std::alloc::Global;
 use std::env::Env;
 use std::fs::{File, Files};
 use std::io;
-use std::io::{Eprint, Print, Write};
+use std::io::{Eprint, Print};
 use std::net::{Net, TcpListener, TcpStream};
 use std::time::Clock;
 use tool_connect::{Converses, Logins};
 use tool_files::LocalFiles;
-use tool_job::{
-    DownloadJob, Getting, Simple, Target, Wish, ask_for, do_simple, get, make_all, put, put_renamed,
-};
-use tool_resume::tell;
-use tool_session::{LastReply, Phase, SessionFault, at, say};
+use tool_job::{DownloadJob, Getting, Simple, Target, do_simple, get, make_all, put, put_renamed};
+use tool_session::{LastReply, SessionFault};
 use tool_terminal::Status;
 
 /// What is to be done at a place.
@@ -30,8 +30,12 @@ pub enum PlaceTask<'a> {
     Put(&'a str),
     /// The same under another name, until the server has all of it.
     PutRenamed(&'a str),
-    /// The entries of the directory go to standard output, or its names where the server has no machine listing.
+    /// The entries of the directory go to standard output: by MLSD, where the server does not know that by LIST, and else its names by NLST.
     List(ListingFormat),
+    /// The same of what has a name of the pattern that the path ends in.
+    ListMatching(ListingFormat),
+    /// The files of the directory whose names are of the pattern that the path ends in are removed, each asked once.
+    RemoveMatching,
     /// What needs no data connection.
     Simple(Simple<'a>),
     /// The directory is made, and those above it; one that stands is as well.
@@ -55,13 +59,34 @@ where
 }
 
 /// The same, of whoever can ask a server and has files.
+#[tactic(auto, using(crate::proofs::FetchingLemmas::stopped))]
 fn fetched<R>(rt: &R, alloc: Global, asked: &Target<'_>, task: PlaceTask<'_>) -> io::Result<Status>
 where
     R: Converses + Logins + LocalFiles + Input + Print + Eprint,
+    // Witness: `edits/a_stop_is_done`, and those of `done_at`.
+    ensures { DoesTask (R.hears rt.now 1) task.entry asked.now.place.path.now asked.now.how result }
+{
+    match done_at(rt, alloc, asked, task) {
+        Ok(status) => Ok(status),
+        Err(stop) => tell_stop(rt, stop, asked, file_of(task)),
+    }
+}
+
+/// Does a task; what is asked at one place goes over one control connection.
+fn done_at<R>(
+    rt: &R,
+    alloc: Global,
+    asked: &Target<'_>,
+    task: PlaceTask<'_>,
+) -> Result<Status, SessionFault>
+where
+    R: Converses + Logins + LocalFiles + Input + Print + Eprint,
+    // Witness: `edits/a_change_is_left_out`; for what is asked, those of `do_simple` in `tool_job`.
+    ensures { DoesTask (R.hears rt.now 1) task.entry asked.now.place.path.now asked.now.how result }
 {
     let mut last_reply = LastReply::new();
-    let on = &single_channel(asked);
-    let done = match task {
+    let on = &over_one(asked);
+    match task {
         PlaceTask::Get(download) => get(rt, alloc, on, download, &mut last_reply),
         PlaceTask::GetMatching(download) => get_matching(
             rt,
@@ -78,12 +103,10 @@ where
         PlaceTask::Put(file) => put(rt, alloc, on, file, &mut last_reply),
         PlaceTask::PutRenamed(file) => put_renamed(rt, alloc, on, file, &mut last_reply),
         PlaceTask::List(lines) => list(rt, alloc, on, lines, &mut last_reply),
-        PlaceTask::Simple(simple) => do_simple(rt, alloc, on, simple, &mut last_reply),
-        PlaceTask::MakeDirectories => make_all(rt, alloc, on, &mut last_reply),
-    };
-    match done {
-        Ok(status) => Ok(status),
-        Err(stop) => tell_stop(rt, stop, asked, file_of(task)),
+        PlaceTask::ListMatching(lines) => list_matching(rt, alloc, on, lines, &mut last_reply),
+        PlaceTask::RemoveMatching => remove_matching(rt, alloc, *asked, &mut last_reply),
+        PlaceTask::Simple(simple) => do_simple(rt, alloc, asked, simple, &mut last_reply),
+        PlaceTask::MakeDirectories => make_all(rt, alloc, asked, &mut last_reply),
     }
 }
 
@@ -93,12 +116,17 @@ fn tell_stop<'a, R: Eprint>(
     stop: SessionFault,
     asked: &'a Target<'a>,
     file: &'a str,
-) -> io::Result<Status> {
+) -> io::Result<Status>
+    // Witness: an equation of `tool_session`; `fetched` needs it.
+    ensures { IfOk result (λ status. status ≡ stop_status stop.stage) }
+{
     stop.tell(rt, asked.subject(file))
 }
 
-/// The same, asked over one control connection.
-fn single_channel<'a>(asked: &Target<'a>) -> Target<'a> {
+/// A target, asked over one control connection.
+fn over_one<'a>(asked: &Target<'a>) -> Target<'a>
+    ensures { result.place.path.now ≡ asked.now.place.path.now }
+{
     Target {
         at_once: 1,
         ..*asked
@@ -110,96 +138,7 @@ fn file_of(task: PlaceTask<'_>) -> &str {
     match task {
         PlaceTask::Get(download) | PlaceTask::GetMatching(download) => download.file,
         PlaceTask::Put(file) | PlaceTask::PutRenamed(file) => file,
-        PlaceTask::List(_) | PlaceTask::Simple(_) | PlaceTask::MakeDirectories => "-",
+        PlaceTask::List(_) | PlaceTask::ListMatching(_) | PlaceTask::RemoveMatching => "-",
+        PlaceTask::Simple(_) | PlaceTask::MakeDirectories => "-",
     }
-}
-
-/// Lists a directory on standard output.
-fn list<R>(
-    rt: &R,
-    alloc: Global,
-    asked: &Target<'_>,
-    lines: ListingFormat,
-    last_reply: &mut LastReply,
-) -> Result<Status, SessionFault>
-where
-    R: Converses + Logins + Print + Eprint,
-{
-    let answer = listed(rt, alloc, asked, last_reply)?;
-    at(
-        Phase::Report,
-        show(rt, alloc, asked, lines, &answer, last_reply),
-    )
-}
-
-/// The entries of a directory, or its names where MLSD is not known there (RFC 959, section 4.2.2).
-fn listed<R>(
-    rt: &R,
-    alloc: Global,
-    asked: &Target<'_>,
-    last_reply: &mut LastReply,
-) -> Result<Answer<Global>, SessionFault>
-where
-    R: Converses + Logins + Eprint,
-{
-    let listed = ask_for(rt, alloc, asked, Wish::Entries, last_reply);
-    if !is_unknown(&listed) {
-        return listed;
-    }
-    drop(listed);
-    ask_for(rt, alloc, asked, Wish::Names, last_reply)
-}
-
-/// Whether the server does not know what was asked.
-fn is_unknown(answered: &Result<Answer<Global>, SessionFault>) -> bool {
-    match answered {
-        Ok(answer) => says_unknown(answer),
-        Err(_) => false,
-    }
-}
-
-/// Whether an answer says so.
-pub(crate) fn says_unknown(answer: &Answer<Global>) -> bool {
-    matches!(answer, Answer::Refused(UNKNOWN | NOT_IMPLEMENTED))
-}
-
-/// Writes a listing to standard output, or tells why there is none.
-fn show<R>(
-    rt: &R,
-    alloc: Global,
-    asked: &Target<'_>,
-    lines: ListingFormat,
-    answer: &Answer<Global>,
-    last_reply: &LastReply,
-) -> io::Result<Status>
-where
-    R: Print + Eprint,
-{
-    let path = asked.place.path;
-    match listing_of(alloc, path, lines, asked.openings.list_verb(), answer)? {
-        Some(listing) => write(rt, listing),
-        None => tell(rt, path, asked.stranger(), answer, last_reply),
-    }
-}
-
-/// Writes a listing to standard output, and tells how much of it is left out.
-fn write<R: Print + Eprint>(rt: &R, listing: ListingLines) -> io::Result<Status> {
-    io::writer(rt).write_all(listing.lines.as_slice())?;
-    if listing.left_out > 0 {
-        let _told = say(
-            rt,
-            "note: names that are none of a single file are left out: ",
-            &listing.left_out,
-            "",
-        );
-    }
-    if listing.odd > 0 {
-        let _told = say(
-            rt,
-            "note: lines of the listing are no entries, and are shown as they came: ",
-            &listing.odd,
-            "",
-        );
-    }
-    Ok(Status::Done)
 }

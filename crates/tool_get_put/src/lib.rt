@@ -6,7 +6,9 @@ mod each;
 mod fetching;
 mod listing;
 mod matching;
+mod pattern_place;
 mod running;
+mod showing;
 
 pub use each::{Each, FilePair, fetch_each};
 pub use fetching::{PlaceTask, fetch};

@@ -109,7 +109,7 @@ where
     }
 }
 
-/// The same for a user, whatever login the script says.
+/// The same for a user. The reader gives a line of a login before the script; it is not used, and the number of a bad line that is told leaves it out.
 pub fn run_script_as<R, I, W>(
     rt: &R,
     alloc: Global,
