@@ -1,1 +1,4 @@
+pub mod Json
 pub mod Lost
+pub mod Rows
+pub mod Xferlog

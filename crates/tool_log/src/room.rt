@@ -35,6 +35,12 @@ impl LogLineBuffer {
         octets
     }
 
+    /// At most so many octets at its front.
+    pub(crate) fn front(&self, most: usize) -> &[u8] {
+        let (front, _) = self.octets.split_at(self.count.min(most));
+        front
+    }
+
     /// Takes in what there is room for.
     pub(crate) fn put(&mut self, octets: &[u8]) {
         for octet in octets.iter() {

@@ -1,3 +1,4 @@
+pub mod Begun
 pub mod Listening
 pub mod Manner
 pub mod Served

@@ -3,7 +3,7 @@ ghost use Rattle.std.specs.Global.{Global};
 ghost use Rattle.std.specs.Prelude.{None};
 ghost use Rattle.ftp_ports.specs.Asking.{Closes};
 
-use crate::log_line::{DataClose, Tells};
+use crate::log_line::Tells;
 use crate::session_log::SessionLog;
 use ftp_endpoint::Endpoint;
 use ftp_ports::{Accepted, Awaited, Beside, For, Ports, Ready, Spoken, Whole};
@@ -11,6 +11,7 @@ use std::alloc::Global;
 use std::io;
 use std::io::{ErrorKind, Write};
 use std::rc::Rc;
+use tool_log::DataClose;
 use tool_polling::{LineLink, LinePorts, LineWriter};
 use tool_sockets::Sockets;
 

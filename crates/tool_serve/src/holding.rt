@@ -1,10 +1,10 @@
 // The folder is one server's: a lock of the system on its directory, which is held while the server lives.
-use crate::named::Placed;
 use os::FromRawFd;
 use std::fmt;
 use std::fmt::{Display, Formatter};
 use std::io::Error;
 use std::os::fd::{AsRawFd, OwnedFd};
+use tool_log::Placed;
 
 /// How the lock of a folder was had.
 #[derive(Drop)]

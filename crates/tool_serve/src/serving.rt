@@ -11,10 +11,10 @@ use crate::session_in_slot::Service;
 use crate::session_log::Log;
 use crate::session_start::Seating;
 use crate::sessions::SessionCount;
-use crate::starting::{Unserved, dir_text, is_folder, opened, tell_roots};
+use crate::starting::{RefusedFolder, dir_text, is_folder, opened, tell_roots};
 use crate::stop_file::stop_request;
 use ftp_disk_host::{Host, SystemHost};
-use ftp_disk_tree::{LoadFault, Odd, Others, Parks, Prepares};
+use ftp_disk_tree::{LoadFault, Others, Parks, Prepares, Unserved};
 use ftp_operation::Rights;
 use ftp_tree::Limits;
 use std::alloc::{AllocError, Global};
@@ -26,7 +26,7 @@ use std::net::{IpAddr, Net, SocketAddr, TcpListener, TcpStream};
 use std::time::Clock;
 use std::{fs, io};
 use tool_accounts::Reach;
-use tool_log::LogLines;
+use tool_log::{LogFormat, LogLines};
 use tool_login_limit::LoginLimiter;
 use tool_polling::{PassivePorts, TimeLimits as Waits};
 use tool_scheduler::{Input, SessionLimits, StopRequest, is_input_open, serve_rounds};
@@ -55,6 +55,8 @@ pub struct Serving<'a> {
     /// The file of accounts, which is read anew for each session; none: `guest` and `anonymous`, and an address of the loopback alone.
     pub accounts: Option<&'a str>,
     pub log: Log,
+    /// How its lines are written.
+    pub log_format: LogFormat,
     /// How long clients are waited for.
     pub waits: Waits,
     /// The first and the last port of passive data connections.
@@ -66,7 +68,7 @@ pub struct Serving<'a> {
     /// Whether anybody else changes the folder while it is served.
     pub others: Others,
     /// What is done at the start with what of the folder can't be served.
-    pub odd: Odd,
+    pub unserved: Unserved,
 }
 
 impl<'a> Serving<'a> {
@@ -237,7 +239,7 @@ where
         + AllocGlobal,
     H: Host,
 {
-    let lines = LogLines::new();
+    let lines = LogLines::new(rt.alloc(), job.log_format);
     let roots = reach.roots.as_slice();
     match opened(rt, host, job, roots, &lines) {
         Ok(tree) => {
@@ -254,8 +256,8 @@ fn refuse_folder<R: Files + Eprint>(
     job: &Serving<'_>,
     fault: &LoadFault,
 ) -> io::Result<Status> {
-    let status = refuse(rt, "", &Unserved::of(job, fault))?;
-    if job.odd == Odd::Refuse && is_folder(rt, job.dir) {
+    let status = refuse(rt, "", &RefusedFolder::of(job, fault))?;
+    if job.unserved == Unserved::Refuse && is_folder(rt, job.dir) {
         eprintln!(rt;
             "note: with --skip what can't be served is left out; with --any there are no limits either"
         )?;

@@ -1,6 +1,6 @@
 // What is told of a session on standard error, and how slow it is after refused logins: a function of what its server tells of each call.
 use crate::goodbye::{guessed_from, last_reply};
-use crate::log_line::{DataClose, LineOutcome, LogEntry, NotTaken, SessionNote, Tells};
+use crate::log_line::{NotTaken, Tells};
 use crate::logged_command::LoggedCommand;
 use crate::refused_logins::{AnswerPace, LoginHistory, password_awaited};
 use crate::session_in_slot::Service;
@@ -15,6 +15,7 @@ use std::cell::Cell;
 use std::io;
 use std::net::SocketAddr;
 use std::rc::Rc;
+use tool_log::{DataClose, LineOutcome, LogEntry, SessionNote};
 use tool_polling::{ControlLine, TimeoutReason};
 use tool_sockets::monotonic_millis;
 
@@ -129,7 +130,7 @@ impl<'a, R: Tells> SessionLog<'a, R> {
         if self.service.log == Log::Told {
             let peer = self.peer;
             self.rt
-                .tell(self.service.lines, &SessionNote { peer, what });
+                .tell_session(self.service.lines, &SessionNote { peer, what });
         }
     }
 
@@ -230,7 +231,7 @@ impl<'a, R: Tells> SessionLog<'a, R> {
 
     /// What a line says that was acted on. The user who is named is kept.
     fn asked(&self, answered: &Answered<'_>) -> LoggedCommand {
-        let asked = LoggedCommand::of(answered, self.named.get());
+        let asked = LoggedCommand::of(answered, self.named.get(), monotonic_millis());
         if asked.verb == Some(Verb::User) {
             self.named.set(asked.names);
         }
@@ -414,13 +415,14 @@ impl<'a, R: Tells> SessionLog<'a, R> {
             verb: closed.asked.verb,
             names: closed.asked.names.octets(),
             moved: self.line.take_transferred(),
+            took: closed.asked.took(monotonic_millis()),
             outcome: LineOutcome {
                 code: closed.code,
                 fate: self.fate.replace(DataClose::Ended),
                 why: closed.why,
             },
         };
-        self.rt.tell(self.service.lines, &entry);
+        self.rt.tell_command(self.service.lines, &entry);
     }
 }
 

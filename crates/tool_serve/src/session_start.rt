@@ -9,7 +9,7 @@ use crate::accounts::accounts_told;
 use crate::begins::Begins;
 use crate::connections::{LoggedPorts, SaidWriter};
 use crate::goodbye::{guessed_from, no_slot};
-use crate::log_line::{NoClient, SessionNote, Tells};
+use crate::log_line::{NoClient, Tells};
 use crate::serving::Serving;
 use crate::session_in_slot::{Connected, Guest, ServerSession, Service, SessionHosts};
 use crate::session_log::{Log, SessionLog};
@@ -26,6 +26,7 @@ use std::marker::PhantomData;
 use std::net::{IpAddr, SocketAddr, TcpStream};
 use std::rc::Rc;
 use std::time::Clock;
+use tool_log::SessionNote;
 use tool_polling::{ControlLine, LinePorts, LineReader, LineWriter, TimeLimits};
 use tool_scheduler::{Full, Slot, Slots, StopRequest};
 use tool_sockets::{Sockets, host_of};
@@ -118,7 +119,7 @@ where
                 Full::Host => "is turned away: its address has as many sessions as it may",
             };
             self.rt
-                .tell(self.service.lines, &SessionNote { peer, what });
+                .tell_session(self.service.lines, &SessionNote { peer, what });
         }
         let line = ControlLine::new(stream, self.waits).ok()?;
         line.say_last(no_slot(why));

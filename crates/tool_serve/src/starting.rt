@@ -1,9 +1,8 @@
 // How the folder is opened, and what is told of it and of the accounts before anybody is served.
 use crate::log_line::ServerNotice;
-use crate::named::{Placed, QuotedName};
 use crate::serving::Serving;
 use ftp_disk_host::Host;
-use ftp_disk_tree::{DiskTree, LeftOut, LoadFault, Odd, Reason, Unknown, open};
+use ftp_disk_tree::{DiskTree, LeftOut, LoadFault, Reason, Unknown, Unserved, open};
 use ftp_path::{Path, TEXT_LIMIT};
 use ftp_tree::{Limits, NodeKind, Tree, TreeFault};
 use std::alloc::Global;
@@ -11,7 +10,7 @@ use std::fmt::{Display, Formatter};
 use std::fs::Files;
 use std::time::Clock;
 use std::{fmt, fs};
-use tool_log::LogLines;
+use tool_log::{LogLines, Placed, QuotedName};
 
 /// The tree of the folder that a host has. Where what can't be served is left out, that is told.
 pub(crate) fn opened<'a, R, H>(
@@ -25,12 +24,12 @@ where
     R: Files + Clock,
     H: Host,
 {
-    let odd = if is_folder(rt, job.dir) {
-        job.odd
+    let unserved = if is_folder(rt, job.dir) {
+        job.unserved
     } else {
-        Odd::Refuse
+        Unserved::Refuse
     };
-    let (tree, left) = open(host, roots, job.limits, odd, job.others)?;
+    let (tree, left) = open(host, roots, job.limits, unserved, job.others)?;
     tell_left(rt, job, &left, lines);
     Ok(tree)
 }
@@ -49,7 +48,7 @@ pub(crate) fn is_folder<R: Files>(rt: &R, dir: &str) -> bool {
 fn tell_left<R: Clock>(rt: &R, job: &Serving<'_>, left: &LeftOut, lines: &LogLines) {
     if let Some(first) = &left.first {
         let count = left.count;
-        let first = Unserved::of(job, first);
+        let first = RefusedFolder::of(job, first);
         lines.tell(rt, &NotServed { count, first });
     }
 }
@@ -81,16 +80,16 @@ pub(crate) fn tell_roots<R: Clock + AllocGlobal, T: Tree<Global>>(
 
 /// Why something can't be served: its place, and the reason; a limit with its number.
 #[derive(Clone, Copy)]
-pub(crate) struct Unserved<'a> {
+pub(crate) struct RefusedFolder<'a> {
     dir: &'a str,
     limits: Limits,
     fault: &'a LoadFault,
 }
 
-impl<'a> Unserved<'a> {
+impl<'a> RefusedFolder<'a> {
     /// Why something of a folder that is to be served can't be.
-    pub(crate) fn of(job: &Serving<'a>, fault: &'a LoadFault) -> Unserved<'a> {
-        Unserved {
+    pub(crate) fn of(job: &Serving<'a>, fault: &'a LoadFault) -> RefusedFolder<'a> {
+        RefusedFolder {
             dir: dir_text(job.dir),
             limits: job.limits,
             fault,
@@ -98,7 +97,7 @@ impl<'a> Unserved<'a> {
     }
 }
 
-impl<'a> Display for Unserved<'a> {
+impl<'a> Display for RefusedFolder<'a> {
     fn fmt<W: fmt::Write>(&self, formatter: &mut Formatter<W>) -> fmt::Result {
         let LoadFault::Refused { place, why } = self.fault else {
             return write!(formatter, "{}", self.fault);
@@ -144,7 +143,7 @@ impl Display for Most {
 #[derive(Clone, Copy)]
 struct NotServed<'a> {
     count: u64,
-    first: Unserved<'a>,
+    first: RefusedFolder<'a>,
 }
 
 impl<'a> Display for NotServed<'a> {

@@ -5,7 +5,7 @@ use tool_terminal::Shown;
 
 /// A text of a client, or a name of the folder, in quotation marks and as it is shown; a quotation mark of its own is `\x22`, so that it ends nothing.
 #[derive(Clone, Copy)]
-pub(crate) struct QuotedName<'a>(pub(crate) &'a [u8]);
+pub struct QuotedName<'a>(pub &'a [u8]);
 
 impl<'a> Display for QuotedName<'a> {
     fn fmt<W: fmt::Write>(&self, formatter: &mut Formatter<W>) -> fmt::Result {
@@ -17,9 +17,9 @@ impl<'a> Display for QuotedName<'a> {
 
 /// A place below a folder, with that before it, in the same way.
 #[derive(Clone, Copy)]
-pub(crate) struct Placed<'a> {
-    pub(crate) dir: &'a str,
-    pub(crate) below: &'a [u8],
+pub struct Placed<'a> {
+    pub dir: &'a str,
+    pub below: &'a [u8],
 }
 
 impl<'a> Display for Placed<'a> {
