@@ -1,4 +1,4 @@
 -- When the names beside a path are listed.
-pub mod Beside
+pub mod Parent
 -- How what stands on a disk differs from what a tree has.
 pub mod Finding

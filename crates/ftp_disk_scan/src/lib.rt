@@ -6,7 +6,7 @@ pub mod loading;
 pub mod rescan;
 
 pub use loading::{
-    Compared, Dirs, Findings, Held, LeftOut, LoadFault, Loaded, Odd, Reason, Unknown, Version,
-    above, below_of, load, take_up,
+    Compared, Dirs, Findings, Held, LeftOut, LoadFault, Loaded, Reason, Unknown, Unserved, Version,
+    below_of, load, parent_of, take_up,
 };
 pub use rescan::look_at;

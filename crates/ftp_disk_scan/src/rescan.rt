@@ -1,10 +1,10 @@
-// What others changed of a folder: what stands on the disk, held against what the nodes of a tree have there. It is found alone; nothing of the tree is
+// What others changed of a folder: what stands on the disk, compared with what the nodes of a tree have there. It is found alone; nothing of the tree is
 // changed, and no octet of a file is read.
 
-mod beside;
 mod finding;
-mod way;
-mod within;
+mod in_directory;
+mod looking;
+mod parent;
 
 pub(crate) use finding::Finding;
-pub use way::look_at;
+pub use looking::look_at;

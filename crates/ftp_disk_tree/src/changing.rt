@@ -7,7 +7,7 @@ use crate::names::{delete_noted, make_noted, remove_noted, rename_noted, rename_
 use crate::putting::Old;
 use crate::record::Record;
 use ftp_disk_host::{Host, Look};
-use ftp_disk_scan::{Dirs, above, below_of};
+use ftp_disk_scan::{Dirs, below_of, parent_of};
 use ftp_path::Path;
 use std::alloc::Allocator;
 use std::io;
@@ -50,7 +50,7 @@ pub(crate) fn make_at<H: Host, B: Allocator + Copy, C: Allocator + Copy>(
 {
     let below = below_of(host.memory(), root, path)?;
     make_noted(host, names, below.as_str())?;
-    dirs.changed(above(below.as_str()).as_bytes());
+    dirs.changed(parent_of(below.as_str()).as_bytes());
     Ok(())
 }
 
@@ -68,7 +68,7 @@ pub(crate) fn remove_at<H: Host, B: Allocator + Copy, C: Allocator + Copy>(
     let below = below_of(host.memory(), root, path)?;
     remove_noted(host, names, below.as_str())?;
     dirs.forget_one(below.as_bytes());
-    dirs.changed(above(below.as_str()).as_bytes());
+    dirs.changed(parent_of(below.as_str()).as_bytes());
     Ok(())
 }
 
@@ -85,7 +85,7 @@ pub(crate) fn delete_at<H: Host, B: Allocator + Copy, C: Allocator + Copy>(
 {
     let below = below_of(host.memory(), root, path)?;
     delete_noted(host, names, below.as_str())?;
-    dirs.changed(above(below.as_str()).as_bytes());
+    dirs.changed(parent_of(below.as_str()).as_bytes());
     Ok(())
 }
 
@@ -135,6 +135,6 @@ pub(crate) fn rename_onto_at<
 
 /// A name was changed in each of the directories that two places are in.
 fn both_changed(dirs: &mut Dirs, old: &str, new: &str) {
-    dirs.changed(above(old).as_bytes());
-    dirs.changed(above(new).as_bytes());
+    dirs.changed(parent_of(old).as_bytes());
+    dirs.changed(parent_of(new).as_bytes());
 }

@@ -19,7 +19,7 @@ mod thing;
 
 pub use disk::{DiskTree, Explains, Others};
 pub use draft::DiskDraft;
-pub use ftp_disk_scan::{Held, LeftOut, LoadFault, Odd, Reason, Unknown, Version};
+pub use ftp_disk_scan::{Held, LeftOut, LoadFault, Reason, Unknown, Unserved, Version};
 pub use opened::DiskOpen;
 pub use opening::open;
 pub use parked::Parks;

@@ -4,7 +4,7 @@ ghost use Rattle.ftp_tree.specs.Change.{never_strayed};
 
 use crate::disk::{DiskTree, Others};
 use ftp_disk_host::Host;
-use ftp_disk_scan::{Held, LeftOut, LoadFault, Loaded, Odd, load};
+use ftp_disk_scan::{Held, LeftOut, LoadFault, Loaded, Unserved, load};
 use ftp_path::Path;
 use ftp_tree::Limits;
 use std::alloc::Global;
@@ -15,7 +15,7 @@ pub fn open<'a, H: Host, K: Held>(
     host: &'a H,
     roots: &[Path<Global>],
     limits: Limits,
-    odd: Odd,
+    unserved: Unserved,
     others: Others,
 ) -> Result<(DiskTree<'a, H, K>, LeftOut), LoadFault>
     ensures limits { IfOk result (λ opened. opened.0.nodes.limits ≡ limits) }
@@ -26,6 +26,6 @@ pub fn open<'a, H: Host, K: Held>(
         dirs,
         version,
         left_out,
-    } = load(host, roots, limits, odd)?;
+    } = load(host, roots, limits, unserved)?;
     Ok((DiskTree::over(host, nodes, dirs, others, version), left_out))
 }

@@ -12,7 +12,7 @@ use crate::answer::{Front, Putting};
 use crate::disk::DiskTree;
 use crate::draft::DiskDraft;
 use ftp_disk_host::{Host, Look};
-use ftp_disk_scan::{Held, Version, above, below_of};
+use ftp_disk_scan::{Held, Version, below_of, parent_of};
 use ftp_facts::Moment;
 use ftp_path::Path;
 use ftp_tree::{Broken, TreeFault};
@@ -139,7 +139,7 @@ impl<'a, H: Host, K: Held> DiskTree<'a, H, K> {
         let look = self
             .device
             .put(below.as_str(), over, draft, putting, moment)?;
-        self.dirs.changed(above(below.as_str()).as_bytes());
+        self.dirs.changed(parent_of(below.as_str()).as_bytes());
         Ok(look)
     }
 }

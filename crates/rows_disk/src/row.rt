@@ -1,7 +1,7 @@
 // A row: what others do, what goes wrong, and operations, line by line, on one tree over one folder.
 use crate::hand::{do_so, show_error, text_of};
 use crate::memory_host::{HostTrouble, MemoryHost};
-use ftp_disk_tree::{DiskTree, Explains, LeftOut, LoadFault, Odd, Others, Unknown, open};
+use ftp_disk_tree::{DiskTree, Explains, LeftOut, LoadFault, Others, Unknown, Unserved, open};
 use ftp_path::Path;
 use ftp_tree::{Limits, Tree};
 use rows_base::{Paper, cut, number, octets_of, row_in_front, said, split};
@@ -103,10 +103,10 @@ fn started<'a>(
     how: &[u8],
     paper: &mut Paper,
 ) -> Option<DiskTree<'a, MemoryHost, Unknown>> {
-    let odd = if how == b"skip".as_slice() {
-        Odd::LeaveOut
+    let unserved = if how == b"skip".as_slice() {
+        Unserved::LeaveOut
     } else {
-        Odd::Refuse
+        Unserved::Refuse
     };
     let others = if how == b"keep".as_slice() {
         Others::Keep
@@ -114,7 +114,7 @@ fn started<'a>(
         Others::Change
     };
     let roots: Vec<Path<Global>, Global> = Vec::new(alloc);
-    match open(host, roots.as_slice(), limits_of(how), odd, others) {
+    match open(host, roots.as_slice(), limits_of(how), unserved, others) {
         Ok((tree, left)) => {
             show_left(alloc, &left, paper);
             Some(tree)

@@ -1,12 +1,17 @@
 -- How what stands on a disk differs from what a tree has (own choice).
-use Rattle.std.specs.Prelude.{Bool, true, false}
 use Rattle.ftp_disk_scan.specs.declared.rescan.finding.Finding.{Finding}
-use Rattle.ftp_disk_scan.specs.declared.rescan.finding.Finding.TheVariants.{Nothing, SameFile, SameDir, Odd}
+use Rattle.ftp_disk_scan.specs.declared.rescan.finding.Finding.TheVariants as Findings
+use Rattle.ftp_disk_scan.specs.loading.Difference.{Difference, Same, Gone, Replaced, NotLonger, More}
 
--- whether it does: what can't be served, where the tree has nothing, is none
-unfoldable pub is_change : Finding → Bool
-is_change Nothing = false
-is_change SameFile = false
-is_change (SameDir look) = false
-is_change Odd = false
-is_change other = true
+-- the difference that a finding tells of; what can't be served, where the tree has nothing, is none
+unfoldable pub difference_in : Finding → Difference
+difference_in Findings.Nothing = Same
+difference_in Findings.SameFile = Same
+difference_in (Findings.SameDir look) = Same
+difference_in Findings.Other = Same
+difference_in Findings.Gone = Gone
+difference_in Findings.TurnedOther = Gone
+difference_in (Findings.Replaced thing) = Replaced
+difference_in (Findings.NotLonger look) = NotLonger
+difference_in (Findings.Longer look) = More
+difference_in (Findings.New thing) = More

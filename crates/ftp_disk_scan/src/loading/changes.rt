@@ -1,11 +1,12 @@
 // What others changed on a disk, as a look found it and as it is taken up.
-ghost use Rattle.std.specs.Prelude.{◌≡◌, ◌∷◌, [], true, false, OnErr, OnOk, length};
-ghost use Rattle.ftp_disk_scan.specs.loading.Compared.{agrees, all_agree, are_none, pair_of};
+ghost use Rattle.std.specs.Prelude.{◌≡◌, ◌∷◌, ◌++◌, [], true, OnOk, length, map, string_bytes};
+ghost use Rattle.ftp_disk_scan.specs.loading.Compared.{all_agree, are_none, pair_of};
+ghost use Rattle.ftp_disk_scan.specs.loading.Difference.{More, NotLonger, Replaced, Same, difference_of, is_away};
 
 use crate::loading::compared::Compared;
 use crate::loading::dirs::Seen;
 use crate::loading::fault::Reason;
-use crate::loading::had::Had;
+use crate::loading::tree_entry::TreeEntry;
 use ftp_disk_host::{Found, Look};
 use std::alloc::{AllocError, Global};
 
@@ -35,12 +36,12 @@ pub struct Changes {
     /// What the tree has and the disk has not, or not of this kind.
     pub(crate) gone: Vec<String<Global>, Global>,
     /// Files that have no more octets than before.
-    pub(crate) shorter: Vec<Stands, Global>,
+    pub(crate) not_longer: Vec<Stands, Global>,
     /// Longer files, and what the tree has not.
     pub(crate) more: Vec<Stands, Global>,
-    /// All that was held against the tree.
+    /// All that was compared with the tree.
     pub(crate) compared: Compared,
-    ghost told: { all_agree compared.pairs ≡ are_none (length gone.items) (length shorter.items) (length more.items) },
+    ghost told: { all_agree compared.pairs ≡ are_none (length gone.items) (length not_longer.items) (length more.items) },
 }
 
 /// By hand, as that of a tree.
@@ -48,7 +49,7 @@ impl Drop for Changes {
     fn drop(self) {
         let Self {
             gone: _,
-            shorter: _,
+            not_longer: _,
             more: _,
             compared: _,
         } = self;
@@ -62,7 +63,7 @@ impl Changes {
     {
         Changes {
             gone: Vec::new(alloc),
-            shorter: Vec::new(alloc),
+            not_longer: Vec::new(alloc),
             more: Vec::new(alloc),
             compared: Compared::none(),
         }
@@ -73,52 +74,52 @@ impl Changes {
         // Witness: `edits/a_longer_file_is_no_change`, `what_agrees_is_added_as_gone`, `what_is_gone_counts_as_the_same`.
         ensures { result ≡ all_agree self.now.compared.pairs }
     {
-        self.gone.is_empty() && self.shorter.is_empty() && self.more.is_empty()
+        self.gone.is_empty() && self.not_longer.is_empty() && self.more.is_empty()
     }
 
     /// What was found at a place is what the tree has there.
-    pub(crate) fn same(&mut self, found: Found, had: Had)
-        requires { agrees found had ≡ true }
-        ensures { self.new.compared.pairs ≡ pair_of found had ∷ self.old.compared.pairs }
+    pub(crate) fn same(&mut self, found: Found, entry: TreeEntry)
+        requires { difference_of found entry ≡ Same }
+        ensures { self.new.compared.pairs ≡ pair_of found entry ∷ self.old.compared.pairs }
     {
-        self.compared.note(&found, &had);
+        self.compared.note(&found, &entry);
     }
 
-    /// Adds a place at which nothing that the tree has stands any more.
+    /// Adds a place at which what the tree has does not stand any more.
     pub(crate) fn add_gone(
         &mut self,
         alloc: Global,
         place: &str,
         found: Found,
-        had: Had,
+        entry: TreeEntry,
     ) -> Result<(), AllocError>
-        requires { agrees found had ≡ false }
+        requires { is_away (difference_of found entry) ≡ true }
         ensures { OnOk result
-            (self.new.compared.pairs ≡ pair_of found had ∷ self.old.compared.pairs) }
+            (self.new.compared.pairs ≡ pair_of found entry ∷ self.old.compared.pairs) }
     {
         let place = String::from_str(alloc, place)?;
         self.gone.push(place)?;
-        self.compared.note(&found, &had);
+        self.compared.note(&found, &entry);
         Ok(())
     }
 
     /// Adds a file that has no more octets than before.
-    pub(crate) fn add_shorter(
+    pub(crate) fn add_not_longer(
         &mut self,
         alloc: Global,
         place: &str,
         look: Look,
         found: Found,
-        had: Had,
+        entry: TreeEntry,
     ) -> Result<(), AllocError>
-        requires { agrees found had ≡ false }
+        requires { difference_of found entry ≡ NotLonger }
         ensures { OnOk result
-            (self.new.compared.pairs ≡ pair_of found had ∷ self.old.compared.pairs) }
+            (self.new.compared.pairs ≡ pair_of found entry ∷ self.old.compared.pairs) }
     {
         let place = String::from_str(alloc, place)?;
         let thing = Thing::File(look);
-        self.shorter.push(Stands { place, thing })?;
-        self.compared.note(&found, &had);
+        self.not_longer.push(Stands { place, thing })?;
+        self.compared.note(&found, &entry);
         Ok(())
     }
 
@@ -129,35 +130,35 @@ impl Changes {
         place: &str,
         thing: Thing,
         found: Found,
-        had: Had,
+        entry: TreeEntry,
     ) -> Result<(), AllocError>
-        requires { agrees found had ≡ false }
+        requires { difference_of found entry ≡ More }
         ensures { OnOk result
-            (self.new.compared.pairs ≡ pair_of found had ∷ self.old.compared.pairs) }
+            (self.new.compared.pairs ≡ pair_of found entry ∷ self.old.compared.pairs) }
     {
         let place = String::from_str(alloc, place)?;
         self.more.push(Stands { place, thing })?;
-        self.compared.note(&found, &had);
+        self.compared.note(&found, &entry);
         Ok(())
     }
 
     /// Adds what stands where the tree has one of another kind.
-    pub(crate) fn add_other(
+    pub(crate) fn add_replaced(
         &mut self,
         alloc: Global,
         place: &str,
         thing: Thing,
         found: Found,
-        had: Had,
+        entry: TreeEntry,
     ) -> Result<(), AllocError>
-        requires { agrees found had ≡ false }
+        requires { difference_of found entry ≡ Replaced }
         ensures { OnOk result
-            (self.new.compared.pairs ≡ pair_of found had ∷ self.old.compared.pairs) }
+            (self.new.compared.pairs ≡ pair_of found entry ∷ self.old.compared.pairs) }
     {
         let gone = String::from_str(alloc, place)?;
         let place = String::from_str(alloc, place)?;
         self.gone.push(gone)?;
-        self.compared.note(&found, &had);
+        self.compared.note(&found, &entry);
         self.more.push(Stands { place, thing })?;
         Ok(())
     }

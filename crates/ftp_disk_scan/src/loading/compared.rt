@@ -3,7 +3,7 @@ ghost use Rattle.std.specs.Prelude.{◌≡◌, List, [], ◌∷◌};
 ghost use Rattle.std.specs.Borrow.{ftrue};
 ghost use Rattle.ftp_disk_scan.specs.loading.Compared.{Pair, pair_of};
 
-use crate::loading::had::Had;
+use crate::loading::tree_entry::TreeEntry;
 use ftp_disk_host::Found;
 use std::marker::{Model, PhantomData};
 
@@ -28,8 +28,8 @@ impl Compared {
         }
     }
 
-    /// What was found at a place was held against what the tree has there.
-    pub(crate) fn note(&mut self, _found: &Found, _had: &Had)
+    /// What was found at a place was compared with what the tree has there.
+    pub(crate) fn note(&mut self, _found: &Found, _had: &TreeEntry)
         ensures { self.new.pairs ≡ pair_of _found.now _had.now ∷ self.old.pairs }
     {}
 

@@ -89,7 +89,7 @@ impl Seen {
     }
 
     /// Whether its names need not be listed again.
-    fn holds(self, look: Look, sight: Sight) -> bool {
+    fn is_current(self, look: Look, sight: Sight) -> bool {
         let is_enough = match self.taken {
             Taken::Whole => true,
             Taken::Short => sight == Sight::Path,
@@ -160,7 +160,7 @@ impl Dirs {
     /// Whether the names of a directory that looks so need not be listed.
     pub fn has(&self, key: &[u8], look: Look, sight: Sight) -> bool {
         match self.seen.get(key) {
-            Some(seen) => seen.holds(look, sight),
+            Some(seen) => seen.is_current(look, sight),
             None => false,
         }
     }

@@ -15,7 +15,7 @@ const NO_KIND: &str = "neither a file nor a directory";
 
 /// What is done about what can't be served.
 #[derive(Clone, Copy, Debug, PartialEq, Eq)]
-pub enum Odd {
+pub enum Unserved {
     /// The first of it is the fault.
     Refuse,
     /// It is left out, and counted.
@@ -187,7 +187,7 @@ impl LeftOut {
 }
 
 /// What becomes of what can't be served, and what was left out so far.
-pub(crate) enum Odds {
+pub(crate) enum UnservedHandling {
     /// The first of it ends the walk.
     Refuse,
     /// It is left out.
@@ -201,12 +201,12 @@ pub(crate) enum Odds {
 }
 
 /// By hand, as that of a fault.
-impl Drop for Odds {
+impl Drop for UnservedHandling {
     fn drop(self) {
         match self {
-            Odds::Refuse
-            | Odds::LeaveOut(_)
-            | Odds::Asked {
+            UnservedHandling::Refuse
+            | UnservedHandling::LeaveOut(_)
+            | UnservedHandling::Asked {
                 place: _,
                 why: _,
                 left: _,
@@ -215,7 +215,7 @@ impl Drop for Odds {
     }
 }
 
-impl Odds {
+impl UnservedHandling {
     /// What stands at a place can't be served.
     pub(crate) fn meet(
         &mut self,
@@ -224,9 +224,9 @@ impl Odds {
         why: Reason,
     ) -> Result<(), LoadFault> {
         match self {
-            Odds::Refuse => return Err(LoadFault::at(alloc, place, why)),
-            Odds::LeaveOut(left) => left.put(alloc, place, why),
-            Odds::Asked {
+            UnservedHandling::Refuse => return Err(LoadFault::at(alloc, place, why)),
+            UnservedHandling::LeaveOut(left) => left.put(alloc, place, why),
+            UnservedHandling::Asked {
                 place: asked,
                 why: first,
                 left,
@@ -244,27 +244,27 @@ impl Odds {
 
     /// Whether a look is taken up.
     pub(crate) fn is_look(&self) -> bool {
-        matches!(self, Odds::Asked { .. })
+        matches!(self, UnservedHandling::Asked { .. })
     }
 
     /// What was left out; at a look, what passed a limit.
     pub(crate) fn into_left(self) -> LeftOut {
         match self {
-            Odds::LeaveOut(left) => left,
-            Odds::Asked {
+            UnservedHandling::LeaveOut(left) => left,
+            UnservedHandling::Asked {
                 place: _place,
                 why: _,
                 left,
             } => left,
-            Odds::Refuse => LeftOut::nothing(),
+            UnservedHandling::Refuse => LeftOut::nothing(),
         }
     }
 
     /// Why what was asked for can't be served.
     pub(crate) fn why(&self) -> Option<Reason> {
         match self {
-            Odds::Asked { why, .. } => *why,
-            Odds::Refuse | Odds::LeaveOut(_) => None,
+            UnservedHandling::Asked { why, .. } => *why,
+            UnservedHandling::Refuse | UnservedHandling::LeaveOut(_) => None,
         }
     }
 }

@@ -1,9 +1,9 @@
 // What others took away below a root, anywhere there: it counts for limits until it is found.
 use crate::loading::changes::Changes;
+use crate::loading::directory::Directory;
 use crate::loading::fault::LoadFault;
-use crate::loading::had::had_at;
-use crate::loading::here::Here;
 use crate::loading::roots::Roots;
+use crate::loading::tree_entry::entry_at;
 use crate::loading::version::{Held, Version};
 use crate::loading::walking::DIR_TURNS;
 use crate::rescan::Finding;
@@ -33,9 +33,9 @@ pub(crate) fn freed_below<'a, H: Host, K: Held>(
         let Some(below) = search.waiting.pop() else {
             break;
         };
-        let here = here_at(alloc, roots, below.as_str())?;
-        if here.root.key() == root.key() {
-            search.look_in(&here)?;
+        let directory = directory_at(alloc, roots, below.as_str())?;
+        if directory.root.key() == root.key() {
+            search.look_in(&directory)?;
         }
     }
     Ok(search.into_freed())
@@ -89,42 +89,47 @@ impl<'a, H: Host, K: Held> Search<'a, H, K> {
     }
 
     /// Looks at each name that the nodes have in a directory.
-    fn look_in(&mut self, here: &Here) -> Result<(), LoadFault> {
-        let Ok(folder) = self.host.folder(here.below.as_str()) else {
+    fn look_in(&mut self, directory: &Directory) -> Result<(), LoadFault> {
+        let Ok(folder) = self.host.folder(directory.below.as_str()) else {
             return Ok(());
         };
         for at in 0..usize::MAX {
-            let Some(name) = self.nodes.nth_name(&here.root, &here.path, at) else {
+            let Some(name) = self.nodes.nth_name(&directory.root, &directory.path, at) else {
                 return Ok(());
             };
-            self.look_at(here, &folder, text_of(name.octets())?)?;
+            self.look_at(directory, &folder, text_of(name.octets())?)?;
         }
         Ok(())
     }
 
     /// Looks at what stands in a directory by a name.
-    #[tactic(auto, using(crate::proofs::loading::ComparedLemmas::changed_differs), unfolding(crate::specs::rescan::Finding::is_change))]
-    fn look_at(&mut self, here: &Here, folder: &H::Folder, name: &str) -> Result<(), LoadFault> {
+    #[tactic(auto, unfolding(crate::specs::rescan::Finding::difference_in))]
+    fn look_at(
+        &mut self,
+        directory: &Directory,
+        folder: &H::Folder,
+        name: &str,
+    ) -> Result<(), LoadFault> {
         let alloc = self.host.memory();
-        let Ok(path) = here.child(alloc, name) else {
+        let Ok(path) = directory.child(alloc, name) else {
             return Err(LoadFault::Memory);
         };
-        if here.put_place(name, &mut self.place).is_err() {
+        if directory.put_place(name, &mut self.place).is_err() {
             return Err(LoadFault::Memory);
         }
         let Ok(found) = self.host.found_in(folder, name) else {
             return Ok(());
         };
-        let had = had_at(self.nodes, &here.root, &path);
+        let entry = entry_at(self.nodes, &directory.root, &path);
         let place = self.place.as_str();
-        let added = match Finding::of(found, had) {
-            Finding::SameDir(_) => return self.await_here(),
-            Finding::Shorter(look) if look.len < had.len() => {
-                self.freed.add_shorter(alloc, place, look, found, had)
+        let added = match Finding::of(found, entry) {
+            Finding::SameDir(_) => return self.await_directory(),
+            Finding::NotLonger(look) if look.len < entry.len() => {
+                self.freed.add_not_longer(alloc, place, look, found, entry)
             }
-            Finding::Gone => self.freed.add_gone(alloc, place, found, had),
-            Finding::TurnedOdd => self.freed.add_gone(alloc, place, found, had),
-            Finding::Replaced(_) => self.freed.add_gone(alloc, place, found, had),
+            Finding::Gone => self.freed.add_gone(alloc, place, found, entry),
+            Finding::TurnedOther => self.freed.add_gone(alloc, place, found, entry),
+            Finding::Replaced(_) => self.freed.add_gone(alloc, place, found, entry),
             _ => return Ok(()),
         };
         match added {
@@ -134,7 +139,7 @@ impl<'a, H: Host, K: Held> Search<'a, H, K> {
     }
 
     /// The directory that is looked at waits.
-    fn await_here(&mut self) -> Result<(), LoadFault> {
+    fn await_directory(&mut self) -> Result<(), LoadFault> {
         let Ok(below) = self.place.clone() else {
             return Err(LoadFault::Memory);
         };
@@ -154,9 +159,9 @@ fn text_of(names: &[u8]) -> Result<&str, LoadFault> {
 }
 
 /// A directory that the nodes have, as a path below a root.
-fn here_at(alloc: Global, roots: &Roots, below: &str) -> Result<Here, LoadFault> {
-    match Here::at(alloc, roots, below) {
-        Ok(here) => Ok(here),
+fn directory_at(alloc: Global, roots: &Roots, below: &str) -> Result<Directory, LoadFault> {
+    match Directory::at(alloc, roots, below) {
+        Ok(directory) => Ok(directory),
         Err(PathFault::Memory | PathFault::NotText | PathFault::TooBig) => Err(LoadFault::Memory),
     }
 }

@@ -34,8 +34,8 @@ fn push_names(below: &mut String<Global>, names: &[u8]) -> io::Result<()>
     }
 }
 
-/// Where the directory lies that a place is in.
-pub fn above(below: &str) -> &str {
+/// The place of the directory that a place is in: what stands before its last `/`, and nothing where it has none.
+pub fn parent_of(below: &str) -> &str {
     match below.rsplit_once('/') {
         Some((above, _)) => above,
         None => "",

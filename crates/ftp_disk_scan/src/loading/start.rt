@@ -2,7 +2,7 @@
 ghost use Rattle.std.specs.Prelude.{◌≡◌, IfOk};
 
 use crate::loading::dirs::Dirs;
-use crate::loading::fault::{LeftOut, LoadFault, Odd, Odds, Reason};
+use crate::loading::fault::{LeftOut, LoadFault, Reason, Unserved, UnservedHandling};
 use crate::loading::version::{Held, Version};
 use crate::loading::walking::{Kept, Walk, reason_of};
 use ftp_disk_host::{Found, Host, Look};
@@ -38,9 +38,9 @@ pub fn load<H: Host, K: Held>(
     host: &H,
     roots: &[Path<Global>],
     limits: Limits,
-    odd: Odd,
+    unserved: Unserved,
 ) -> Result<Loaded<K>, LoadFault>
-    ensures { IfOk result (λ loaded. loaded.nodes.limits ≡ limits) }
+    ensures limits { IfOk result (λ loaded. loaded.nodes.limits ≡ limits) }
 {
     let alloc = host.memory();
     let Ok(dirs) = Dirs::below(alloc, roots) else {
@@ -51,7 +51,7 @@ pub fn load<H: Host, K: Held>(
         dirs,
         version: 0,
     };
-    let (kept, left_out) = load_all(host, kept, odd)?;
+    let (kept, left_out) = load_all(host, kept, unserved)?;
     let (mut nodes, dirs, version) = kept.into_parts();
     nodes.limit(limits);
     Ok(Loaded {
@@ -66,16 +66,16 @@ pub fn load<H: Host, K: Held>(
 fn load_all<H: Host, K: Held>(
     host: &H,
     kept: Kept<K>,
-    odd: Odd,
+    unserved: Unserved,
 ) -> Result<(Kept<K>, LeftOut), LoadFault> {
     let look = folder_look(host)?;
-    let mut walk = Walk::new(host, kept, odds_of(odd));
+    let mut walk = Walk::new(host, kept, handling_of(unserved));
     let Ok(()) = walk.await_dir("", look) else {
         return Err(LoadFault::Memory);
     };
     walk.load_all()?;
-    let (kept, odds) = walk.into_parts();
-    Ok((kept, odds.into_left()))
+    let (kept, handling) = walk.into_parts();
+    Ok((kept, handling.into_left()))
 }
 
 /// How the folder itself looks.
@@ -91,9 +91,9 @@ fn folder_look<H: Host>(host: &H) -> Result<Look, LoadFault> {
 }
 
 /// What becomes of what can't be served, of which nothing was met yet.
-fn odds_of(odd: Odd) -> Odds {
-    match odd {
-        Odd::Refuse => Odds::Refuse,
-        Odd::LeaveOut => Odds::LeaveOut(LeftOut::nothing()),
+fn handling_of(unserved: Unserved) -> UnservedHandling {
+    match unserved {
+        Unserved::Refuse => UnservedHandling::Refuse,
+        Unserved::LeaveOut => UnservedHandling::LeaveOut(LeftOut::nothing()),
     }
 }

@@ -3,7 +3,7 @@ ghost use Rattle.std.specs.Prelude.{◌≡◌};
 
 use crate::loading::changes::{Changes, Findings, Stands};
 use crate::loading::dirs::{Dirs, Seen};
-use crate::loading::fault::{LeftOut, LoadFault, Odds, Reason};
+use crate::loading::fault::{LeftOut, LoadFault, Reason, UnservedHandling};
 use crate::loading::version::{Held, Version};
 use crate::loading::walking::{Kept, Walk};
 use ftp_disk_host::Host;
@@ -23,7 +23,7 @@ pub fn take_up<H: Host, K: Held>(
     version: &mut u64,
     findings: Findings,
 ) -> (io::Result<()>, LeftOut)
-    ensures { nodes.new.limits ≡ nodes.old.limits }
+    ensures limits { nodes.new.limits ≡ nodes.old.limits }
 {
     let (asked, changes, listed, why) = findings.into_parts();
     let alloc = host.memory();
@@ -36,12 +36,12 @@ pub fn take_up<H: Host, K: Held>(
     };
     let left = LeftOut::nothing();
     let place = asked;
-    let mut walk = Walk::new(host, kept, Odds::Asked { place, why, left });
+    let mut walk = Walk::new(host, kept, UnservedHandling::Asked { place, why, left });
     let taken = take_all(&mut walk, &changes, listed);
-    let (kept, odds) = walk.into_parts();
+    let (kept, handling) = walk.into_parts();
     (*nodes, *dirs, *version) = kept.into_parts();
     nodes.limit(limits);
-    (answer(taken, odds.why()), odds.into_left())
+    (answer(taken, handling.why()), handling.into_left())
 }
 
 /// Takes up changes: first what is gone, the last first, so that little moves; then what takes no more room than before.
@@ -54,7 +54,7 @@ fn take_all<H: Host, K: Held>(
         walk.cut(place.as_str())?;
     }
     walk.count();
-    put_all(walk, changes.shorter.as_slice())?;
+    put_all(walk, changes.not_longer.as_slice())?;
     put_all(walk, changes.more.as_slice())?;
     if let Some(seen) = listed {
         walk.note(seen)?;

@@ -3,9 +3,9 @@ mod putting;
 
 use crate::loading::changes::Thing;
 use crate::loading::counting::RootCount;
+use crate::loading::directory::Directory;
 use crate::loading::dirs::{Dirs, Seen};
-use crate::loading::fault::{LoadFault, Odds, Reason};
-use crate::loading::here::Here;
+use crate::loading::fault::{LoadFault, Reason, UnservedHandling};
 use crate::loading::names::sorted;
 use crate::loading::version::{Held, Version};
 use ftp_disk_host::{Found, Host, Look};
@@ -90,9 +90,9 @@ pub(crate) struct Walk<'a, H: Host, K: Held> {
     kept: Kept<K>,
     /// The limits that hold.
     limits: Limits,
-    odds: Odds,
+    handling: UnservedHandling,
     /// The directory in which something is taken in.
-    here: Here,
+    directory: Directory,
     /// What stands below its root.
     root_count: RootCount,
     /// Of that root.
@@ -111,8 +111,8 @@ impl<'a, H: Host, K: Held> Drop for Walk<'a, H, K> {
             host: _,
             kept: _,
             limits: _,
-            odds: _,
-            here: _,
+            handling: _,
+            directory: _,
             root_count: _,
             freeing: _,
             fit: _,
@@ -124,19 +124,19 @@ impl<'a, H: Host, K: Held> Drop for Walk<'a, H, K> {
 
 impl<'a, H: Host, K: Held> Walk<'a, H, K> {
     /// A walk that has taken in nothing yet, within the limits of the nodes. The nodes have none until they are given some again.
-    pub(crate) fn new(host: &'a H, kept: Kept<K>, odds: Odds) -> Walk<'a, H, K> {
+    pub(crate) fn new(host: &'a H, kept: Kept<K>, handling: UnservedHandling) -> Walk<'a, H, K> {
         let alloc = host.memory();
         let limits = kept.nodes.limits();
         let mut kept = kept;
         kept.nodes.limit(ANY);
-        let here = Here::top(alloc);
-        let root_count = RootCount::of(&kept.nodes, &kept.dirs.roots, &here.root);
+        let directory = Directory::top(alloc);
+        let root_count = RootCount::of(&kept.nodes, &kept.dirs.roots, &directory.root);
         Walk {
             host,
             kept,
             limits,
-            odds,
-            here,
+            handling,
+            directory,
             root_count,
             freeing: Freeing::Due,
             fit: Fit::Whole,
@@ -146,20 +146,20 @@ impl<'a, H: Host, K: Held> Walk<'a, H, K> {
     }
 
     /// What was taken in, and what could not be.
-    pub(crate) fn into_parts(self) -> (Kept<K>, Odds) {
+    pub(crate) fn into_parts(self) -> (Kept<K>, UnservedHandling) {
         let Self {
             host: _,
             kept,
             limits: _,
-            odds,
-            here: _,
+            handling,
+            directory: _,
             root_count: _,
             freeing: _,
             fit: _,
             place: _,
             waiting: _,
         } = self;
-        (kept, odds)
+        (kept, handling)
     }
 
     /// Lists each directory that waits, and takes in what is in it.
@@ -216,16 +216,20 @@ impl<'a, H: Host, K: Held> Walk<'a, H, K> {
     /// Turns to a directory.
     pub(crate) fn enter(&mut self, below: &str) -> Result<(), LoadFault> {
         self.fit = Fit::Whole;
-        let here = match Here::at(self.host.memory(), &self.kept.dirs.roots, below) {
-            Ok(here) => here,
+        let directory = match Directory::at(self.host.memory(), &self.kept.dirs.roots, below) {
+            Ok(directory) => directory,
             Err(PathFault::Memory) => return Err(LoadFault::Memory),
             Err(_) => return Err(self.too_long(below)),
         };
-        if here.root.key() != self.here.root.key() {
-            self.root_count = RootCount::of(&self.kept.nodes, &self.kept.dirs.roots, &here.root);
+        if directory.root.key() != self.directory.root.key() {
+            self.root_count = RootCount::of(
+                &self.kept.nodes,
+                &self.kept.dirs.roots,
+                &directory.root,
+            );
             self.freeing = Freeing::Due;
         }
-        self.here = here;
+        self.directory = directory;
         Ok(())
     }
 
@@ -242,7 +246,7 @@ impl<'a, H: Host, K: Held> Walk<'a, H, K> {
             Fit::Whole => seen,
             Fit::Short => seen.short(),
         };
-        let below = self.here.below.as_bytes();
+        let below = self.directory.below.as_bytes();
         match self.kept.dirs.note(below, seen) {
             Ok(()) => Ok(()),
             Err(AllocError) => Err(LoadFault::Memory),
@@ -259,7 +263,7 @@ impl<'a, H: Host, K: Held> Walk<'a, H, K> {
 
     /// Takes in what stands in the directory by a name that is a text.
     fn load_name(&mut self, folder: &H::Folder, name: &str) -> Result<(), LoadFault> {
-        if self.here.put_place(name, &mut self.place).is_err() {
+        if self.directory.put_place(name, &mut self.place).is_err() {
             return Err(LoadFault::Memory);
         }
         let found = match self.host.found_in(folder, name) {
@@ -282,7 +286,7 @@ impl<'a, H: Host, K: Held> Walk<'a, H, K> {
     /// Keeps a part that an interrupted write left, which is no part of the tree: where that fails, it stays as it is. At a look it may be one that is
     /// written now.
     fn leave(&mut self, len: u64) {
-        if self.odds.is_look() {
+        if self.handling.is_look() {
             return;
         }
         let _kept = self.host.leave(self.place.as_str(), len);
@@ -290,7 +294,11 @@ impl<'a, H: Host, K: Held> Walk<'a, H, K> {
 
     /// Counts anew what stands below the root.
     pub(crate) fn count(&mut self) {
-        self.root_count = RootCount::of(&self.kept.nodes, &self.kept.dirs.roots, &self.here.root);
+        self.root_count = RootCount::of(
+            &self.kept.nodes,
+            &self.kept.dirs.roots,
+            &self.directory.root,
+        );
     }
 
     /// What is taken in can't be served.
@@ -299,17 +307,17 @@ impl<'a, H: Host, K: Held> Walk<'a, H, K> {
             self.fit = Fit::Short;
         }
         let place = self.place.as_bytes();
-        self.odds.meet(self.host.memory(), place, why)
+        self.handling.meet(self.host.memory(), place, why)
     }
 
     /// What stands at a place can't be served.
     pub(crate) fn meet(&mut self, place: &[u8], why: Reason) -> Result<(), LoadFault> {
-        self.odds.meet(self.host.memory(), place, why)
+        self.handling.meet(self.host.memory(), place, why)
     }
 
     /// What stands in the directory by a name that is no text can't be served.
     fn meet_name(&mut self, octets: &[u8]) -> Result<(), LoadFault> {
-        match place_of(self.host.memory(), self.here.below.as_bytes(), octets) {
+        match place_of(self.host.memory(), self.directory.below.as_bytes(), octets) {
             Ok(place) => self.meet(place.as_slice(), Reason::Name),
             Err(AllocError) => Err(LoadFault::Memory),
         }

@@ -1,9 +1,10 @@
-// What stands on a disk, held against what a tree has there.
-ghost use Rattle.std.specs.Prelude.{◌≡◌, ◌∷◌, not, OnOk};
-ghost use Rattle.ftp_disk_scan.specs.loading.Compared.{agrees, pair_of, same_file};
-ghost use Rattle.ftp_disk_scan.specs.rescan.Finding.{is_change};
+// What stands on a disk, compared with what a tree has there.
+ghost use Rattle.std.specs.Prelude.{◌≡◌, ◌∷◌, OnOk};
+ghost use Rattle.ftp_disk_scan.specs.loading.Compared.{pair_of};
+ghost use Rattle.ftp_disk_scan.specs.loading.Difference.{difference_of, same_file};
+ghost use Rattle.ftp_disk_scan.specs.rescan.Finding.{difference_in};
 
-use crate::loading::{Changes, Had, Thing};
+use crate::loading::{Changes, Thing, TreeEntry};
 use ftp_disk_host::{Found, Look};
 use std::alloc::{AllocError, Global};
 
@@ -18,71 +19,71 @@ pub(crate) enum Finding {
     SameDir(Look),
     /// The tree has something, and the disk nothing.
     Gone,
-    /// A file that has no more octets than it had.
-    Shorter(Look),
-    /// A file that has more.
+    /// Another file, that has no more octets.
+    NotLonger(Look),
+    /// A file that has more octets.
     Longer(Look),
-    /// The tree has nothing there.
+    /// What the tree has not.
     New(Thing),
     /// The tree has one of another kind there.
     Replaced(Thing),
-    /// What can't be served, where the tree has nothing.
-    Odd,
+    /// Neither a file nor a directory, where the tree has nothing.
+    Other,
     /// The same, where it has something.
-    TurnedOdd,
+    TurnedOther,
 }
 
 impl Finding {
     /// What was found at a place at which the tree has this.
-    pub(crate) fn of(found: Found, had: Had) -> Finding
-        // Witness: `edits/a_file_that_is_as_it_was_is_a_change`, `a_file_of_another_inode_is_as_it_was`.
-        ensures { is_change result ≡ not (agrees found had) }
+    pub(crate) fn of(found: Found, entry: TreeEntry) -> Finding
+        // Witness: equations; `edits/a_longer_file_is_not_longer`, `a_file_of_another_inode_is_as_it_was`.
+        ensures { difference_in result ≡ difference_of found entry }
     {
-        match had {
-            Had::Nothing => Finding::of_new(found),
-            Had::Dir => Finding::of_dir(found),
-            Had::File(before) => Finding::of_file(found, before),
+        match entry {
+            TreeEntry::Nothing => Finding::of_new(found),
+            TreeEntry::Dir => Finding::of_dir(found),
+            TreeEntry::File(before) => Finding::of_file(found, before),
         }
     }
 
     /// The same where the tree has nothing.
-    #[tactic(auto, unfolding(crate::specs::loading::Compared::agrees, crate::specs::rescan::Finding::is_change))]
+    #[tactic(auto, unfolding(crate::specs::loading::Difference::difference_of, crate::specs::rescan::Finding::difference_in))]
     fn of_new(found: Found) -> Finding
-        ensures { is_change result ≡ not (agrees found Had.Nothing) }
+        ensures { difference_in result ≡ difference_of found TreeEntry.Nothing }
     {
         match found {
             Found::Nothing => Finding::Nothing,
             Found::Dir(look) => Finding::New(Thing::Dir(look)),
             Found::File(look) => Finding::New(Thing::File(look)),
-            Found::Other => Finding::Odd,
+            Found::Other => Finding::Other,
         }
     }
 
     /// The same where it has a directory.
-    #[tactic(auto, unfolding(crate::specs::loading::Compared::agrees, crate::specs::rescan::Finding::is_change))]
+    #[tactic(auto, unfolding(crate::specs::loading::Difference::difference_of, crate::specs::rescan::Finding::difference_in))]
     fn of_dir(found: Found) -> Finding
-        ensures { is_change result ≡ not (agrees found Had.Dir) }
+        ensures { difference_in result ≡ difference_of found TreeEntry.Dir }
     {
         match found {
             Found::Nothing => Finding::Gone,
             Found::Dir(look) => Finding::SameDir(look),
             Found::File(look) => Finding::Replaced(Thing::File(look)),
-            Found::Other => Finding::TurnedOdd,
+            Found::Other => Finding::TurnedOther,
         }
     }
 
     /// The same where it has a file that looked so.
-    #[tactic(auto, unfolding(crate::specs::loading::Compared::agrees, crate::specs::rescan::Finding::is_change))]
+    #[tactic(auto, unfolding(crate::specs::loading::Difference::difference_of, crate::specs::rescan::Finding::difference_in))]
     fn of_file(found: Found, before: Look) -> Finding
-        ensures { is_change result ≡ not (agrees found (Had.File before)) }
+        ensures { difference_in result ≡ difference_of found (TreeEntry.File before) }
     {
         match found {
             Found::Nothing => Finding::Gone,
             Found::Dir(look) => Finding::Replaced(Thing::Dir(look)),
             Found::File(look) if is_as_it_was(look, before) => Finding::SameFile,
-            Found::File(look) if look.len <= before.len => Finding::Shorter(look),
+            Found::File(look) if look.len <= before.len => Finding::NotLonger(look),
             Found::File(look) => Finding::Longer(look),
-            Found::Other => Finding::TurnedOdd,
+            Found::Other => Finding::TurnedOther,
         }
     }
 }
@@ -98,27 +99,27 @@ fn is_as_it_was(look: Look, before: Look) -> bool
         && look.modified == before.modified
 }
 
-/// Holds what was found at a place against what the tree has there, and adds it where that is a change.
-#[tactic(auto, using(crate::proofs::loading::ComparedLemmas::changed_differs, crate::proofs::loading::ComparedLemmas::unchanged_agrees), unfolding(crate::specs::rescan::Finding::is_change))]
-pub(crate) fn hold(
+/// Compares what was found at a place with what the tree has there, and adds it where that is a change. Refused memory, it adds nothing.
+#[tactic(auto, unfolding(crate::specs::rescan::Finding::difference_in))]
+pub(crate) fn compare(
     changes: &mut Changes,
     alloc: Global,
     place: &str,
     found: Found,
-    had: Had,
+    entry: TreeEntry,
 ) -> Result<(), AllocError>
     ensures { OnOk result
-        (changes.new.compared.pairs ≡ pair_of found had ∷ changes.old.compared.pairs) }
+        (changes.new.compared.pairs ≡ pair_of found entry ∷ changes.old.compared.pairs) }
 {
-    match Finding::of(found, had) {
-        Finding::Nothing | Finding::SameFile | Finding::SameDir(_) | Finding::Odd => {
-            changes.same(found, had);
+    match Finding::of(found, entry) {
+        Finding::Nothing | Finding::SameFile | Finding::SameDir(_) | Finding::Other => {
+            changes.same(found, entry);
             Ok(())
         }
-        Finding::Gone | Finding::TurnedOdd => changes.add_gone(alloc, place, found, had),
-        Finding::Shorter(look) => changes.add_shorter(alloc, place, look, found, had),
-        Finding::Longer(look) => changes.add_more(alloc, place, Thing::File(look), found, had),
-        Finding::New(thing) => changes.add_more(alloc, place, thing, found, had),
-        Finding::Replaced(thing) => changes.add_other(alloc, place, thing, found, had),
+        Finding::Gone | Finding::TurnedOther => changes.add_gone(alloc, place, found, entry),
+        Finding::NotLonger(look) => changes.add_not_longer(alloc, place, look, found, entry),
+        Finding::Longer(look) => changes.add_more(alloc, place, Thing::File(look), found, entry),
+        Finding::New(thing) => changes.add_more(alloc, place, thing, found, entry),
+        Finding::Replaced(thing) => changes.add_replaced(alloc, place, thing, found, entry),
     }
 }

@@ -1,8 +1,8 @@
 // What was found on a disk is put into the nodes of a tree, within limits; and what is gone is cut.
 use crate::loading::changes::{Changes, Thing};
+use crate::loading::directory::Directory;
 use crate::loading::fault::{LoadFault, Reason};
 use crate::loading::freed::freed_below;
-use crate::loading::here::Here;
 use crate::loading::version::{Held, Version};
 use crate::loading::walking::{Freeing, Walk};
 use ftp_disk_host::{Host, Look, moment_of};
@@ -17,7 +17,7 @@ impl<'a, H: Host, K: Held> Walk<'a, H, K> {
         let Some((above, name)) = place.rsplit_once('/') else {
             return Ok(None);
         };
-        if self.here.below.as_str() != above {
+        if self.directory.below.as_str() != above {
             self.enter(above)?;
         }
         Ok(Some(name))
@@ -28,7 +28,7 @@ impl<'a, H: Host, K: Held> Walk<'a, H, K> {
         let Some(name) = self.turn_to(place)? else {
             return Ok(());
         };
-        if self.here.put_place(name, &mut self.place).is_err() {
+        if self.directory.put_place(name, &mut self.place).is_err() {
             return Err(LoadFault::Memory);
         }
         self.put(name, thing)
@@ -36,7 +36,7 @@ impl<'a, H: Host, K: Held> Walk<'a, H, K> {
 
     /// Takes in what was found in the directory by a name.
     pub(crate) fn put(&mut self, name: &str, thing: Thing) -> Result<(), LoadFault> {
-        let path = match self.here.child(self.host.memory(), name) {
+        let path = match self.directory.child(self.host.memory(), name) {
             Ok(path) => path,
             Err(PathFault::Memory) => return Err(LoadFault::Memory),
             Err(PathFault::NotText) => return self.leave_out(Reason::Name),
@@ -56,7 +56,7 @@ impl<'a, H: Host, K: Held> Walk<'a, H, K> {
         if let Some(fault) = self.root_count.dir_refusal(self.limits) {
             return self.leave_out(Reason::Tree(fault));
         }
-        if let Err(fault) = self.kept.nodes.make_dir(&self.here.root, path) {
+        if let Err(fault) = self.kept.nodes.make_dir(&self.directory.root, path) {
             return self.refused(fault);
         }
         self.root_count = self.root_count.with_one(0);
@@ -65,11 +65,11 @@ impl<'a, H: Host, K: Held> Walk<'a, H, K> {
 
     /// Puts a version of a file, in the place of the one that stands there. Where that passes a limit, none does any more.
     fn put_file(&mut self, path: &Path<Global>, look: Look) -> Result<(), LoadFault> {
-        let old = self.kept.nodes.size(&self.here.root, path);
+        let old = self.kept.nodes.size(&self.directory.root, path);
         if self.root_count.file_refusal(self.limits, old, look.len) == Some(TreeFault::Full) {
             self.free()?;
         }
-        let old = self.kept.nodes.size(&self.here.root, path);
+        let old = self.kept.nodes.size(&self.directory.root, path);
         let refusal = self.root_count.file_refusal(self.limits, old, look.len);
         if let Some(len) = old {
             self.root_count = self.root_count.without_one(len);
@@ -82,21 +82,21 @@ impl<'a, H: Host, K: Held> Walk<'a, H, K> {
 
     /// Looks once for what others took away below the root, at a look, and takes that up: it counts for limits no more. The walk goes on where it was.
     fn free(&mut self) -> Result<(), LoadFault> {
-        if matches!(self.freeing, Freeing::Done) || !self.odds.is_look() {
+        if matches!(self.freeing, Freeing::Done) || !self.handling.is_look() {
             return Ok(());
         }
         let freed = freed_below(
             self.host,
             &self.kept.nodes,
             &self.kept.dirs.roots,
-            &self.here.root,
+            &self.directory.root,
         )?;
-        let top = Here::top(self.host.memory());
-        let here = mem::replace(&mut self.here, top);
+        let top = Directory::top(self.host.memory());
+        let directory = mem::replace(&mut self.directory, top);
         let place = mem::replace(&mut self.place, String::new(self.host.memory()));
         let fit = self.fit;
         let taken = self.take_freed(&freed);
-        self.here = here;
+        self.directory = directory;
         self.place = place;
         self.fit = fit;
         self.freeing = Freeing::Done;
@@ -109,7 +109,7 @@ impl<'a, H: Host, K: Held> Walk<'a, H, K> {
         for place in freed.gone.iter().rev() {
             self.cut(place.as_str())?;
         }
-        for stands in &freed.shorter {
+        for stands in &freed.not_longer {
             if let Thing::File(look) = stands.thing {
                 self.shorten(stands.place.as_str(), look)?;
             }
@@ -122,7 +122,7 @@ impl<'a, H: Host, K: Held> Walk<'a, H, K> {
         let Some(name) = self.turn_to(place)? else {
             return Ok(());
         };
-        let Ok(path) = self.here.child(self.host.memory(), name) else {
+        let Ok(path) = self.directory.child(self.host.memory(), name) else {
             return Err(LoadFault::Memory);
         };
         self.install(&path, look)
@@ -133,7 +133,7 @@ impl<'a, H: Host, K: Held> Walk<'a, H, K> {
         let number = self.kept.version.wrapping_add(1);
         let version = Version::new(number, look);
         let moment = moment_of(look.modified.seconds);
-        let root = &self.here.root;
+        let root = &self.directory.root;
         if let Err(fault) = self.kept.nodes.install(root, path, version, moment) {
             return self.refuse_file(path, fault);
         }
@@ -144,7 +144,7 @@ impl<'a, H: Host, K: Held> Walk<'a, H, K> {
 
     /// No file stands at a path, since it is refused.
     fn refuse_file(&mut self, path: &Path<Global>, fault: TreeFault) -> Result<(), LoadFault> {
-        self.kept.nodes.cut(&self.here.root, path);
+        self.kept.nodes.cut(&self.directory.root, path);
         self.refused(fault)
     }
 
@@ -161,13 +161,13 @@ impl<'a, H: Host, K: Held> Walk<'a, H, K> {
         let Some(name) = self.turn_to(place)? else {
             return Ok(());
         };
-        let Ok(path) = self.here.child(self.host.memory(), name) else {
+        let Ok(path) = self.directory.child(self.host.memory(), name) else {
             return Err(LoadFault::Memory);
         };
-        if self.kept.nodes.kind(&self.here.root, &path) == Some(NodeKind::Dir) {
+        if self.kept.nodes.kind(&self.directory.root, &path) == Some(NodeKind::Dir) {
             self.kept.dirs.forget(place.as_bytes());
         }
-        self.kept.nodes.cut(&self.here.root, &path);
+        self.kept.nodes.cut(&self.directory.root, &path);
         Ok(())
     }
 }

@@ -1,9 +1,12 @@
-use Rattle.std.proofs.Common.{length}
-use Rattle.ftp_disk_scan.proofs.loading.ComparedLemmas.{differ_more, more_told}
+use Rattle.std.proofs.Common.{length, refl}
+use Rattle.ftp_disk_scan.proofs.loading.ComparedLemmas.{differ_more, known_differs, more_told}
 use Rattle.ftp_disk_scan.proofs.loading.changes.Changes.add_more.Goals as goal
 
 pub invariant_of-self-2 : goal.invariant_of-self-2
-invariant_of-self-2 c = record {
-  told = more_told c.args.self.now.more.items c.push.new.self.items _ c.note.new.self.pairs (length c.args.self.now.gone.items) (length c.args.self.now.shorter.items) c.in_ok-push.ensures.items
-      (differ_more c.args.self.now.compared.pairs c.note.new.self.pairs c.args.found c.args.had c.note.ensures c.requires);
-}
+invariant_of-self-2 c =
+    let differs = known_differs c.args.found c.args.entry _ c.requires refl in
+    let more = differ_more c.args.self.now.compared.pairs c.note.new.self.pairs c.args.found c.args.entry c.note.ensures differs in
+    record {
+      told = more_told c.args.self.now.more.items c.push.new.self.items _ c.note.new.self.pairs (length c.args.self.now.gone.items)
+          (length c.args.self.now.not_longer.items) c.in_ok-push.ensures.items more;
+    }

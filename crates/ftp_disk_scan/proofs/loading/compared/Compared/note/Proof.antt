@@ -30,8 +30,8 @@ use Rattle.ftp_disk_scan.specs.loading.Compared.{pair_of}
 use Rattle.ftp_disk_scan.specs.contracts.loading.compared.Compared as T
 use Rattle.ftp_disk_host.specs.declared.host.Found.{Found}
 use Rattle.ftp_disk_host.specs.contracts.host.Found as E
-use Rattle.ftp_disk_scan.specs.declared.loading.had.Had.{Had}
-use Rattle.ftp_disk_scan.specs.contracts.loading.had.Had as G
+use Rattle.ftp_disk_scan.specs.declared.loading.tree_entry.TreeEntry.{TreeEntry}
+use Rattle.ftp_disk_scan.specs.contracts.loading.tree_entry.TreeEntry as G
 use Rattle.ftp_disk_scan.specs.contracts.loading.compared.Compared.note.Key.{name as #it}
 use Rattle.ftp_disk_scan.specs.contracts.loading.compared.Compared.note as it
 use Rattle.ftp_disk_scan.proofs.loading.compared.Compared.note.Statement as stated
@@ -42,12 +42,12 @@ use denote.Ref.{ShrRef, shr_vals, shr_Tells}
 use denote.Triple.Walked.{stay_none_ref, Goes-none_ref}
 
 abbrev Arg : Type 0
-Arg = MutBor Compared × (Bor Found × (Bor Had × Unit {0}))
+Arg = MutBor Compared × (Bor Found × (Bor TreeEntry × Unit {0}))
 
 abbrev stayed : Stays (it.ended).signature.params (it.ended).kept
 stayed = (stay_ref (0 ∷ []) tt (plain (λ _. T.the_row)), (stay_none_ref (1 ∷ []) tt (plain (λ _. E.the_row)) yes, (stay_none_ref (2 ∷ []) tt (plain (λ _. G.the_row)) yes, tt)))
 
-module _ {M : Type 1} {𝓤 : Ura M} (𝓛 : Logic 𝓤) (at_mem : Memory → SProp 𝓤) (run : Routine → Fun 𝓤) (κ κ' κ'' : Lft) (q q' q'' : Share) (b o : ℕ) (γ : GName) (h : Compared) (k : Bor Found) (s : Bor Had) where
+module _ {M : Type 1} {𝓤 : Ura M} (𝓛 : Logic 𝓤) (at_mem : Memory → SProp 𝓤) (run : Routine → Fun 𝓤) (κ κ' κ'' : Lft) (q q' q'' : Share) (b o : ℕ) (γ : GName) (h : Compared) (k : Bor Found) (s : Bor TreeEntry) where
   open 𝓛 use {H, A}
 
   abbrev x : Arg

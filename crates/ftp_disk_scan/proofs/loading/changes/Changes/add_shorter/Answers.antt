@@ -1,8 +1,0 @@
-use Rattle.ftp_disk_scan.proofs.loading.ComparedLemmas.{differ_more, shorter_told}
-use Rattle.ftp_disk_scan.proofs.loading.changes.Changes.add_shorter.Goals as goal
-
-pub invariant_of-self-2 : goal.invariant_of-self-2
-invariant_of-self-2 c = record {
-  told = shorter_told c.args.self.now.shorter.items c.push.new.self.items _ c.note.new.self.pairs _ _ c.in_ok-push.ensures.items
-      (differ_more c.args.self.now.compared.pairs c.note.new.self.pairs c.args.found c.args.had c.note.ensures c.requires);
-}
