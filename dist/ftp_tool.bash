@@ -9,11 +9,11 @@ _ftp_tool_options() {
         put) echo '--user --password-file --active --extended --no-extended --quiet --timeout --max-time --limit --limit-rate --temp --parallel --progress
             --type --stru --mode --help' ;;
         ls) echo '--user --password-file --active --extended --no-extended --quiet --timeout --max-time --limit --progress --type --stru --mode --long --json
-            --help' ;;
+            --no-glob --help' ;;
         cat) echo '--user --password-file --active --extended --no-extended --quiet --timeout --max-time --limit --progress --type --stru --mode --help' ;;
         size) echo '--user --password-file --active --extended --no-extended --quiet --timeout --max-time --limit --progress --type --stru --mode --help' ;;
         rm) echo '--user --password-file --active --extended --no-extended --quiet --timeout --max-time --limit --parallel --progress --type --stru --mode
-            --help' ;;
+            --no-glob --help' ;;
         mkdir) echo '--user --password-file --active --extended --no-extended --quiet --timeout --max-time --limit --progress --type --stru --mode --parents
             --help' ;;
         rmdir) echo '--user --password-file --active --extended --no-extended --quiet --timeout --max-time --limit --progress --type --stru --mode --help' ;;
@@ -21,9 +21,9 @@ _ftp_tool_options() {
         mirror) echo '--user --password-file --active --extended --no-extended --quiet --timeout --max-time --limit --limit-rate --parallel --delete
             --delete-any --dry-run --json --progress --checksum --exclude --no-flush --help' ;;
         run) echo '--user --password-file --timeout --host --port --help' ;;
-        serve) echo '--port --dir --host --accounts --sessions --at-once --at-once-per-host --until-input-ends --stop-file --finish --log --keep --login --idle
-            --idle-while-waited --session-while-waited --login-while-waited --passive-ports --passive-address --skip --most-octets --most-of-a-file --most-files
-            --any --help' ;;
+        serve) echo '--port --dir --host --accounts --sessions --at-once --at-once-per-host --until-input-ends --stop-file --finish --log --log-format --keep
+            --login --idle --idle-while-waited --session-while-waited --login-while-waited --passive-ports --passive-address --skip --most-octets
+            --most-of-a-file --most-files --any --help' ;;
         password) echo '--rounds --help' ;;
         dialogue) echo '--piece --help' ;;
         facts) echo '--help' ;;
@@ -44,6 +44,7 @@ _ftp_tool_values() {
         --stru) echo F R ;;
         --mode) echo S B ;;
         --dir) echo directories ;;
+        --log-format) echo text json xferlog ;;
         --most-octets | --most-of-a-file | --most-files) echo any ;;
         *) case $1 in
             get | put) echo files ;;

@@ -9,13 +9,17 @@ use std::alloc::Global;
 use std::io;
 use std::io::Eprint;
 use tool_command::{
-    ErrorStream, PLACE_OPTION, UsageError, asked_of, fetch_task_of, openings_of, url_in, urls_in,
+    ErrorStream, PLACE_OPTION, UsageError, asked_of, fetch_task_of, is_matched, openings_of,
+    url_in, urls_in,
 };
-use tool_get_put::{Each, FilePair, PlaceTask};
-use tool_job::{Simple, Target};
+use tool_get_put::{Each, FilePair};
+use tool_job::Target;
 use tool_location::UrlPlace;
 use tool_session::Openings;
 use tool_terminal::{Shown, Status};
+
+/// The subcommand that removes files.
+const REMOVE: &str = "rm";
 
 /// Does what a subcommand asks for at one place.
 pub(crate) fn ask<R>(
@@ -46,7 +50,7 @@ fn ask_at<R: Programs + Eprint>(
     words: &ArgMatches<'_>,
     asked: &Target<'_>,
 ) -> io::Result<u8> {
-    match fetch_task_of(name, words) {
+    match fetch_task_of(name, words, asked.place) {
         Some(task) => number_of(rt.fetch(asked, task)),
         None => refuse(rt, UsageError::Number),
     }
@@ -86,22 +90,20 @@ fn ask_where<'a, R: Programs + Eprint>(
     if let Err(refusal) = check_places(words, places_of(words), urls, openings, false) {
         return refuse(rt, refusal);
     }
-    match fetch_task_of(name, words) {
-        Some(PlaceTask::Simple(Simple::Remove)) => {
-            number_of(remove_all(rt, alloc, words, urls, openings))
-        }
-        Some(task) => number_of(ask_all(rt, words, urls, openings, task)),
-        None => refuse(rt, UsageError::Number),
+    if name == REMOVE {
+        number_of(remove_all(rt, alloc, words, urls, openings))
+    } else {
+        number_of(ask_all(rt, name, words, urls, openings))
     }
 }
 
-/// Does a task at places one after another, each over a control connection of its own, and gives the worst status.
+/// Does what a subcommand asks for at places one after another, each over a control connection of its own, and gives the worst status.
 fn ask_all<'a, R: Programs + Eprint>(
     rt: &R,
+    name: &str,
     words: &'a ArgMatches<'_>,
     urls: &'a [Option<UrlPlace>],
     openings: &'a Openings,
-    task: PlaceTask<'_>,
 ) -> io::Result<Status> {
     let mut worst = Status::Done;
     let mut until = None;
@@ -111,11 +113,25 @@ fn ask_all<'a, R: Programs + Eprint>(
             return Ok(Status::BadWords);
         };
         let asked = asked.within(&mut until);
-        let status = rt.fetch(&asked, task)?;
-        tell_undone(rt, status, places.len(), "done", asked.place.path)?;
-        worst = worst.worse(status);
+        worst = worst.worse(ask_told(rt, name, words, &asked, places.len())?);
     }
     Ok(worst)
+}
+
+/// The same at one of so many places, and tells which one it is that was not done.
+fn ask_told<R: Programs + Eprint>(
+    rt: &R,
+    name: &str,
+    words: &ArgMatches<'_>,
+    asked: &Target<'_>,
+    count: usize,
+) -> io::Result<Status> {
+    let Some(task) = fetch_task_of(name, words, asked.place) else {
+        return Ok(Status::BadWords);
+    };
+    let status = rt.fetch(asked, task)?;
+    tell_undone(rt, status, count, "done", asked.place.path)?;
+    Ok(status)
 }
 
 /// Removes files, over several control connections where these are asked for.
@@ -134,15 +150,30 @@ fn remove_all<'a, R: Programs + Eprint>(
             return Ok(Status::BadWords);
         };
         if asked.at_once < 2 || places.len() < 2 {
-            return ask_all(rt, words, urls, openings, PlaceTask::Simple(Simple::Remove));
+            return ask_all(rt, REMOVE, words, urls, openings);
         }
-        let pair = FilePair {
-            path: String::from_str(alloc, asked.place.path)?,
-            file: String::new(alloc),
-        };
-        worst = worst.worse(batch.put(rt, asked, pair)?);
+        worst = worst.worse(remove_at_once(rt, alloc, words, asked, &mut batch)?);
     }
     Ok(worst.worse(batch.done(rt)?))
+}
+
+/// Removes a file with those before and behind it, over several control connections; the files of a pattern behind those before.
+fn remove_at_once<'a, R: Programs + Eprint>(
+    rt: &R,
+    alloc: Global,
+    words: &ArgMatches<'_>,
+    asked: Target<'a>,
+    batch: &mut Batch<'a>,
+) -> io::Result<Status> {
+    if is_matched(words, asked.place) {
+        let before = batch.done(rt)?;
+        return Ok(before.worse(ask_told(rt, REMOVE, words, &asked, 2)?));
+    }
+    let pair = FilePair {
+        path: String::from_str(alloc, asked.place.path)?,
+        file: String::new(alloc),
+    };
+    batch.put(rt, asked, pair)
 }
 
 /// Tells which of several it is with which something was not done, as its sentence does not say.

@@ -1,5 +1,5 @@
 -- What the values of `serve` ask to be served (own choice).
-use Rattle.std.specs.Prelude.{◌≡◌, ◌^◌, ◌-◌, ⊤, ℕ, List, Option, Some, None, option_map}
+use Rattle.std.specs.Prelude.{◌≡◌, ◌^◌, ◌-◌, ⊤, ℕ, List, Option, Some, None, codes, option_map}
 use Rattle.std.specs.Net.Grammar.{IsIpText}
 use Rattle.std.specs.declared.net.IpAddr.{IpAddr}
 use Rattle.tool_command.specs.Amount.{SaysMost}
@@ -10,14 +10,16 @@ use Rattle.tool_command.specs.declared.serve_values.Scope.TheVariants.{Any, Usua
 use Rattle.tool_command.specs.declared.serve_values.ServeWords.{ServeWords}
 use Rattle.tool_command.specs.declared.serve_values.WaitWords.{WaitWords}
 use Rattle.tool_serve.specs.declared.serving.Serving.{Serving}
+use Rattle.tool_log.specs.declared.format.LogFormat.{LogFormat}
+use Rattle.tool_log.specs.declared.format.LogFormat.TheVariants as Formats
 use Rattle.tool_polling.specs.declared.session_timeouts.TimeLimits.{TimeLimits as Waits}
 use Rattle.tool_command.specs.Numbers.{SaysBelow, SaysNumberOr, SaysPortOrZero, SaysPorts, SaysSessions}
 use Rattle.tool_serve.specs.declared.sessions.SessionCount.{SessionCount}
 use Rattle.tool_serve.specs.declared.sessions.SessionCount.TheVariants.{Count, Forever}
 use Rattle.ftp_tree.specs.Tree.{default_limits}
 use Rattle.ftp_tree.specs.declared.limits.Limits.{Limits}
-use Rattle.ftp_disk_scan.specs.declared.loading.fault.Odd.{Odd}
-use Rattle.ftp_disk_scan.specs.declared.loading.fault.Odd.TheVariants.{LeaveOut}
+use Rattle.ftp_disk_scan.specs.declared.loading.fault.Unserved.{Unserved}
+use Rattle.ftp_disk_scan.specs.declared.loading.fault.Unserved.TheVariants.{LeaveOut}
 
 -- what holds where no word says it: where only so many sessions are served there is no limit of time, which 0 stands for
 abbrev pub unsaid_waits : SessionCount → Waits
@@ -52,9 +54,9 @@ pub record AreLimits (scope : Scope) (words : LimitWords) (limits : Limits) : Ty
   pub nodes : SaysLimit (option_map (λ word. word.now) words.files) (unsaid_limits scope).nodes limits.nodes
 
 -- with --any what can't be served is left out too
-abbrev pub odd_of : Scope → Odd → Odd
-odd_of Usual odd = odd
-odd_of Any odd = LeaveOut
+abbrev pub unserved_of : Scope → Unserved → Unserved
+unserved_of Usual unserved = unserved
+unserved_of Any unserved = LeaveOut
 
 -- an address in numbers, if a word is given
 abbrev pub SaysAddress : Option (List ℕ) → Option IpAddr → Type 0
@@ -62,6 +64,12 @@ SaysAddress None None = ⊤
 SaysAddress None (Some address) = ⊥
 SaysAddress (Some text) None = ⊥
 SaysAddress (Some text) (Some address) = IsIpText text address
+
+-- each format of the log by its name
+abbrev pub SaysLogFormat : List ℕ → LogFormat → Type 0
+SaysLogFormat word Formats.Text = word ≡ codes "text"
+SaysLogFormat word Formats.Json = word ≡ codes "json"
+SaysLogFormat word Formats.Xferlog = word ≡ codes "xferlog"
 
 -- each value is what its word says, and the folder, the file of accounts and the stop file are their words
 pub record AsksServing (words : ServeWords) (serving : Serving) : Type 0 where
@@ -76,9 +84,10 @@ pub record AsksServing (words : ServeWords) (serving : Serving) : Type 0 where
   pub finish : SaysBelow (2 ^ 32) words.finish.now serving.finish
   pub accounts : serving.accounts ≡ words.accounts
   pub log : serving.log ≡ words.log
+  pub log_format : SaysLogFormat words.log_format.now serving.log_format
   pub others : serving.others ≡ words.others
   pub passive : SaysPorts words.passive.now serving.passive.0 serving.passive.1
   pub passive_address : SaysAddress (option_map (λ word. word.now) words.passive_address) serving.passive_address
-  pub odd : serving.odd ≡ odd_of words.scope words.odd
+  pub unserved : serving.unserved ≡ unserved_of words.scope words.unserved
   pub waits : AreWaits words.waits serving.sessions serving.waits
   pub limits : AreLimits words.scope words.limits serving.limits

@@ -44,11 +44,7 @@ pub const GET: Subcommand<'static> = Subcommand {
         },
         LIMIT_RATE,
         PARALLEL,
-        Word {
-            name: "no-glob",
-            kind: WordKind::Letter('g'),
-            help: "takes * and ? in the last name of PATH as they stand",
-        },
+        NO_GLOB,
     ],
 };
 
@@ -92,6 +88,7 @@ pub const LS: Subcommand<'static> = Subcommand {
             kind: WordKind::Flag,
             help: "writes an object of JSON for each entry, in a line",
         },
+        NO_GLOB,
     ],
 };
 
@@ -119,7 +116,7 @@ pub const RM: Subcommand<'static> = Subcommand {
     about: "removes files of a server",
     usage: None,
     help: help::RM,
-    words: &[PLACES, PARALLEL],
+    words: &[PLACES, PARALLEL, NO_GLOB],
 };
 
 /// The words of `mkdir`.
@@ -175,6 +172,13 @@ const PLACES: Word<'static> = Word {
     name: "places",
     kind: WordKind::NeededPlaces(ValueKind::Text("HOST:PORT/PATH")),
     help: "the server, its port (21 where none is written), and the path there; or ftp://USER@HOST:PORT/PATH",
+};
+
+/// That a name which would be a pattern is none.
+const NO_GLOB: Word<'static> = Word {
+    name: "no-glob",
+    kind: WordKind::Letter('g'),
+    help: "takes * and ? in the last name of PATH as they stand",
 };
 
 /// The place, as the help has it.
@@ -274,12 +278,16 @@ fn how_in<'a>(words: &ArgMatches<'_>) -> Result<How, UsageError<'a>> {
 }
 
 /// What is done at a place that a subcommand of this name asks at.
-pub fn fetch_task_of<'a>(name: &str, words: &'a ArgMatches<'_>) -> Option<PlaceTask<'a>> {
+pub fn fetch_task_of<'a>(
+    name: &str,
+    words: &'a ArgMatches<'_>,
+    place: Location<'_>,
+) -> Option<PlaceTask<'a>> {
     match name {
-        "ls" => Some(PlaceTask::List(lines_of(words))),
+        "ls" => Some(list_task_of(words, place)),
         "cat" => Some(PlaceTask::Get(SHOWN)),
         "size" => Some(PlaceTask::Simple(Simple::Size)),
-        "rm" => Some(PlaceTask::Simple(Simple::Remove)),
+        "rm" => Some(remove_task_of(words, place)),
         "mkdir" => Some(chosen(
             words,
             "parents",
@@ -289,6 +297,25 @@ pub fn fetch_task_of<'a>(name: &str, words: &'a ArgMatches<'_>) -> Option<PlaceT
         "rmdir" => Some(PlaceTask::Simple(Simple::RemoveDirectory)),
         "mv" => Some(PlaceTask::Simple(Simple::Move(text_in(words, "path")))),
         _ => None,
+    }
+}
+
+/// What `ls` does at a place.
+fn list_task_of<'a>(words: &ArgMatches<'_>, place: Location<'_>) -> PlaceTask<'a> {
+    let lines = lines_of(words);
+    if is_matched(words, place) {
+        PlaceTask::ListMatching(lines)
+    } else {
+        PlaceTask::List(lines)
+    }
+}
+
+/// What `rm` does at a place.
+fn remove_task_of<'a>(words: &ArgMatches<'_>, place: Location<'_>) -> PlaceTask<'a> {
+    if is_matched(words, place) {
+        PlaceTask::RemoveMatching
+    } else {
+        PlaceTask::Simple(Simple::Remove)
     }
 }
 
@@ -306,7 +333,7 @@ const SHOWN: DownloadJob<'static> = DownloadJob {
     targets: None,
 };
 
-/// Whether `get` fetches what the directory of a place has that is of a pattern: where the name that its path ends in is one, and `--no-glob` is not there.
+/// Whether what the directory of a place has is meant that is of a pattern: where the name that its path ends in is one, and `--no-glob` is not there.
 pub fn is_matched(words: &ArgMatches<'_>, place: Location<'_>) -> bool {
     !words.get_flag("no-glob") && is_pattern(place.name().as_bytes())
 }

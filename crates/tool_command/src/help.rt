@@ -42,7 +42,9 @@ change: r nothing, p put new files, a append to files and replace them, d delete
 o beside f rename a file onto another, which only o lets, w both p and m. A root may be below that of an account that may change nothing, and of
 no other. The file's mode gives its group and others nothing.
 Output: listening on, the address and the port, once clients can connect. With --log on standard error a line for each session that begins
-or ends, login, refused command, transfer and change: moment, peer, verb, path, octets of data connections, code.
+or ends, login, refused command, transfer and change: moment, peer, verb, path, octets of data connections, code. With --log-format json each
+is an object of JSON, and so is each note; with --log-format xferlog there is a line for each file that was moved, whole or not, as wu-ftpd
+and vsftpd write it, in UTC and always with b for the type, and none for anything else, also for no note.
 What other programs put there, change or take away is seen by the next command that asks for it; with --keep nothing is looked at again.
 What can't be served is refused at the start, or with --skip left out with a note, and left out later. At most 67,108,864 octets of files
 and 16,384 files and directories are served below each account's root, unless --most-octets, --most-of-a-file and --most-files say
@@ -130,8 +132,8 @@ several words, if it is no URL, says where the file goes: to FILE or, by the nam
 there; without it, it goes here by that name. Several files go into a folder, each over a control connection of its own; one that fails does
 not stop the others, and the status is the worst. Two words that end in one name are refused. Where the last name of PATH has * or ?, it is
 a pattern, as with --exclude of mirror: the directory is listed, by MLSD, LIST or NLST, and each file there whose name is of the pattern is
-fetched into a folder, in the order of their names, over one control connection; none is status 1. With --no-glob such a PATH is the name
-of a file. With --parallel N the files of one
+fetched into a folder, in the order of their names, over one control connection; directories are left out, with a note; none is status 1.
+With --no-glob such a PATH is the name of a file. With --parallel N the files of one
 server, and those of a pattern, are fetched over N control connections at once, 8 at most: what comes next over those that are free. What is
 told and left is the same, in the same order, but for progress, of which nothing is; where the server gives fewer, it goes on over those. The
 file is written beside its name,
@@ -207,9 +209,13 @@ as far as they are told, and is escaped as JSON has it alone; any other line is 
 of ls -l is an entry, too: its kind, its size if it is a file, and its name. Each has LF at its end. Of characters
 that a terminal obeys (C0, C1, marks of direction) each octet is \\xHH, and a backslash is two. What is named by none but a single file's
 name, as .. or a/b, is left out, and a note says how many are.
+Where the last name of PATH has * or ?, it is a pattern, as with get: the directory is listed, and what has a name of the pattern is written,
+in the same form, directories too. None is status 1. Lines that are no entries are left out then, and a note says how many are. With
+--no-glob such a PATH is the name of a directory or a file.
 
 Example:
-  ftp_tool ls 127.0.0.1:2121/pub";
+  ftp_tool ls 127.0.0.1:2121/pub
+  ftp_tool ls '127.0.0.1:2121/pub/*.csv' --long";
 
 /// Of `cat`.
 pub const CAT: &str = "\
@@ -231,9 +237,13 @@ pub const RM: &str = "\
 By DELE, each file asked once, over a control connection of its own: where that ends before the reply, the file may be gone, and the status
 is 3. One that fails does not stop the others, and the status is the worst. With --parallel N the files of one server are removed over N
 control connections at once, 8 at most; what is told is the same, in the same order. HOST, PATH, passwords and status are as with get.
+Where the last name of PATH has * or ?, it is a pattern, as with get: the directory is listed, and each file there whose name is of the
+pattern is removed, in the order of their names, over the same control connections. Directories are left out, with a note. None is status 1.
+With --no-glob such a PATH is the name of a file.
 
 Example:
-  ftp_tool rm 127.0.0.1:2121/a.txt 127.0.0.1:2121/b.txt";
+  ftp_tool rm 127.0.0.1:2121/a.txt 127.0.0.1:2121/b.txt
+  ftp_tool rm '127.0.0.1:2121/in/*.tmp' --parallel 4";
 
 /// Of `mkdir`.
 pub const MKDIR: &str = "\

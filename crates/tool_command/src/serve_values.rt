@@ -3,11 +3,12 @@ ghost use Rattle.std.specs.Prelude.{◌≡◌, ℕ, Option, IfOk, IfSome, IfNone
 ghost use Rattle.std.specs.Net.Grammar.{IsIpText};
 ghost use Rattle.std.specs.declared.net.IpAddr.{IpAddr};
 ghost use Rattle.tool_serve.specs.declared.serving.Serving.{Serving};
+ghost use Rattle.tool_log.specs.declared.format.LogFormat.{LogFormat};
 ghost use Rattle.tool_polling.specs.declared.session_timeouts.TimeLimits.{TimeLimits as Waits};
 ghost use Rattle.tool_command.specs.Numbers.{SaysPorts, SaysSessions};
 ghost use Rattle.tool_serve.specs.declared.sessions.SessionCount.{SessionCount};
 ghost use Rattle.ftp_tree.specs.declared.limits.Limits.{Limits};
-ghost use Rattle.tool_command.specs.Serving.{AreLimits, AreWaits, AsksServing, SaysAddress, SaysLimit, odd_of, unsaid_limits, unsaid_waits};
+ghost use Rattle.tool_command.specs.Serving.{AreLimits, AreWaits, AsksServing, SaysAddress, SaysLimit, SaysLogFormat, unserved_of, unsaid_limits, unsaid_waits};
 
 use crate::amount::most_of;
 use crate::at_once::{at_once_by, per_host_by};
@@ -15,7 +16,7 @@ use crate::numbers::{number_or, port_of, ports_of, sessions_of};
 use crate::refusal::UsageError;
 use std::net::IpAddr;
 use tool_codec::number_of;
-use tool_serve::{Input, Limits, Log, Odd, Others, Serving, SessionCount, Waits};
+use tool_serve::{Input, Limits, Log, LogFormat, Others, Serving, SessionCount, Unserved, Waits};
 
 /// The values of `serve`, as they stand on a command line.
 #[derive(Clone, Copy)]
@@ -31,10 +32,11 @@ pub(crate) struct ServeWords<'a> {
     pub(crate) finish: &'a str,
     pub(crate) accounts: Option<&'a str>,
     pub(crate) log: Log,
+    pub(crate) log_format: &'a str,
     pub(crate) others: Others,
     pub(crate) passive: &'a str,
     pub(crate) passive_address: Option<&'a str>,
-    pub(crate) odd: Odd,
+    pub(crate) unserved: Unserved,
     pub(crate) scope: Scope,
     pub(crate) waits: WaitWords<'a>,
     pub(crate) limits: LimitWords<'a>,
@@ -81,6 +83,7 @@ pub(crate) fn serving_by<'a>(words: ServeWords<'a>) -> Result<Serving<'a>, Usage
     };
     let passive = passive_by(words.passive)?;
     let passive_address = passive_address_by(words.passive_address)?;
+    let log_format = log_format_by(words.log_format)?;
     let Some(port) = port_of(words.port) else {
         return Err(UsageError::Number);
     };
@@ -100,12 +103,13 @@ pub(crate) fn serving_by<'a>(words: ServeWords<'a>) -> Result<Serving<'a>, Usage
         finish,
         accounts: words.accounts,
         log: words.log,
+        log_format,
         waits,
         passive,
         passive_address,
         limits,
         others: words.others,
-        odd: odd_of(words.scope, words.odd),
+        unserved: unserved_of(words.scope, words.unserved),
     })
 }
 
@@ -133,6 +137,28 @@ fn sessions_by(word: &str) -> Result<SessionCount, UsageError<'_>>
             "a number or forever is wanted",
         )),
     }
+}
+
+/// How the lines of the log are written.
+fn log_format_by(word: &str) -> Result<LogFormat, UsageError<'_>>
+    // Witness: caller: `serving_by`; `edits/each_log_is_text`.
+    ensures some { IfOk result (λ format. SaysLogFormat word.now format) }
+    ensures none { OnErr result ((format : LogFormat) → ¬ SaysLogFormat word.now format) }
+{
+    if word == "text" {
+        return Ok(LogFormat::Text);
+    }
+    if word == "json" {
+        return Ok(LogFormat::Json);
+    }
+    if word == "xferlog" {
+        return Ok(LogFormat::Xferlog);
+    }
+    Err(UsageError::of(
+        "--log-format <text|json|xferlog>",
+        word,
+        "text, json or xferlog is wanted",
+    ))
 }
 
 /// The ports of passive data connections, the first and the last.
@@ -260,11 +286,11 @@ fn most_by<'a>(option: &'a str, word: Option<&'a str>, unsaid: u64) -> Result<u6
 }
 
 /// What is done with what can't be served.
-fn odd_of(scope: Scope, odd: Odd) -> Odd
-    ensures { result ≡ odd_of scope odd }
+fn unserved_of(scope: Scope, unserved: Unserved) -> Unserved
+    ensures { result ≡ unserved_of scope unserved }
 {
     match scope {
-        Scope::Usual => odd,
-        Scope::Any => Odd::LeaveOut,
+        Scope::Usual => unserved,
+        Scope::Any => Unserved::LeaveOut,
     }
 }

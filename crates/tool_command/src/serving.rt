@@ -4,7 +4,7 @@ use crate::refusal::UsageError;
 use crate::serve_values::{LimitWords, Scope, ServeWords, WaitWords, serving_by};
 use crate::words::{MOST, Subcommand, ValueKind, Word, WordKind, chosen, text_in};
 use clap::ArgMatches;
-use tool_serve::{Input, Log, Odd, Others, Serving};
+use tool_serve::{Input, Log, Others, Serving, Unserved};
 
 /// How long something is waited for.
 const SECONDS: ValueKind<'static> = ValueKind::Number("SECONDS", 0, MOST);
@@ -82,6 +82,14 @@ const OPTIONS: &[Word<'static>] = &[
         name: "log",
         kind: WordKind::Flag,
         help: "tells on standard error what sessions do, a line each",
+    },
+    Word {
+        name: "log-format",
+        kind: WordKind::Else(
+            ValueKind::One("text|json|xferlog", &["text", "json", "xferlog"]),
+            "text",
+        ),
+        help: "how --log tells it: in words, as JSON, or transfers of files alone, as the xferlog of wu-ftpd and vsftpd",
     },
     Word {
         name: "keep",
@@ -164,10 +172,11 @@ pub fn serving_of<'a>(words: &'a ArgMatches<'_>) -> Result<Serving<'a>, UsageErr
         finish: text_in(words, "finish"),
         accounts: words.get_str("accounts"),
         log: chosen(words, "log", Log::Told, Log::Silent),
+        log_format: text_in(words, "log-format"),
         others: chosen(words, "keep", Others::Keep, Others::Change),
         passive: text_in(words, "passive-ports"),
         passive_address: words.get_str("passive-address"),
-        odd: chosen(words, "skip", Odd::LeaveOut, Odd::Refuse),
+        unserved: chosen(words, "skip", Unserved::LeaveOut, Unserved::Refuse),
         scope: chosen(words, "any", Scope::Any, Scope::Usual),
         waits: wait_words(words),
         limits: limit_words(words),
