@@ -27,6 +27,7 @@ UrlsSaid =
     × (said (parse_url None (codes "ftp://host/%2Fa")) ≡ Some ([], [], codes "host", 21, codes "/a"))
     × (said (parse_url None (codes "ftp://host")) ≡ Some ([], [], codes "host", 21, []))
     × (said (parse_url None (codes "ftp://[::1]:2121/a")) ≡ Some ([], [], codes "::1", 2121, codes "a"))
+    × (said (parse_url None (codes "ftp:///a")) ≡ Some ([], [], codes "a", 21, []))
 
 -- and such as name none
 abbrev pub UrlsRefused : Type 0
@@ -37,4 +38,3 @@ UrlsRefused =
     × (wrong (parse_url None (codes "ftp://host/a;type=i")) ≡ Some Faults.Parameter)
     × (wrong (parse_url None (codes "ftp://:p@host/a")) ≡ Some Faults.Password)
     × (wrong (parse_url None (codes "ftp://host:65536/a")) ≡ Some Faults.NoUrl)
-    × (wrong (parse_url None (codes "ftp:///a")) ≡ None)

@@ -254,7 +254,7 @@ holds_steps count place now (Gave taker ∷ later) last holds (between, earlier,
 holds_steps count place now (Ended other ∷ later) last holds (between, earlier, is) waits =
     subst (Holds count place (begun later)) (sym is) (holds_steps count place now later between holds earlier waits)
 
--- whoever is ready has its turn before as many more rounds begin as there are places
+-- before whoever is ready has its turn, at most as many rounds begin as there are places
 pub nobody_waits_for_long : NobodyWaitsForLong
 nobody_waits_for_long count earlier later now last place lt before after waits =
     let stands : Stands count place now = stands_steps count place (start count) earlier now (stands_start count place lt) before in

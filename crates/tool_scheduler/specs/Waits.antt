@@ -39,7 +39,7 @@ NobodyHasTwoTurns =
     (count : ℕ) (earlier later : List RoundAction) (last : RoundStanding) (place : ℕ)
     → Steps (start count) (Gave place ∷ (later ++ Gave place ∷ earlier)) last → 0 < begun later
 
--- whoever is ready in each round that begins has its turn before as many more begin as there are places
+-- before whoever is ready in each round that begins has its turn, at most as many rounds begin as there are places
 abbrev pub NobodyWaitsForLong : Type 0
 NobodyWaitsForLong =
     (count : ℕ) (earlier later : List RoundAction) (now last : RoundStanding) (place : ℕ) → place < count

@@ -10,8 +10,8 @@ pub fn turns_are_fair()
     ensures start { FairFromTheStart }
 {}
 
-/// In each round one session of each address that is ready has a turn, and none has two; and whoever is ready has its turn before as many more rounds begin as
-/// there are places.
+/// In each round one session of each address that is ready has a turn, and none has two. Before a session that stays ready has its turn, at most as many rounds
+/// begin as there are places.
 pub fn rounds_are_fair()
     // Witness: the same.
     ensures address { EachAddressHasATurn }

@@ -195,8 +195,8 @@ where
 }
 
 /// Begins an operation, and lets both ends take turns over their connections, the server first, until the client has its answer: in each turn an end
-/// reads at most `most` of the octets that came over the control connection. None where a drive broke off or the server's was over, where nothing moved any
-/// more, or where the client was busy.
+/// reads at most `most` of the octets that came over the control connection. None where the client was busy, where a turn was the last one (`Stop`), where
+/// nothing lay in the control connection before each of the last eight rounds, or where all rounds were made.
 pub fn ask<A, T, N, F, C, O>(
     op: Op<Text<A>>,
     client: &mut Slot<N>,

@@ -29,7 +29,7 @@ pub(crate) enum Stop {
     Done,
     /// It could not begin: an end and its ports did not agree on who had the data connection, or one was called who had one.
     Unmet,
-    /// After it the ports did not know of the data connection what they are to know: memory was refused to their notes.
+    /// After it the ports did not know where the data connection is: the end gave back one that was not its own, or it and its ports do not agree who has it.
     Unknown,
 }
 

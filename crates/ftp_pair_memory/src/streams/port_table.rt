@@ -80,7 +80,7 @@ pub struct PortTable {
     pub(crate) listens: u16,
     /// The host at the other end.
     pub(crate) host: Host,
-    /// Whether no turn was begun, or one was given back that was not to be.
+    /// Whether nothing is known of it: no turn was begun, or in this one the end gave back a data connection that was not its own.
     pub(crate) spoiled: bool,
     pub(crate) alloc: Global,
     /// How the turn found it, and what was asked since: only proofs read them.

@@ -5,4 +5,4 @@ use Rattle.tool_location.proofs.rows.refused_urls.Goals as goal
 
 pub returns : goal.returns
 unfolding url_on_literals percent_encoding_on_literals
-returns c = (refl, refl, refl, refl, refl, refl, refl)
+returns c = (refl, refl, refl, refl, refl, refl)
